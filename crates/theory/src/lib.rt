@@ -1,0 +1,1 @@
+// The theorems about the definitions stand in specs/; there is no code here.

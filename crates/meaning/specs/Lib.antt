@@ -1,1 +1,8 @@
 pub mod Sets
+pub mod Limits
+pub mod Task
+pub mod Feature
+pub mod Pair
+pub mod Slot
+pub mod Weight
+pub mod Grid

@@ -1,0 +1,56 @@
+-- Every limit of document 01, each under one name.
+use Prim.Native.Nat.{ℕ, _^_}
+
+-- "v 1 to 64"
+abbrev pub leastVariables : ℕ
+leastVariables = 1
+
+abbrev pub mostVariables : ℕ
+mostVariables = 64
+
+-- "d 1 to 64"
+abbrev pub leastSize : ℕ
+leastSize = 1
+
+abbrev pub mostSize : ℕ
+mostSize = 64
+
+-- "N at most 4,096"
+abbrev pub mostFeatures : ℕ
+mostFeatures = 4096
+
+-- "in groups of seven bits": how many values a group has, and the least byte that says that one group follows.
+abbrev pub group : ℕ
+group = 128
+
+-- "two bytes at most"
+abbrev pub mostGroups : ℕ
+mostGroups = 2
+
+-- The first number that these groups cannot hold: "a number is 0 to 16,383".
+abbrev pub numberEnd : ℕ
+numberEnd = group ^ mostGroups
+
+-- "A lent slice of 64-bit words."
+abbrev pub wordBits : ℕ
+wordBits = 64
+
+-- "Rows and columns are each 1 to 9; rows times columns, n, is 2 to 9"
+abbrev pub leastSide : ℕ
+leastSide = 1
+
+abbrev pub mostSide : ℕ
+mostSide = 9
+
+abbrev pub leastSlots : ℕ
+leastSlots = 2
+
+abbrev pub mostSlots : ℕ
+mostSlots = 9
+
+-- The finder program: "more than 8,192 bytes give 8 before anything is judged; more than 640 features give 8 after 7".
+abbrev pub mostInput : ℕ
+mostInput = 8192
+
+abbrev pub mostProgramFeatures : ℕ
+mostProgramFeatures = 640

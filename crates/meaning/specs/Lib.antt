@@ -6,3 +6,9 @@ pub mod Pair
 pub mod Slot
 pub mod Weight
 pub mod Grid
+pub mod Number
+pub mod File
+pub mod Workspace
+pub mod Answer
+pub mod Bay
+pub mod Line

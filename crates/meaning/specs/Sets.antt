@@ -14,7 +14,7 @@ false ⊕ b = b
 abbrev pub Set : Type 0
 Set = ℕ → Bool
 
--- A number for each slot: the set that it holds.
+-- For each slot number, the set that the slot holds.
 abbrev pub Slots : Type 0
 Slots = ℕ → Set
 

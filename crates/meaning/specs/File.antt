@@ -1,0 +1,164 @@
+-- Task files and weight files: what is judged, in which order, with which outcome; and the bytes of a task and of a weight list.
+use Prim.Native.Nat.{ℕ, zero, suc, _<_, _≤_}
+use mathlib.Core.Path.{_≡_}
+use mathlib.Core.Bool.{Bool, true, false, _&&_, cond}
+use mathlib.Core.List.{List, [], _∷_, _++_, List·Memᴰ as In}
+use lib.ListN.{length}
+use lib.Dec.{leb, ltb}
+use Rattle.meaning.specs.Sets.{listed, allOf}
+use Rattle.meaning.specs.Limits.{leastVariables, mostVariables, leastSize, mostSize, mostFeatures, numberEnd}
+use Rattle.meaning.specs.Task.{Entry, Operator, Task, State, IsOperator, Run, size}
+use Rattle.meaning.specs.Feature.{atoms, features}
+use Rattle.meaning.specs.Pair.{closed, holds}
+use Rattle.meaning.specs.Number.{Reason, Limit, Range, Unordered, LeftOver, Held, Unclosed, Read, got, fault, onRead, number, numberBytes}
+
+-- ---- reading in turn: "Numbers are judged as read", and the first fault decides
+
+abbrev pub Parser : Type 0 → Type 0
+Parser A = List ℕ → ℕ → Read A
+
+abbrev pub give : {A : Type 0} → A → Parser A
+give a bytes place = got a place
+
+abbrev pub then : {A B : Type 0} → Parser A → (A → Parser B) → Parser B
+then first rest bytes place = onRead (first bytes place) (λ a next. rest a bytes next)
+
+-- From `low` on and below `high`.
+abbrev pub inside : ℕ → ℕ → ℕ → Bool
+inside low high n = leb low n && ltb n high
+
+-- A number that has to pass a test.
+unfoldable pub item : (ℕ → Bool) → Reason → Parser ℕ
+item test reason bytes place = onRead (number bytes place) (λ n next. cond (test n) (got n next) (fault reason place))
+
+-- A test of what has been read so far.
+unfoldable pub judge : Bool → Reason → Parser (Unit {0})
+judge true reason bytes place = got tt place
+judge false reason bytes place = fault reason place
+
+-- A number in its range that is `least` or more: range before order.
+unfoldable pub rising : ℕ → ℕ → ℕ → Parser ℕ
+rising low high least bytes place =
+    onRead (item (inside low high) Range bytes place) (λ n next. cond (leb least n) (got n next) (fault Unordered place))
+
+-- "Nothing follows."
+unfoldable pub ended : Parser (Unit {0})
+ended bytes place = judge (leb (length bytes) place) LeftOver bytes place
+
+-- ---- the parts of a task file
+
+-- "v; sizes", each within its limit.
+unfoldable pub sizesOf : ℕ → Parser (List ℕ)
+sizesOf zero = give []
+sizesOf (suc k) = then (item (inside leastSize (suc mostSize)) Limit) (λ d. then (sizesOf k) (λ ds. give (d ∷ ds)))
+
+-- "N is judged after the last size."
+unfoldable pub header : Parser (List ℕ)
+header =
+    then (item (inside leastVariables (suc mostVariables)) Limit)
+    (λ v. then (sizesOf v) (λ sizes. then (judge (leb (features sizes) mostFeatures) Limit) (λ _. give sizes)))
+
+-- "start; goal": a value for each variable.
+unfoldable pub valuesOf : List ℕ → Parser (List ℕ)
+valuesOf [] = give []
+valuesOf (d ∷ ds) = then (item (inside 0 d) Range) (λ x. then (valuesOf ds) (λ xs. give (x ∷ xs)))
+
+-- So many features in a range, "strictly increasing".
+unfoldable pub featuresOf : ℕ → ℕ → ℕ → ℕ → Parser (List ℕ)
+featuresOf zero low high least = give []
+featuresOf (suc k) low high least =
+    then (rising low high least) (λ f. then (featuresOf k low high (suc f)) (λ fs. give (f ∷ fs)))
+
+-- "count and features": the pairs of a task, and a weight list.
+unfoldable pub featureList : ℕ → ℕ → Parser (List ℕ)
+featureList low high = then number (λ k. featuresOf k low high 0)
+
+-- So many triples, their variables increasing.
+unfoldable pub entriesOf : List ℕ → ℕ → ℕ → Parser Operator
+entriesOf sizes zero least = give []
+entriesOf sizes (suc k) least =
+    then (rising 0 (length sizes) least)
+    (λ i. then (item (inside 0 (size sizes i)) Range)
+    (λ x. then (item (inside 0 (size sizes i)) Range)
+    (λ y. then (entriesOf sizes k (suc i)) (λ es. give (record { variable = i; before = x; after = y } ∷ es)))))
+
+-- "each operator as entry count and then its triples"; the entry count is 1 to v.
+unfoldable pub operatorOf : List ℕ → Parser Operator
+operatorOf sizes = then (item (inside 1 (suc (length sizes))) Range) (λ k. entriesOf sizes k 0)
+
+unfoldable pub operatorsOf : List ℕ → ℕ → Parser (List Operator)
+operatorsOf sizes zero = give []
+operatorsOf sizes (suc k) = then (operatorOf sizes) (λ o. then (operatorsOf sizes k) (λ os. give (o ∷ os)))
+
+-- "A task file: v; sizes; start; goal; pair count and pair features, strictly increasing; operator count; each operator as entry count and
+-- then its triples. .. Nothing follows."
+unfoldable pub taskOf : Parser Task
+taskOf =
+    then header
+    (λ sizes. then (valuesOf sizes)
+    (λ start. then (valuesOf sizes)
+    (λ goal. then (featureList (atoms sizes) (features sizes))
+    (λ pairs. then number
+    (λ k. then (operatorsOf sizes k)
+    (λ operators. then ended
+    (λ _. give (record { sizes = sizes; start = start; goal = goal; pairs = pairs; operators = operators }))))))))
+
+-- "Then come 5, 6, 7 by operator": a start that holds a pair, an operator under which the pairs are not closed. Neither has a place.
+unfoldable pub judgedTask : List ℕ → Read Task
+judgedTask bytes =
+    onRead (taskOf bytes 0)
+    (λ T next. cond (holds (T .sizes) (listed (T .pairs)) (T .start))
+    (fault Held 0)
+    (cond (allOf (closed (T .sizes) (listed (T .pairs))) (T .operators)) (got T next) (fault Unclosed 0)))
+
+-- "A weight file: count and features, strictly increasing. Nothing follows." The features of a task with n features.
+unfoldable pub judgedWeights : ℕ → List ℕ → Read (List ℕ)
+judgedWeights n bytes = then (featureList 0 n) (λ weights. then ended (λ _. give weights)) bytes 0
+
+-- ---- tasks that can be accepted, and their bytes
+
+-- "Limits: v 1 to 64; d 1 to 64; N at most 4,096."
+pub record InLimits (sizes : List ℕ) : Type 0 where
+  pub variables : (leastVariables ≤ length sizes) × (length sizes ≤ mostVariables)
+  pub each : (i : ℕ) → i < length sizes → (leastSize ≤ size sizes i) × (size sizes i ≤ mostSize)
+  pub total : features sizes ≤ mostFeatures
+
+-- A task that keeps every rule of document 01.
+pub record Acceptable (T : Task) : Type 0 where
+  pub limits : InLimits (T .sizes)
+  pub start : State (T .sizes) (T .start)
+  pub goal : State (T .sizes) (T .goal)
+  pub pairs : Run (atoms (T .sizes)) (T .pairs) (features (T .sizes))
+  pub operators : (o : Operator) → In o (T .operators) → IsOperator (T .sizes) o
+  pub free : holds (T .sizes) (listed (T .pairs)) (T .start) ≡ false
+  pub closed-under : (o : Operator) → In o (T .operators) → closed (T .sizes) (listed (T .pairs)) o ≡ true
+
+-- "provided such a task can be written": its operators can be counted by a number of a file.
+pub record Writable (T : Task) : Type 0 where
+  pub acceptable : Acceptable T
+  pub countable : length (T .operators) < numberEnd
+
+-- The bytes of several things, one after another.
+unfoldable pub bytesOf : {A : Type 0} → (A → List ℕ) → List A → List ℕ
+bytesOf write [] = []
+bytesOf write (a ∷ l) = write a ++ bytesOf write l
+
+-- A list with its count in front.
+unfoldable pub counted : {A : Type 0} → (A → List ℕ) → List A → List ℕ
+counted write l = numberBytes (length l) ++ bytesOf write l
+
+unfoldable pub entryBytes : Entry → List ℕ
+entryBytes e = numberBytes (e .variable) ++ (numberBytes (e .before) ++ numberBytes (e .after))
+
+unfoldable pub operatorBytes : Operator → List ℕ
+operatorBytes o = counted entryBytes o
+
+-- A count and features: the pairs of a task, and a whole weight file.
+unfoldable pub weightBytes : List ℕ → List ℕ
+weightBytes weights = counted numberBytes weights
+
+unfoldable pub taskBytes : Task → List ℕ
+taskBytes T =
+    counted numberBytes (T .sizes)
+    ++ (bytesOf numberBytes (T .start)
+    ++ (bytesOf numberBytes (T .goal) ++ (weightBytes (T .pairs) ++ counted operatorBytes (T .operators))))

@@ -1,0 +1,63 @@
+-- The finder as a program: what it says of a task file, and the line that it prints.
+use Prim.Native.Nat.{ℕ, zero, suc, _+_, _/_, _%_}
+use mathlib.Core.Path.{_≡_}
+use mathlib.Core.Bool.{Bool, false, _||_, cond}
+use mathlib.Core.List.{List, [], _∷_, _++_}
+use lib.ListN.{length}
+use lib.Dec.{ltb}
+use Rattle.meaning.specs.Sets.{Set, listed}
+use Rattle.meaning.specs.Limits.{mostInput, mostProgramFeatures}
+use Rattle.meaning.specs.Task.{Task, Run}
+use Rattle.meaning.specs.Feature.{features}
+use Rattle.meaning.specs.Weight.{Separates, LeastOf}
+use Rattle.meaning.specs.Number.{Small, refusal, Read, got, fault}
+use Rattle.meaning.specs.File.{judgedTask}
+use Rattle.meaning.specs.Answer.{Answer, done, refused, byRead}
+
+-- The least separating set as a list of features; or none.
+pub data Found : Type 0 where
+  nothing : Found
+  separating : List ℕ → Found
+
+-- What is to be found for an accepted task: "The finder's answer is the least separating set."
+abbrev pub Seeks : Task → Found → Type 0
+Seeks T nothing = (other : Set) → Separates T other → ⊥
+Seeks T (separating fs) = Run 0 fs (features (T .sizes)) × LeastOf (features (T .sizes)) (Separates T) (listed fs)
+
+-- The finder's answer for a task file.
+abbrev pub Says : List ℕ → Answer Found → Type 0
+Says task answer =
+    byRead (judgedTask task)
+    (λ T. (found : Found) × (answer ≡ done found) × Seeks T found)
+    (λ reason. answer ≡ refused (refusal reason))
+
+abbrev pub tooLarge : Read Task → Bool
+tooLarge (got T next) = ltb mostProgramFeatures (features (T .sizes))
+tooLarge (fault reason place) = false
+
+-- The program's answer: "More than 8,192 bytes give 8 before anything is judged; more than 640 features give 8 after 7."
+abbrev pub Prints : List ℕ → Answer Found → Type 0
+Prints input answer =
+    cond (ltb mostInput (length input) || tooLarge (judgedTask input)) (answer ≡ refused (refusal Small)) (Says input answer)
+
+-- Five decimal digits hold every number of a file.
+abbrev pub mostDigits : ℕ
+mostDigits = 5
+
+unfoldable pub digits : ℕ → ℕ → List ℕ
+digits zero n = []
+digits (suc k) n = cond (ltb n 10) ((48 + n) ∷ []) (digits k (n / 10) ++ ((48 + n % 10) ∷ []))
+
+-- A blank and a number in decimal.
+unfoldable pub word : ℕ → List ℕ
+word n = 32 ∷ digits mostDigits n
+
+unfoldable pub wordsIn : List ℕ → List ℕ
+wordsIn [] = []
+wordsIn (n ∷ ns) = word n ++ wordsIn ns
+
+-- "It prints one line: `separated`, the count and the features, increasing; or `none`; or `refused` and the number."
+unfoldable pub line : Answer Found → List ℕ
+line (done (separating fs)) = (115 ∷ 101 ∷ 112 ∷ 97 ∷ 114 ∷ 97 ∷ 116 ∷ 101 ∷ 100 ∷ []) ++ (wordsIn (length fs ∷ fs) ++ (10 ∷ []))
+line (done nothing) = 110 ∷ 111 ∷ 110 ∷ 101 ∷ 10 ∷ []
+line (refused n) = (114 ∷ 101 ∷ 102 ∷ 117 ∷ 115 ∷ 101 ∷ 100 ∷ []) ++ (word n ++ (10 ∷ []))

@@ -1,0 +1,73 @@
+-- Reasons for a refusal and their numbers; reading a list of bytes at a place; numbers in a file.
+use Prim.Native.Nat.{ℕ, zero, suc, _+_, _*_, _/_, _%_}
+use mathlib.Core.Bool.{Bool, cond}
+use mathlib.Core.List.{List, [], _∷_}
+use lib.ListN.{length, getD}
+use lib.Dec.{eqb, ltb}
+use Rattle.meaning.specs.Limits.{group, mostGroups}
+
+-- Why a call refuses. The first three are told apart here, and share the paper's number 1.
+pub data Reason : Type 0 where
+  Ends Padded Endless Limit Range Unordered LeftOver Held Unclosed Small Malformed Mislabelled : Reason
+
+-- The paper's number for a reason.
+abbrev pub refusal : Reason → ℕ
+-- "input ends inside what is due"
+refusal Ends = 1
+-- "or a number is badly formed": not in shortest form
+refusal Padded = 1
+-- or its last byte that is allowed says that more follows
+refusal Endless = 1
+-- "v, a size, N, or a bay dimension breaks its limit"
+refusal Limit = 2
+-- "a value, variable, entry count, feature or label is outside its range, or a list of new values hasn't length v"
+refusal Range = 3
+-- "entries, pairs or weights don't increase"
+refusal Unordered = 4
+-- "bytes are left over"
+refusal LeftOver = 5
+-- "the start holds a listed pair"
+refusal Held = 6
+-- "the pairs aren't closed under an operator"
+refusal Unclosed = 7
+-- "lent room is too small"
+refusal Small = 8
+-- "a workspace isn't well formed"
+refusal Malformed = 9
+-- "a bay list misses or repeats a label"
+refusal Mislabelled = 10
+
+-- What stands at a place: a value and the place after it; or the first fault, with the place of the first byte of the number at fault.
+pub data Read (A : Type 0) : Type 0 where
+  got : A → ℕ → Read A
+  fault : Reason → ℕ → Read A
+
+-- Goes on with what was read; the first fault decides.
+abbrev pub onRead : {A B : Type 0} → Read A → (A → ℕ → Read B) → Read B
+onRead (got a next) rest = rest a next
+onRead (fault reason place) rest = fault reason place
+
+-- At most k groups from a place on, of the number that begins at `first`: "low group first; a byte of 128 or more says that one group
+-- follows. Shortest form only": the groups that follow are not 0.
+unfoldable pub groups : ℕ → ℕ → List ℕ → ℕ → Read ℕ
+groups zero first bytes place = fault Endless first
+groups (suc k) first bytes place =
+    cond (ltb place (length bytes))
+    (cond (ltb (getD bytes place 0) group)
+    (got (getD bytes place 0) (place + 1))
+    (onRead (groups k first bytes (place + 1))
+    (λ high next. cond (eqb high 0) (fault Padded first) (got (getD bytes place 0 % group + group * high) next))))
+    (fault Ends first)
+
+-- The number at a place: "two bytes at most".
+unfoldable pub number : List ℕ → ℕ → Read ℕ
+number bytes place = groups mostGroups place bytes place
+
+-- The bytes of a number in at most k groups.
+unfoldable pub groupBytes : ℕ → ℕ → List ℕ
+groupBytes zero n = []
+groupBytes (suc k) n = cond (ltb n group) (n ∷ []) ((group + n % group) ∷ groupBytes k (n / group))
+
+-- The bytes of a number.
+unfoldable pub numberBytes : ℕ → List ℕ
+numberBytes n = groupBytes mostGroups n

@@ -1,1 +1,9 @@
 pub mod Truth
+pub mod Search
+pub mod Flat
+pub mod Run
+pub mod Tells
+pub mod Parity
+pub mod Slots
+pub mod Reduce
+pub mod SlotsOf

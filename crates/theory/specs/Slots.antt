@@ -1,0 +1,97 @@
+-- Reduced families of slots: the witness of a free index, and what a set that is met evenly by all stored weights must look like.
+use Prim.Native.Nat.{ℕ, zero, suc, _<_, _≤_}
+use mathlib.Core.Path.{_≡_, refl, ap, sym, _∙_}
+use mathlib.Core.Logic.{_≢_}
+use mathlib.Core.Bool.{Bool, true, false, _&&_, cond, and-false}
+use native.Mathlib.Omega.{arith}
+use lib.Dec.{eqb, ltb}
+use borrow.Author.Tests.{eqb-true, eqb-false, lt-ltb, le-ltb}
+use Rattle.meaning.specs.Sets.{_⊕_, Set, Slots, odd, shared}
+use Rattle.theory.specs.Truth.{Test, on, off, test, less, same, more, order, clash, xor-self, xor-false, xor-false-same}
+use Rattle.theory.specs.Parity.{par, dot, par-one, par-none, dot-comm, dot-one, dot-none, dot-xor, xor-dot, even-dot, dot-even}
+use Rattle.meaning.specs.Slot.{LeastMember, Reduced, Forced, SlotsOf, Stored}
+
+-- ---- the least member
+
+-- A set below n: nothing is there, or there is a least member.
+pub data Least (n : ℕ) (a : Set) : Type 0 where
+  nothing : ((f : ℕ) → f < n → a f ≡ false) → Least n a
+  found : (m : ℕ) → m < n → LeastMember m a → Least n a
+
+pub least : (n : ℕ) (a : Set) → Least n a
+least zero a = nothing (λ f l. absurd (omega arith))
+least (suc n) a = go (least n a) (test (a n))
+  where
+    go : Least n a → Test (a n) → Least (suc n) a
+    go (found m l k) t = found m (omega arith) k
+    go (nothing h) (on e) = found n (omega arith) (record { member = e; first = h })
+    go (nothing h) (off e) = nothing (λ f l. elim (order f n) [ less k ↦ h f k | same q ↦ rw q e | more k ↦ absurd (omega arith) ])
+
+pub least-only : (i j : ℕ) (a : Set) → LeastMember i a → LeastMember j a → i ≡ j
+least-only i j a k k' = elim (order i j)
+    [ less l ↦ absurd (clash (k .member) (k' .first i l)) | same e ↦ e | more l ↦ absurd (clash (k' .member) (k .first j l)) ]
+
+-- The least member below n as a number to compute with; n itself where there is none.
+unfoldable pub lead : ℕ → Set → ℕ
+lead zero a = 0
+lead (suc n) a = cond (ltb (lead n a) n) (lead n a) (cond (a n) n (suc n))
+
+pub lead-none : (n : ℕ) (a : Set) → ((f : ℕ) → f < n → a f ≡ false) → lead n a ≡ n
+unfolding lead
+lead-none zero a h = refl
+lead-none (suc n) a h = rw (lead-none n a (λ f l. h f (omega arith)), le-ltb n n (omega arith), h n (omega arith))
+
+pub lead-least : (n m : ℕ) (a : Set) → m < n → LeastMember m a → lead n a ≡ m
+unfolding lead
+lead-least zero m a l k = absurd (omega arith)
+lead-least (suc n) m a l k = elim (order m n) [
+  | less j ↦ rw (lead-least n m a j k, lt-ltb m n j)
+  | same q ↦ rw (lead-none n a (λ f j. k .first f (omega arith)), le-ltb n n (omega arith), rw q at (k .member)) (sym q)
+  | more j ↦ absurd (omega arith)
+]
+
+-- ---- stored weights and forced sets, by sums
+
+pub stored-dot : (n : ℕ) (S : Slots) (w : Set) → Stored n S w → (i : ℕ) → i < n → dot n w (S i) ≡ false
+stored-dot n S w h i l = even-dot n w (S i) (h i l)
+
+pub dot-stored : (n : ℕ) (S : Slots) (w : Set) → ((i : ℕ) → i < n → dot n w (S i) ≡ false) → Stored n S w
+dot-stored n S w h i l = dot-even n w (S i) (h i l)
+
+pub forced-xor : (n : ℕ) (Meets : Set → Type 0) (a b : Set) → Forced n Meets a → Forced n Meets b → Forced n Meets (λ f. a f ⊕ b f)
+forced-xor n Meets a b h k w m = dot-even n w _ (rw (dot-xor n w a b, even-dot n w a (h w m), even-dot n w b (k w m)))
+
+-- ---- the witness of a free index
+
+-- The index itself and every slot that has it as a member.
+unfoldable pub wit : Slots → ℕ → Set
+wit S m p = eqb p m ⊕ S p m
+
+pub wit-dot : (n : ℕ) (S : Slots) (m : ℕ) (g : Set) → m < n → dot n (wit S m) g ≡ g m ⊕ par n (λ p. S p m && g p)
+unfolding wit dot
+wit-dot n S m g l = xor-dot n (λ p. eqb p m) (λ p. S p m) g ∙ rw (dot-comm n (λ p. eqb p m) g, dot-one n m g l)
+
+-- A set with no member among the slots that have the free index.
+pub wit-at : (n : ℕ) (S : Slots) (m : ℕ) (g : Set) → m < n → ((p : ℕ) → S p m ≡ true → g p ≡ false) → dot n (wit S m) g ≡ g m
+wit-at n S m g l h = wit-dot n S m g l ∙ rw (par-none n (λ p. S p m && g p) (λ p k. rest p)) (xor-false (g m))
+  where
+    rest : (p : ℕ) → (S p m && g p) ≡ false
+    rest p = elim (test (S p m)) [ on e ↦ rw e (h p e) | off e ↦ rw e ]
+
+module _ {n : ℕ} {S : Slots} (R : Reduced n S) where
+  pub wit-in : (m : ℕ) → m < n → S m m ≡ false → Stored n S (wit S m)
+  wit-in m l free = dot-stored n S (wit S m) (λ i k. wit-dot n S m (S i) l ∙ rw (par-one n i (λ p. S p m && S i p) k (λ p j d. others i p d)) (own i))
+    where
+      others : (i p : ℕ) → p ≢ i → (S p m && S i p) ≡ false
+      others i p d = elim (test (S p m)) [ on e ↦ rw e (R .clear i p (R .full p m e) d) | off e ↦ rw e ]
+
+      own : (i : ℕ) → S i m ⊕ (S i m && S i i) ≡ false
+      own i = elim (test (S i m)) [ on e ↦ rw (e, R .full i m e) | off e ↦ rw e ]
+
+  -- Where a slot is empty no forced set has its index as least member.
+  pub empty-none : (i : ℕ) (g : Set) → i < n → S i i ≡ false → Forced n (Stored n S) g → LeastMember i g → ⊥
+  empty-none i g l free h k = clash (k .member) (sym (wit-at n S i g l outside) ∙ even-dot n _ g (h (wit S i) (wit-in i l free)))
+    where
+      outside : (p : ℕ) → S p i ≡ true → g p ≡ false
+      outside p e = elim (order p i)
+          [ less d ↦ k .first p d | same q ↦ absurd (clash e (rw q free)) | more d ↦ absurd (clash e (R .low p i d)) ]

@@ -12,3 +12,4 @@ pub mod Workspace
 pub mod Answer
 pub mod Bay
 pub mod Line
+pub mod History

@@ -7,3 +7,7 @@ pub mod Parity
 pub mod Slots
 pub mod Reduce
 pub mod SlotsOf
+pub mod Whole
+pub mod Insert
+pub mod Group
+pub mod Splits

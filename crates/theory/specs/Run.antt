@@ -69,11 +69,9 @@ unfolding Run
 run-in lo hi l f r (here {x} {xs} q) = omega (arith, run-length (suc x) hi xs (r .1))
 run-in lo hi l f r (there {x} {xs} m) = omega (arith, run-in (suc x) hi xs f (r .1) m)
 
-pub run-below : (lo hi : ℕ) (l : List ℕ) (f : ℕ) → Run lo l hi → f < lo → listed l f ≡ false
-run-below lo hi l f r h = elim (test (listed l f)) [ on e ↦ absurd (omega (arith, run-in lo hi l f r (listed-in l f e))) | off e ↦ e ]
-
-pub run-past : (lo hi : ℕ) (l : List ℕ) (f : ℕ) → Run lo l hi → hi ≤ f → listed l f ≡ false
-run-past lo hi l f r h = elim (test (listed l f)) [ on e ↦ absurd (omega (arith, run-in lo hi l f r (listed-in l f e))) | off e ↦ e ]
+-- A number outside the bounds is not in the run.
+pub run-outside : (lo hi : ℕ) (l : List ℕ) (f : ℕ) → Run lo l hi → (lo ≤ f → f < hi → ⊥) → listed l f ≡ false
+run-outside lo hi l f r d = elim (test (listed l f)) [ on e ↦ let h = run-in lo hi l f r (listed-in l f e) in absurd (d (h .0) (h .1)) | off e ↦ e ]
 
 -- ---- a run and the set of its members
 
@@ -105,7 +103,7 @@ run-same lo hi lo' hi' (x ∷ l) (y ∷ m) r s h = ap₂ _∷_ heads (run-same (
     ]
 
     tails : (f : ℕ) → Test (eqb f x) → listed l f ≡ listed m f
-    tails f (on e) = run-below (suc x) hi l f rest (omega (arith, eqb-true f x e)) ∙ sym (run-below (suc y) hi' m f rest' (omega (arith, eqb-true f x e, heads)))
+    tails f (on e) = run-outside (suc x) hi l f rest (λ j k. omega (arith, eqb-true f x e)) ∙ sym (run-outside (suc y) hi' m f rest' (λ j k. omega (arith, eqb-true f x e, heads)))
     tails f (off e) = sym (listed-rest x l f e) ∙ h f ∙ listed-rest y m f (rw (← heads) e)
 
 -- The numbers below n of a set, in increasing order.
@@ -131,5 +129,5 @@ listed-members n a f = true-together (listed (members n a) f) (ltb f n && a f) t
 pub members-listed : (lo n : ℕ) (l : List ℕ) → Run lo l n → members n (listed l) ≡ l
 members-listed lo n l r = run-same 0 n lo n _ l (run-members n (listed l)) r (λ f. listed-members n (listed l) f ∙ elim (test (ltb f n)) [
   | on e ↦ rw e refl
-  | off e ↦ rw e (sym (run-past lo n l f r (ltb-false f n e)))
+  | off e ↦ rw e (sym (run-outside lo n l f r (λ j k. omega (arith, ltb-false f n e))))
 ])

@@ -2,7 +2,7 @@
 use Prim.Native.Nat.{ℕ, zero, suc, _<_}
 use mathlib.Core.Path.{_≡_, refl, sym, ap, ap₂, _∙_}
 use mathlib.Core.Logic.{_⊎_, inl, inr}
-use mathlib.Core.Bool.{Bool, true, false, not, _&&_, _||_, true≢false, and-assoc, or-assoc}
+use mathlib.Core.Bool.{Bool, true, false, not, _&&_, _||_, true≢false, and-eq-true-iff, and-assoc, or-assoc}
 use mathlib.Core.List.{List, [], _∷_, _++_, List·Memᴰ as In, List·Memᴰ·head as here, List·Memᴰ·tail as there, List·Memᴰ·not-nil as not-nil, List·Memᴰ·cases-cons as cases-cons, Memᴰ·cast as cast}
 use native.Mathlib.Omega.{arith}
 use lib.Dec.{eqb}
@@ -13,15 +13,13 @@ use Rattle.theory.specs.Truth.{Test, on, off, test, less, same, more, or
 -- ---- both, and at least one
 
 pub and-left : (a b : Bool) → (a && b) ≡ true → a ≡ true
-and-left true b e = refl
-and-left false b e = e
+and-left a b e = and-eq-true-iff a b .0 e .0
 
 pub and-right : (a b : Bool) → (a && b) ≡ true → b ≡ true
-and-right true b e = e
-and-right false b e = absurd (true≢false (sym e))
+and-right a b e = and-eq-true-iff a b .0 e .1
 
 pub and-both : (a b : Bool) → a ≡ true → b ≡ true → (a && b) ≡ true
-and-both a b e f = cc
+and-both a b e f = and-eq-true-iff a b .1 (e, f)
 
 -- One of two truth values is false if not both are true.
 pub and-either : (a b : Bool) → (a && b) ≡ false → (a ≡ false) ⊎ (b ≡ false)

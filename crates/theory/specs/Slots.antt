@@ -5,13 +5,17 @@ use mathlib.Core.Logic.{_≢_}
 use mathlib.Core.Bool.{Bool, true, false, _&&_, cond, and-false}
 use native.Mathlib.Omega.{arith}
 use lib.Dec.{eqb, ltb}
-use borrow.Author.Tests.{eqb-true, eqb-false, lt-ltb, le-ltb}
+use borrow.Author.Tests.{eqb-true, eqb-false, lt-ltb, le-ltb, ne-eqb}
 use Rattle.meaning.specs.Sets.{_⊕_, Set, Slots, odd, shared}
 use Rattle.theory.specs.Truth.{Test, on, off, test, less, same, more, order, clash, xor-self, xor-false, xor-false-same}
 use Rattle.theory.specs.Parity.{par, dot, par-one, par-none, dot-comm, dot-one, dot-none, dot-xor, xor-dot, even-dot, dot-even}
 use Rattle.meaning.specs.Slot.{LeastMember, Reduced, Forced, SlotsOf, Stored}
 
 -- ---- the least member
+
+-- What holds below n and at n holds below the next.
+pub below-suc : (n : ℕ) (P : ℕ → Type 0) → ((f : ℕ) → f < n → P f) → P n → (f : ℕ) → f < suc n → P f
+below-suc n P h last f l = elim (order f n) [ less k ↦ h f k | same q ↦ rw q last | more k ↦ absurd (omega arith) ]
 
 -- A set below n: nothing is there, or there is a least member.
 pub data Least (n : ℕ) (a : Set) : Type 0 where
@@ -25,7 +29,7 @@ least (suc n) a = go (least n a) (test (a n))
     go : Least n a → Test (a n) → Least (suc n) a
     go (found m l k) t = found m (omega arith) k
     go (nothing h) (on e) = found n (omega arith) (record { member = e; first = h })
-    go (nothing h) (off e) = nothing (λ f l. elim (order f n) [ less k ↦ h f k | same q ↦ rw q e | more k ↦ absurd (omega arith) ])
+    go (nothing h) (off e) = nothing (below-suc n (λ f. a f ≡ false) h e)
 
 pub least-only : (i j : ℕ) (a : Set) → LeastMember i a → LeastMember j a → i ≡ j
 least-only i j a k k' = elim (order i j)
@@ -79,6 +83,15 @@ wit-at n S m g l h = wit-dot n S m g l ∙ rw (par-none n (λ p. S p m && g p) (
     rest p = elim (test (S p m)) [ on e ↦ rw e (h p e) | off e ↦ rw e ]
 
 module _ {n : ℕ} {S : Slots} (R : Reduced n S) where
+  pub slot-none : (i : ℕ) → S i i ≡ false → (f : ℕ) → S i f ≡ false
+  slot-none i free f = elim (test (S i f)) [ on e ↦ absurd (clash (R .full i f e) free) | off e ↦ e ]
+
+  pub slot-low : (i f : ℕ) → S i f ≡ true → i ≤ f
+  slot-low i f e = elim (order f i) [ less l ↦ absurd (clash e (R .low i f l)) | same q ↦ omega arith | more l ↦ omega arith ]
+
+  pub slot-past : (i f : ℕ) → n ≤ f → S i f ≡ false
+  slot-past i f l = elim (test (S i f)) [ on e ↦ absurd (omega (arith, R .within i f e)) | off e ↦ e ]
+
   pub wit-in : (m : ℕ) → m < n → S m m ≡ false → Stored n S (wit S m)
   wit-in m l free = dot-stored n S (wit S m) (λ i k. wit-dot n S m (S i) l ∙ rw (par-one n i (λ p. S p m && S i p) k (λ p j d. others i p d)) (own i))
     where
@@ -87,6 +100,11 @@ module _ {n : ℕ} {S : Slots} (R : Reduced n S) where
 
       own : (i : ℕ) → S i m ⊕ (S i m && S i i) ≡ false
       own i = elim (test (S i m)) [ on e ↦ rw (e, R .full i m e) | off e ↦ rw e ]
+
+  -- A witness has its index and lower numbers only.
+  pub wit-past : (m f : ℕ) → m < f → wit S m f ≡ false
+  unfolding wit
+  wit-past m f l = rw (ne-eqb f m (omega arith), R .low f m l)
 
   -- Where a slot is empty no forced set has its index as least member.
   pub empty-none : (i : ℕ) (g : Set) → i < n → S i i ≡ false → Forced n (Stored n S) g → LeastMember i g → ⊥

@@ -10,18 +10,12 @@ use Rattle.meaning.specs.Sets.{_⊕_, Set, Slots}
 use Rattle.theory.specs.Truth.{on, off, test, clash, xor-self, xor-false-same}
 use Rattle.theory.specs.Parity.{dot, dot-none, dot-even, even-dot}
 use Rattle.meaning.specs.Slot.{LeastMember, Reduced, Forced, SlotsOf, Stored}
-use Rattle.theory.specs.Slots.{nothing, found, least, forced-xor, empty-none}
+use Rattle.theory.specs.Slots.{nothing, found, least, forced-xor, slot-none, slot-past, empty-none}
 use Rattle.theory.specs.Reduce.{red, red-dot, red-avoid}
 
 -- A condition that holds of every weight list which meets all that the condition forces.
 abbrev pub Closed : ℕ → (Set → Type 0) → Type 0
 Closed n Meets = (w : Set) → ((g : Set) → Forced n Meets g → dot n w g ≡ false) → Meets w
-
-pub slot-none : {n : ℕ} {S : Slots} → Reduced n S → (i : ℕ) → S i i ≡ false → (f : ℕ) → S i f ≡ false
-slot-none {n} {S} R i free f = elim (test (S i f)) [ on e ↦ absurd (clash (R .full i f e) free) | off e ↦ e ]
-
-pub slot-past : {n : ℕ} {S : Slots} → Reduced n S → (i f : ℕ) → n ≤ f → S i f ≡ false
-slot-past {n} {S} R i f l = elim (test (S i f)) [ on e ↦ absurd (omega (arith, R .within i f e)) | off e ↦ e ]
 
 -- Conditions that hold of the same weights have the same slots.
 pub slots-along : (n : ℕ) (Meets Meets' : Set → Type 0) (S : Slots) → ((w : Set) → Meets w ↔ Meets' w) → SlotsOf n Meets S → SlotsOf n Meets' S

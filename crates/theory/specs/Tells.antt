@@ -6,9 +6,10 @@ use mathlib.Core.Bool.{Bool, true, false, not, _&&_, _||_, true≢false}
 use mathlib.Core.List.{List, [], _∷_, List·Memᴰ as In}
 use lib.Dec.{eqb, leb, ltb}
 use borrow.Author.Tests.{eqb-true, eq-eqb, ltb-true, lt-ltb, leb-true, le-leb, not-true}
-use Rattle.meaning.specs.Sets.{_⊕_, some, every, anyOf, allOf}
+use Rattle.meaning.specs.Sets.{_⊕_, some, every, anyOf, allOf, listed}
 use Rattle.theory.specs.Truth.{on, off, test, clash, xor-true-differ, differ-xor, xor-false-same, xor-self}
-use Rattle.theory.specs.Search.{and-left, and-right, and-both, or-left, or-right, or-either, true-together, some-at, some-get, every-each, every-at, any-at, any-get, all-each, all-at}
+use Rattle.theory.specs.Search.{and-left, and-right, and-both, or-left, or-right, or-either, true-together}
+use Rattle.theory.specs.Search.{some-at, some-get, every-each, every-at, any-at, any-get, all-each, all-at, listed-in, in-listed}
 
 -- b is true exactly when P holds.
 pub record Tells (b : Bool) (P : Type 0) : Type 0 where
@@ -91,6 +92,9 @@ tells-lt a b = record { yes = ltb-true a b; back = lt-ltb a b }
 
 pub tells-le : (a b : ℕ) → Tells (leb a b) (a ≤ b)
 tells-le a b = record { yes = leb-true a b; back = le-leb a b }
+
+pub tells-listed : (l : List ℕ) (f : ℕ) → Tells (listed l f) (In f l)
+tells-listed l f = record { yes = listed-in l f; back = in-listed l f }
 
 -- Two lists hold the same numbers in the same places.
 unfoldable pub sameList : List ℕ → List ℕ → Bool

@@ -105,14 +105,16 @@ FindsIn c room outcome =
     × LeastOf (features (c .sizes)) (SeparatesIn c) weights
     × (outcome ≡ writes separated (packed (features (c .sizes)) weights) room))
 
--- find(workspace, room): 9, then 8: "W words for a finder's answer even where that is 'none'".
+-- 8 even where the answer would be "none": "W words for a finder's answer even where that is 'none'".
+abbrev pub FindsBy : Content → List ℕ → Outcome Finding → Type 0
+FindsBy c room outcome =
+    cond (ltb (length room) (wordsFor (features (c .sizes)))) (outcome ≡ refuses Small room) (FindsIn c room outcome)
+
+-- find(workspace, room): 9, then 8.
 abbrev pub Finds : List ℕ → List ℕ → Outcome Finding → Type 0
 Finds workspace room outcome =
     ((WellFormed workspace → ⊥) × (outcome ≡ refuses Malformed room))
-    ⊎ ((formed : WellFormed workspace)
-    × cond (ltb (length room) (wordsFor (features (formed .content .sizes))))
-    (outcome ≡ refuses Small room)
-    (FindsIn (formed .content) room outcome))
+    ⊎ ((formed : WellFormed workspace) × FindsBy (formed .content) room outcome)
 
 -- ---- edits
 

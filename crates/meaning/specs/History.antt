@@ -41,14 +41,14 @@ unfoldable pub taskAfter : Task → List Event → Task
 taskAfter T [] = T
 taskAfter T (e ∷ es) =
     taskAfter
-      (record {
-        sizes = T .sizes;
-        start = startAfter (T .start) (e .edit) (e .answer);
-        goal = goalAfter (T .goal) (e .edit) (e .answer);
-        pairs = T .pairs;
-        operators = movesAfter (T .operators) (e .edit) (e .answer);
-      })
-      es
+    (record {
+      sizes = T .sizes;
+      start = startAfter (T .start) (e .edit) (e .answer);
+      goal = goalAfter (T .goal) (e .edit) (e .answer);
+      pairs = T .pairs;
+      operators = movesAfter (T .operators) (e .edit) (e .answer);
+    })
+    es
 
 -- Tasks alike but for the order of their operators and repeats: "listed in any order, repeats or not".
 pub record SameTask (T U : Task) : Type 0 where

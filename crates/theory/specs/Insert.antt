@@ -1,36 +1,35 @@
--- Inserting rows into a family of slots: it stays reduced, and the stored weights become those that also meet the rows evenly.
+-- Inserting a row into a family of slots: it stays reduced, and the stored weights become those that also meet the row evenly.
 use Prim.Native.Nat.{ℕ, _<_}
-use mathlib.Core.Path.{_≡_, refl, ap, sym, _∙_, fun-ext}
-use mathlib.Core.Logic.{_≢_, _↔_, Iff·trans, inl, inr}
-use mathlib.Core.Bool.{Bool, true, false, _&&_, cond, and-false, and-true}
-use mathlib.Core.List.{List, [], _∷_, List·Memᴰ as In, List·Memᴰ·head as here, List·Memᴰ·tail as there, List·Memᴰ·not-nil, List·Memᴰ·cases-cons}
+use mathlib.Core.Path.{_≡_, refl, sym, _∙_}
+use mathlib.Core.Logic.{_≢_, _↔_, Iff·trans}
+use mathlib.Core.Bool.{true, false, _&&_, cond, and-false, and-true}
 use native.Mathlib.Omega.{arith}
 use lib.Dec.{eqb, ltb}
-use borrow.Author.Tests.{eqb-true, eqb-false, eq-eqb, ne-eqb, ltb-true, lt-ltb, le-ltb}
+use borrow.Author.Tests.{eqb-true, eqb-false, ltb-true, lt-ltb, le-ltb}
 use Rattle.meaning.specs.Sets.{_⊕_, Set, Slots}
-use Rattle.theory.specs.Truth.{on, off, test, less, same, more, order, clash, xor-self, xor-false}
-use Rattle.theory.specs.Parity.{dot, dot-none, dot-cong, dot-xor, dot-and, dot-even, even-dot}
-use Rattle.meaning.specs.Slot.{LeastMember, Reduced, Forced, SlotsOf, Stored}
+use Rattle.theory.specs.Truth.{on, off, test, clash, xor-self, xor-false}
+use Rattle.theory.specs.Parity.{dot, dot-none, dot-cong, dot-xor, dot-and}
+use Rattle.meaning.specs.Slot.{LeastMember, Reduced, Stored}
 use Rattle.theory.specs.Slots.{nothing, found, least, lead, lead-none, lead-least, stored-dot, dot-stored, slot-none, slot-low}
-use Rattle.theory.specs.Reduce.{red, red-dot, red-avoid, red-within, no-weights}
-use Rattle.theory.specs.SlotsOf.{Closed, slots-of-stored, same-slots}
+use Rattle.theory.specs.Reduce.{red, red-dot, red-avoid, red-within}
+use Rattle.theory.specs.SlotsOf.{same-slots}
 
 -- ---- one row that is reduced already
 
--- Row r becomes slot p, and every slot that has p is summed with r.
+-- Row r becomes slot p, and r is added to every slot that has p.
 unfoldable pub put : Slots → ℕ → Set → Slots
 put S p r i f = cond (eqb i p) (r f) (S i f ⊕ (S i p && r f))
 
--- A slot of the new family: the row, or the old slot with the row summed in where it had p.
-data At (S : Slots) (p : ℕ) (r : Set) (i : ℕ) : Type 0 where
-  own : i ≡ p → ((f : ℕ) → put S p r i f ≡ r f) → At S p r i
-  other : i ≢ p → ((f : ℕ) → put S p r i f ≡ S i f ⊕ (S i p && r f)) → At S p r i
+-- A slot of the new family: the row itself, or the old slot with the row added if it had p.
+pub data Placed (S : Slots) (p : ℕ) (r : Set) (i : ℕ) : Type 0 where
+  own : i ≡ p → ((f : ℕ) → put S p r i f ≡ r f) → Placed S p r i
+  other : i ≢ p → ((f : ℕ) → put S p r i f ≡ S i f ⊕ (S i p && r f)) → Placed S p r i
 
-at : (S : Slots) (p : ℕ) (r : Set) (i : ℕ) → At S p r i
+pub placed : (S : Slots) (p : ℕ) (r : Set) (i : ℕ) → Placed S p r i
 unfolding put
-at S p r i = elim (test (eqb i p)) [ on t ↦ own (eqb-true i p t) (λ f. rw t) | off t ↦ other (eqb-false i p t) (λ f. rw t) ]
+placed S p r i = elim (test (eqb i p)) [ on t ↦ own (eqb-true i p t) (λ f. rw t) | off t ↦ other (eqb-false i p t) (λ f. rw t) ]
 
--- A row that is left of one by reducing, with its least member.
+-- What putting asks of a row: p is its least member, and it has no full slot's index.
 pub record Fresh (n : ℕ) (S : Slots) (p : ℕ) (r : Set) : Type 0 where
   pub inside : p < n
   pub lowest : LeastMember p r
@@ -47,7 +46,7 @@ module _ {n : ℕ} {S : Slots} (R : Reduced n S) {p : ℕ} {r : Set} (F : Fresh 
       [ on x ↦ R .full i f x | off x ↦ elim (test (S i p)) [ on y ↦ R .full i p y | off y ↦ absurd (clash e (rw (x, y))) ] ]
 
   put-within : (i f : ℕ) → put S p r i f ≡ true → (i < n) × (f < n)
-  put-within i f e = elim (at S p r i) [
+  put-within i f e = elim (placed S p r i) [
     | own q h ↦ (rw q (F .inside), F .bounded f (sym (h f) ∙ e))
     | other d h ↦ elim (test (S i f)) [
       | on x ↦ R .within i f x
@@ -56,23 +55,23 @@ module _ {n : ℕ} {S : Slots} (R : Reduced n S) {p : ℕ} {r : Set} (F : Fresh 
   ]
 
   put-low : (i f : ℕ) → f < i → put S p r i f ≡ false
-  put-low i f l = elim (at S p r i) [
+  put-low i f l = elim (placed S p r i) [
     | own q h ↦ h f ∙ F .lowest .first f (omega arith)
     | other d h ↦ elim (test (S i p))
         [ on y ↦ rw (h f, R .low i f l, y) (F .lowest .first f (omega (arith, slot-low R i p y))) | off y ↦ rw (h f, R .low i f l, y) ]
   ]
 
   put-own : (i f : ℕ) → put S p r i f ≡ true → put S p r i i ≡ true
-  put-own i f e = elim (at S p r i) [
+  put-own i f e = elim (placed S p r i) [
     | own q h ↦ h i ∙ rw q (F .lowest .member)
     | other d h ↦ let x = put-full i f (sym (h f) ∙ e) in rw (h i, x, F .avoids i x, and-false (S i p))
   ]
 
   put-clear : (i j : ℕ) → put S p r j j ≡ true → j ≢ i → put S p r i j ≡ false
-  put-clear i j e d = elim (at S p r j) [
-    | own q k ↦ elim (at S p r i)
+  put-clear i j e d = elim (placed S p r j) [
+    | own q k ↦ elim (placed S p r i)
         [ own q' h ↦ absurd (d (omega arith)) | other d' h ↦ h j ∙ rw (q, F .lowest .member, and-true (S i p)) (xor-self (S i p)) ]
-    | other d' k ↦ let x = put-full j j (sym (k j) ∙ e) in elim (at S p r i)
+    | other d' k ↦ let x = put-full j j (sym (k j) ∙ e) in elim (placed S p r i)
         [ own q h ↦ h j ∙ F .avoids j x | other d″ h ↦ rw (h j, R .clear i j x d, F .avoids j x, and-false (S i p)) ]
   ]
 
@@ -83,17 +82,17 @@ module _ {n : ℕ} {S : Slots} (R : Reduced n S) {p : ℕ} {r : Set} (F : Fresh 
   put-stored w = (λ k. let e = row k in (dot-stored n S w (before k e), e), λ k. dot-stored n (put S p r) w (after (k .0) (k .1)))
     where
       row : Stored n (put S p r) w → dot n w r ≡ false
-      row k = elim (at S p r p) [ own q h ↦ dot-cong n w r _ (λ f l. sym (h f)) ∙ stored-dot n (put S p r) w k p (F .inside) | other d h ↦ absurd (d refl) ]
+      row k = elim (placed S p r p) [ own q h ↦ dot-cong n w r _ (λ f l. sym (h f)) ∙ stored-dot n (put S p r) w k p (F .inside) | other d h ↦ absurd (d refl) ]
 
       even : (i : ℕ) → ((f : ℕ) → put S p r i f ≡ S i f ⊕ (S i p && r f)) → dot n w r ≡ false → dot n w (put S p r i) ≡ dot n w (S i)
       even i h e = dot-cong n w _ _ (λ f l. h f) ∙ dot-xor n w (S i) _ ∙ rw (dot-and n w (S i p) r, e, and-false (S i p)) (xor-false (dot n w (S i)))
 
       before : Stored n (put S p r) w → dot n w r ≡ false → (i : ℕ) → i < n → dot n w (S i) ≡ false
-      before k e i l = elim (at S p r i)
+      before k e i l = elim (placed S p r i)
           [ own q h ↦ dot-none n w (S i) (λ f j. rw q (slot-none R p put-free f)) | other d h ↦ sym (even i h e) ∙ stored-dot n (put S p r) w k i l ]
 
       after : Stored n S w → dot n w r ≡ false → (i : ℕ) → i < n → dot n w (put S p r i) ≡ false
-      after k e i l = elim (at S p r i) [ own q h ↦ dot-cong n w _ r (λ f j. h f) ∙ e | other d h ↦ even i h e ∙ stored-dot n S w k i l ]
+      after k e i l = elim (placed S p r i) [ own q h ↦ dot-cong n w _ r (λ f j. h f) ∙ e | other d h ↦ even i h e ∙ stored-dot n S w k i l ]
 
 -- ---- any row
 
@@ -147,51 +146,3 @@ module _ {n : ℕ} {S : Slots} (R : Reduced n S) (r : Set) where
   -- A row that follows from what is stored changes nothing.
   pub insert-follows : ((w : Set) → Stored n S w → dot n w r ≡ false) → insert n S r ≡ S
   insert-follows h = same-slots insert-reduced R (λ w. (λ k. insert-stored w .0 k .0, λ k. insert-stored w .1 (k, h w k)))
-
--- ---- a list of rows
-
--- Every slot empty.
-unfoldable pub bare : Slots
-bare i f = false
-
-pub bare-reduced : (n : ℕ) → Reduced n bare
-unfolding bare
-bare-reduced n = record { within = λ i f e. absurd (clash e refl); low = λ i f l. refl; full = λ i f e. e; clear = λ i j e d. refl }
-
-pub bare-stored : (n : ℕ) (w : Set) → Stored n bare w
-unfolding bare
-bare-stored n w = dot-stored n bare w (λ i l. dot-none n w _ (λ f j. refl))
-
--- Weights that meet every row of a list evenly.
-abbrev pub MeetsRows : ℕ → List Set → Set → Type 0
-MeetsRows n rows w = (r : Set) → In r rows → dot n w r ≡ false
-
-unfoldable pub insertAll : ℕ → Slots → List Set → Slots
-insertAll n S [] = S
-insertAll n S (r ∷ rows) = insertAll n (insert n S r) rows
-
-pub insertAll-reduced : {n : ℕ} {S : Slots} → Reduced n S → (rows : List Set) → Reduced n (insertAll n S rows)
-unfolding insertAll
-insertAll-reduced R [] = R
-insertAll-reduced R (r ∷ rows) = insertAll-reduced (insert-reduced R r) rows
-
-rows-cons : (n : ℕ) (r : Set) (rows : List Set) (w : Set) → ((dot n w r ≡ false) × MeetsRows n rows w) → MeetsRows n (r ∷ rows) w
-rows-cons n r rows w h g i = elim (List·Memᴰ·cases-cons i) [ inl q ↦ rw q (h .0) | inr j ↦ h .1 g j ]
-
-pub insertAll-stored : {n : ℕ} {S : Slots} → Reduced n S → (rows : List Set) (w : Set) → Stored n (insertAll n S rows) w ↔ (Stored n S w × MeetsRows n rows w)
-unfolding insertAll
-insertAll-stored R [] w = (λ k. (k, λ r i. absurd (List·Memᴰ·not-nil i)), λ k. k .0)
-insertAll-stored {n} R (r ∷ rows) w = Iff·trans (insertAll-stored (insert-reduced R r) rows w) (
-  λ k. let h = insert-stored R r w .0 (k .0) in (h .0, rows-cons n r rows w (h .1, k .1)),
-  λ k. (insert-stored R r w .1 (k .0, k .1 r (here refl)), λ g i. k .1 g (there i)),
-)
-
-pub rows-closed : (n : ℕ) (rows : List Set) → Closed n (MeetsRows n rows)
-rows-closed n rows w h r i = h r (λ u k. dot-even n u r (k r i))
-
-pub rows-stored : (n : ℕ) (rows : List Set) (w : Set) → Stored n (insertAll n bare rows) w ↔ MeetsRows n rows w
-rows-stored n rows w = Iff·trans (insertAll-stored (bare-reduced n) rows w) (λ h. h .1, λ h. (bare-stored n w, h))
-
--- The rows inserted one after another give the slots of the condition that all are met evenly.
-pub rows-slots : (n : ℕ) (rows : List Set) → SlotsOf n (MeetsRows n rows) (insertAll n bare rows)
-rows-slots n rows = slots-of-stored (MeetsRows n rows) (insertAll-reduced (bare-reduced n) rows) (rows-stored n rows)

@@ -1,13 +1,12 @@
 -- Reducing a set by a family of slots, and the weights that meet it oddly.
 use Prim.Native.Nat.{ℕ, zero, suc, _<_, _≤_}
 use mathlib.Core.Path.{_≡_, refl, sym, _∙_}
-use mathlib.Core.Logic.{_≢_}
-use mathlib.Core.Bool.{Bool, true, false, _&&_, and-true, and-false}
+use mathlib.Core.Bool.{true, false, _&&_, and-true, and-false}
 use native.Mathlib.Omega.{arith}
 use Rattle.meaning.specs.Sets.{_⊕_, Set, Slots}
-use Rattle.theory.specs.Truth.{on, off, test, less, same, more, order, clash, xor-self, xor-false}
-use Rattle.theory.specs.Parity.{dot, dot-none, dot-xor, dot-and, dot-even}
-use Rattle.meaning.specs.Slot.{Reduced, Stored, Forced}
+use Rattle.theory.specs.Truth.{on, off, test, less, same, more, order, clash, xor-assoc, xor-self, xor-false}
+use Rattle.theory.specs.Parity.{par, dot, dot-none, dot-xor, dot-and}
+use Rattle.meaning.specs.Slot.{Reduced, Stored}
 use Rattle.theory.specs.Slots.{stored-dot, wit, wit-at, wit-in}
 
 -- The set, with slot k added for each k below n in turn that is a member by then.
@@ -31,6 +30,21 @@ red-avoid-to {n} {S} R (suc k) d p l e = elim (order p k) [
   | same q ↦ rw (← q, e, and-true (red S p d p)) (xor-self (red S p d p))
   | more j ↦ absurd (omega arith)
 ]
+
+-- The turn of a full slot finds the set's own member: no slot before it brings its index in or takes it out.
+pub red-later : {n : ℕ} {S : Slots} → Reduced n S → (k : ℕ) (d : Set) (p : ℕ) → k ≤ p → S p p ≡ true → red S k d p ≡ d p
+unfolding red
+red-later R zero d p l e = refl
+red-later {n} {S} R (suc k) d p l e = rw (R .clear k p e (omega arith), and-false (red S k d k)) (xor-false (red S k d p) ∙ red-later R k d p (omega arith) e)
+
+-- So reducing is one sum, over the set's own members.
+pub red-sum : {n : ℕ} {S : Slots} → Reduced n S → (k : ℕ) (d : Set) (f : ℕ) → red S k d f ≡ d f ⊕ par k (λ p. d p && S p f)
+unfolding red par
+red-sum R zero d f = sym (xor-false (d f))
+red-sum {n} {S} R (suc k) d f = rw (turn, red-sum R k d f) (xor-assoc (d f) _ (d k && S k f))
+  where
+    turn : (red S k d k && S k f) ≡ (d k && S k f)
+    turn = elim (test (S k f)) [ on t ↦ rw (red-later R k d k (omega arith) (R .full k f t)) | off t ↦ rw (t, and-false (red S k d k), and-false (d k)) ]
 
 -- Reducing brings in no member past the bound.
 pub red-within : {n : ℕ} {S : Slots} → Reduced n S → (k : ℕ) (d : Set) → ((f : ℕ) → d f ≡ true → f < n) → (f : ℕ) → red S k d f ≡ true → f < n

@@ -1,14 +1,14 @@
--- Reduced families of slots: the witness of a free index, and what a set that is met evenly by all stored weights must look like.
+-- The least member of a set, and reduced families of slots: the witness of a free index is stored.
 use Prim.Native.Nat.{ℕ, zero, suc, _<_, _≤_}
-use mathlib.Core.Path.{_≡_, refl, ap, sym, _∙_}
+use mathlib.Core.Path.{_≡_, refl, sym, _∙_}
 use mathlib.Core.Logic.{_≢_}
-use mathlib.Core.Bool.{Bool, true, false, _&&_, cond, and-false}
+use mathlib.Core.Bool.{true, false, _&&_, cond}
 use native.Mathlib.Omega.{arith}
 use lib.Dec.{eqb, ltb}
-use borrow.Author.Tests.{eqb-true, eqb-false, lt-ltb, le-ltb, ne-eqb}
+use borrow.Author.Tests.{lt-ltb, le-ltb, ne-eqb}
 use Rattle.meaning.specs.Sets.{_⊕_, Set, Slots, odd, shared}
-use Rattle.theory.specs.Truth.{Test, on, off, test, less, same, more, order, clash, xor-self, xor-false, xor-false-same}
-use Rattle.theory.specs.Parity.{par, dot, par-one, par-none, dot-comm, dot-one, dot-none, dot-xor, xor-dot, even-dot, dot-even}
+use Rattle.theory.specs.Truth.{Test, on, off, test, less, same, more, order, clash, xor-false}
+use Rattle.theory.specs.Parity.{par, dot, par-one, par-none, dot-comm, dot-one, dot-xor, xor-dot, even-dot, dot-even}
 use Rattle.meaning.specs.Slot.{LeastMember, Reduced, Forced, SlotsOf, Stored}
 
 -- ---- the least member
@@ -75,7 +75,7 @@ pub wit-dot : (n : ℕ) (S : Slots) (m : ℕ) (g : Set) → m < n → dot n (wit
 unfolding wit dot
 wit-dot n S m g l = xor-dot n (λ p. eqb p m) (λ p. S p m) g ∙ rw (dot-comm n (λ p. eqb p m) g, dot-one n m g l)
 
--- A set with no member among the slots that have the free index.
+-- If a set has no index of a slot with m in it, the witness of m meets it in m alone.
 pub wit-at : (n : ℕ) (S : Slots) (m : ℕ) (g : Set) → m < n → ((p : ℕ) → S p m ≡ true → g p ≡ false) → dot n (wit S m) g ≡ g m
 wit-at n S m g l h = wit-dot n S m g l ∙ rw (par-none n (λ p. S p m && g p) (λ p k. rest p)) (xor-false (g m))
   where
@@ -105,6 +105,9 @@ module _ {n : ℕ} {S : Slots} (R : Reduced n S) where
   pub wit-past : (m f : ℕ) → m < f → wit S m f ≡ false
   unfolding wit
   wit-past m f l = rw (ne-eqb f m (omega arith), R .low f m l)
+
+  pub wit-within : (m f : ℕ) → wit S m f ≡ true → f ≤ m
+  wit-within m f e = elim (order m f) [ less l ↦ absurd (clash e (wit-past m f l)) | same q ↦ omega arith | more l ↦ omega arith ]
 
   -- Where a slot is empty no forced set has its index as least member.
   pub empty-none : (i : ℕ) (g : Set) → i < n → S i i ≡ false → Forced n (Stored n S) g → LeastMember i g → ⊥

@@ -1,14 +1,13 @@
 -- The order of sets as whole numbers, and the least weights that a reduced family stores and that meet a set oddly.
-use Prim.Native.Nat.{ℕ, zero, suc, _+_, _^_, _<_, _≤_}
-use mathlib.Core.Path.{_≡_, refl, ap, ap₂, sym, _∙_}
+use Prim.Native.Nat.{ℕ, zero, suc, _^_, _<_, _≤_}
+use mathlib.Core.Path.{_≡_, refl, sym, _∙_}
 use mathlib.Core.Logic.{_≢_}
-use mathlib.Core.Bool.{Bool, true, false, _&&_, cond, and-false}
+use mathlib.Core.Bool.{true, false, _&&_, and-false}
 use native.Mathlib.Omega.{arith}
-use lib.Dec.{eqb}
 use borrow.Author.Tests.{ne-eqb, not-true}
 use Rattle.meaning.specs.Sets.{_⊕_, Set, Slots, wholeNumber}
 use Rattle.theory.specs.Truth.{Test, on, off, test, less, same, more, order, clash, xor-self, xor-false-same}
-use Rattle.theory.specs.Parity.{par, dot, par-none, par-one, xor-dot}
+use Rattle.theory.specs.Parity.{dot, par-none, par-one, xor-dot}
 use Rattle.meaning.specs.Slot.{LeastMember, Reduced, Stored}
 use Rattle.theory.specs.Slots.{below-suc, stored-dot, wit, wit-past}
 use Rattle.theory.specs.Reduce.{red, red-dot, weights-in}

@@ -1,0 +1,111 @@
+-- The pairs of a bay: they are in order, and two atoms of different slots are paired exactly when they have one label.
+use Prim.Native.Nat.{ℕ, suc, _+_, _*_, _<_, _≤_}
+use mathlib.Core.Path.{_≡_, refl, sym, ap, _∙_}
+use mathlib.Core.Logic.{_≢_}
+use mathlib.Core.Bool.{true, cond}
+use mathlib.Core.List.{List, [], _∷_, List·Memᴰ as In, List·Memᴰ·head as here, List·Memᴰ·eq-of-singleton as eq-of-singleton}
+use native.Mathlib.Omega.{arith}
+use native.Mathlib.Nat.{suc-mul}
+use lib.Dec.{eqb, ltb}
+use borrow.Author.Tests.{eqb-true, eq-eqb, ltb-true, lt-ltb, le-ltb}
+use Rattle.meaning.specs.Sets.{flat, listed}
+use Rattle.meaning.specs.Task.{Run, size}
+use Rattle.meaning.specs.Feature.{atoms, features, pairStart, double}
+use Rattle.meaning.specs.Pair.{paired}
+use Rattle.meaning.specs.Bay.{baySizes, bayPairs}
+use Rattle.theory.specs.Truth.{less, same, more, order}
+use Rattle.theory.specs.Search.{true-together, listed-in, in-listed}
+use Rattle.theory.specs.Flat.{in-flat, flat-in, in-when, when-in}
+use Rattle.theory.specs.Run.{run-none, run-one, run-wider, run-flat}
+use Rattle.theory.specs.Numbering.{pair-room, pair-along, pair-down, double-only, both-less, both-more}
+use Rattle.theory.specs.BayMoves.{eqb-mirror, bay-size, bay-below}
+
+-- ---- runs of two-variable features
+
+-- Where the pairs of variable i with the variables from j on begin.
+abbrev pairsFrom : List ℕ → ℕ → ℕ → ℕ
+pairsFrom sizes i j = atoms sizes + cond (ltb i j) (pairStart sizes i j) (pairStart sizes i (suc i))
+
+from-less : (sizes : List ℕ) (i j : ℕ) → i < j → pairsFrom sizes i j ≡ atoms sizes + pairStart sizes i j
+from-less sizes i j l = rw (lt-ltb i j l) refl
+
+from-more : (sizes : List ℕ) (i j : ℕ) → j ≤ i → pairsFrom sizes i j ≡ atoms sizes + pairStart sizes i (suc i)
+from-more sizes i j l = rw (le-ltb i j l) refl
+
+-- Runs within the blocks of numbers of two variables each, one after another, are a run of two-variable features.
+module _ (sizes : List ℕ) (n : ℕ) (blocks : ℕ → ℕ → List ℕ)
+    (block : (i j : ℕ) → i < j → j < n → Run (atoms sizes + pairStart sizes i j) (blocks i j) (atoms sizes + (pairStart sizes i j + size sizes i * size sizes j))) where
+  run-block : (i j : ℕ) → j < n → Run (pairsFrom sizes i j) (cond (ltb i j) (blocks i j) []) (pairsFrom sizes i (suc j))
+  run-block i j h = elim (order i j) [
+    | less l ↦ rw (from-less sizes i (suc j) (omega arith), lt-ltb i j l) (run-wider _ _ _ _ _ (omega arith) (omega (arith, pair-along sizes i j (suc j) l (omega arith))) (block i j l h))
+    | same q ↦ rw (from-less sizes i (suc j) (omega arith), le-ltb i j (omega arith), q) (run-none _ _ (omega arith))
+    | more l ↦ rw (from-more sizes i (suc j) (omega arith), le-ltb i j (omega arith)) (run-none _ _ (omega arith))
+  ]
+
+  run-row : (i : ℕ) → i < n → Run (atoms sizes + pairStart sizes i (suc i)) (flat n (λ j. cond (ltb i j) (blocks i j) [])) (atoms sizes + pairStart sizes (suc i) (suc (suc i)))
+  run-row i l = run-wider _ _ _ _ _ (omega (arith, from-more sizes i 0 (omega arith)))
+      (omega (arith, from-less sizes i n l, pair-down sizes i n (suc i) (suc (suc i)) l (omega arith) (omega arith)))
+      (run-flat n _ (pairsFrom sizes i) (run-block i))
+
+  pub run-pairs : Run (atoms sizes) (flat n (λ i. flat n (λ j. cond (ltb i j) (blocks i j) []))) (features sizes)
+  unfolding features
+  run-pairs = run-wider _ _ _ _ _ (omega arith) (omega (arith, pair-room sizes n (suc n) (omega arith))) (run-flat n _ (λ i. atoms sizes + pairStart sizes i (suc i)) run-row)
+
+-- ---- the pairs of a bay
+
+-- The features that put one label in the slots i < j.
+label-run : (n i j : ℕ) → i < j → j < n → Run (atoms (baySizes n) + pairStart (baySizes n) i j) (flat n (λ label. double (baySizes n) i label j label ∷ []))
+    (atoms (baySizes n) + (pairStart (baySizes n) i j + size (baySizes n) i * size (baySizes n) j))
+unfolding double
+label-run n i j l h = rw (bay-size n i (omega arith), bay-size n j h)
+    (run-wider _ _ _ _ _ (omega arith) (omega arith) (run-flat n _ (λ label. atoms (baySizes n) + (pairStart (baySizes n) i j + label * n))
+    (λ label k. run-one _ _ _ (omega (arith, bay-size n j h)) (omega (arith, suc-mul label n)))))
+
+pub pairs-run : (n : ℕ) → Run (atoms (baySizes n)) (bayPairs n) (features (baySizes n))
+unfolding bayPairs
+pairs-run n = run-pairs (baySizes n) n _ (label-run n)
+
+pub in-pairs : (n i j label : ℕ) → i < j → j < n → label < n → In (double (baySizes n) i label j label) (bayPairs n)
+unfolding bayPairs
+in-pairs n i j label l k h = in-flat n _ i _ (omega arith) (in-flat n _ j _ k (when-in (ltb i j) _ (lt-ltb i j l) (in-flat n _ label _ h (here refl))))
+
+-- A listed feature puts one label in two slots.
+pub record OneLabel (n f : ℕ) : Type 0 where
+  pub first : ℕ
+  pub second : ℕ
+  pub label : ℕ
+  pub ordered : first < second
+  pub place : second < n
+  pub is-label : label < n
+  pub form : f ≡ double (baySizes n) first label second label
+
+pub pairs-in : (n f : ℕ) → In f (bayPairs n) → OneLabel n f
+unfolding bayPairs
+pairs-in n f m =
+    let (i, l, m₁) = flat-in n _ f m in
+    let (j, k, m₂) = flat-in n _ f m₁ in
+    let (e, m₃) = in-when (ltb i j) _ m₂ in
+    let (label, h, m₄) = flat-in n _ f m₃ in
+    record { first = i; second = j; label = label; ordered = ltb-true i j e; place = k; is-label = h; form = eq-of-singleton m₄ }
+
+ordered-pair : (n i x j y : ℕ) → i < j → j < n → x < n → y < n → listed (bayPairs n) (double (baySizes n) i x j y) ≡ eqb x y
+ordered-pair n i x j y l k h h' = true-together _ (eqb x y) to back
+  where
+    to : listed (bayPairs n) (double (baySizes n) i x j y) ≡ true → eqb x y ≡ true
+    to e = let o = pairs-in n _ (listed-in (bayPairs n) _ e) in
+        let same-label = double-only (baySizes n) i x j y (o .first) (o .label) (o .second) (o .label) l (o .ordered)
+        (bay-below n i x (omega arith) h) (bay-below n j y k h') (bay-below n (o .first) (o .label) (omega (arith, o .ordered, o .place)) (o .is-label))
+        (bay-below n (o .second) (o .label) (o .place) (o .is-label)) (o .form) in
+        eq-eqb x y (same-label .1 ∙ sym (same-label .3))
+
+    back : eqb x y ≡ true → listed (bayPairs n) (double (baySizes n) i x j y) ≡ true
+    back e = in-listed (bayPairs n) _ (rw (← (eqb-true x y e)) (in-pairs n i j x l k h))
+
+-- Two atoms of different slots are paired exactly when they have one label.
+pub paired-bay : (n i x j y : ℕ) → i ≢ j → i < n → j < n → x < n → y < n → paired (baySizes n) (listed (bayPairs n)) i x j y ≡ eqb x y
+unfolding paired
+paired-bay n i x j y d l k h h' = elim (order i j) [
+  | less m ↦ ap (listed (bayPairs n)) (both-less (baySizes n) i x j y m) ∙ ordered-pair n i x j y m k h h'
+  | same q ↦ absurd (d q)
+  | more m ↦ ap (listed (bayPairs n)) (both-more (baySizes n) i x j y m) ∙ ordered-pair n j y i x m l h' h ∙ eqb-mirror y x
+]

@@ -1,0 +1,159 @@
+-- The task of a bay keeps every rule of tasks, over any relation that sets no slot beside itself; so what a bay file says can be written.
+use Prim.Native.Nat.{ℕ, suc, _-_, _*_, _<_, _≤_}
+use mathlib.Core.Path.{_≡_, refl, sym, _∙_}
+use mathlib.Core.Logic.{_≢_, inl, inr}
+use mathlib.Core.Bool.{Bool, true, false, not, _&&_, _||_, cond, or-false}
+use mathlib.Core.List.{List, [], List·Memᴰ as In}
+use native.Mathlib.Omega.{arith}
+use native.Mathlib.Nat.{le-trans}
+use lib.ListN.{length, length-replicate}
+use lib.Dec.{eqb, leb, ltb}
+use borrow.Author.Tests.{eqb-false, ne-eqb, lt-ltb, le-ltb}
+use Rattle.meaning.specs.Sets.{some, every, anyOf, twoOf, listed}
+use Rattle.meaning.specs.Limits.{leastSlots, mostSlots, mostFeatures, numberEnd}
+use Rattle.meaning.specs.Task.{Operator, State, IsOperator, names, value, size}
+use Rattle.meaning.specs.Feature.{sumOf, pairsOf, atoms, features}
+use Rattle.meaning.specs.Pair.{paired, possible, idle, clashingAfter, uncovered, closed, holds}
+use Rattle.meaning.specs.File.{InLimits, Writable}
+use Rattle.meaning.specs.Bay.{baySizes, occurrences, exchange, slide, bayOperators, bayPairs, taskFor}
+use Rattle.theory.specs.Truth.{on, off, test, less, same, more, order}
+use Rattle.theory.specs.Search.{and-none-right, or-right, or-none-left, or-none-right, some-not, any-not}
+use Rattle.theory.specs.Flat.{in-two, flat-few}
+use Rattle.theory.specs.Tells.{tells-every, tells-and, tells-le, tells-lt}
+use Rattle.theory.specs.BayMoves.{bay-size, bay-below, bay-length, bay-value, one-only, Slide, operator-slide}
+use Rattle.theory.specs.BayPairs.{pairs-run, paired-bay}
+
+-- ---- limits
+
+-- A list on a condition is no longer than the list.
+length-when : {A : Type 0} (b : Bool) (l : List A) → length (cond b l []) ≤ length l
+length-when true l = omega arith
+length-when false l = omega arith
+
+-- How many operators a bay has at most, whatever its neighbour relation.
+abbrev mostOperators : ℕ → ℕ
+mostOperators n = n * (n * ((n - 1) * 1))
+
+operators-most : (n : ℕ) (near : ℕ → ℕ → Bool) → length (bayOperators n near) ≤ mostOperators n
+unfolding bayOperators
+operators-most n near = flat-few n _ _ (λ p l. flat-few n _ _ (λ q k. le-trans (length-when (near p q) _) (flat-few (n - 1) 1 _ (λ t h. omega arith))))
+
+-- Every bay with slots within the limit has features and operators within theirs: by computing.
+bay-room : (n : ℕ) → n ≤ mostSlots → (features (baySizes n) ≤ mostFeatures) × (mostOperators n < numberEnd)
+unfolding every features atoms sumOf pairsOf
+bay-room n h = tells-every (suc mostSlots) (λ k. leb (features (baySizes k)) mostFeatures && ltb (mostOperators k) numberEnd) _
+    (λ k l. tells-and (tells-le (features (baySizes k)) mostFeatures) (tells-lt (mostOperators k) numberEnd)) .yes refl n (omega arith)
+
+pub bay-limits : (n : ℕ) → leastSlots ≤ n → n ≤ mostSlots → InLimits (baySizes n)
+bay-limits n h k = record {
+  variables = rw (length-replicate n n) (omega arith, omega arith);
+  each = λ i l. rw (bay-size n i (rw (length-replicate n n) at l)) (omega arith, omega arith);
+  total = bay-room n k .0;
+}
+
+-- ---- the operators
+
+-- Slots i < j exchange the labels a and b.
+module _ (n i j a b : ℕ) (ordered : i < j) (place : j < n) (label-a : a < n) (label-b : b < n) where
+  exchange-operator : IsOperator (baySizes n) (exchange i j a b)
+  exchange-operator = record {
+    filled = omega arith;
+    entries = rw (length-replicate n n) (
+      omega arith,
+      omega arith,
+      bay-below n i a (omega arith) label-a,
+      bay-below n i b (omega arith) label-b,
+      (ordered, place, bay-below n j b place label-b, bay-below n j a place label-a, tt),
+    );
+  }
+
+  -- A slot that is not named is neither of the two.
+  unnamed : (u : ℕ) → names (exchange i j a b) u ≡ false → (i ≢ u) × (j ≢ u)
+  unfolding names anyOf
+  unnamed u e = (eqb-false i u (or-none-left (eqb i u) (eqb j u || false) e), eqb-false j u (or-none-left (eqb j u) false (or-none-right (eqb i u) (eqb j u || false) e)))
+
+  possible-bay : (u y : ℕ) → i ≢ u → j ≢ u → u < n → y < n → possible (baySizes n) (listed (bayPairs n)) (exchange i j a b) u y ≡ not (eqb a y || eqb b y)
+  unfolding possible anyOf
+  possible-bay u y d d' l h = rw (paired-bay n i a u y d (omega arith) l label-a h, paired-bay n j b u y d' place l label-b h, or-false (eqb b y)) refl
+
+  -- An after atom with the label c of a named slot v is paired only with what a before atom is paired with.
+  cover : (v c : ℕ) → v < n → c < n → ((u : ℕ) → names (exchange i j a b) u ≡ false → v ≢ u) → ((y : ℕ) → (eqb c y && not (eqb a y || eqb b y)) ≡ false)
+      → some (length (baySizes n)) (λ u. not (names (exchange i j a b) u) && some (size (baySizes n) u) (λ y. paired (baySizes n) (listed (bayPairs n)) v c u y
+      && possible (baySizes n) (listed (bayPairs n)) (exchange i j a b) u y)) ≡ false
+  cover v c l h apart known = some-not _ _ (λ u k. elim (test (names (exchange i j a b) u)) [
+    | on e ↦ rw e refl
+    | off e ↦ and-none-right (not (names (exchange i j a b) u)) _ (some-not _ _ (λ y t. pair u y e (rw (length-replicate n n) at k) t))
+  ])
+    where
+      pair : (u y : ℕ) → names (exchange i j a b) u ≡ false → u < n → y < size (baySizes n) u
+          → (paired (baySizes n) (listed (bayPairs n)) v c u y && possible (baySizes n) (listed (bayPairs n)) (exchange i j a b) u y) ≡ false
+      pair u y e k t = let t' : y < n = rw (bay-size n u k) at t in
+          rw (paired-bay n v c u y (apart u e) l k h t', possible-bay u y (unnamed u e .0) (unnamed u e .1) k t') (known y)
+
+  covered : uncovered (baySizes n) (listed (bayPairs n)) (exchange i j a b) ≡ false
+  unfolding uncovered
+  covered = any-not _ _ (λ e m. elim (in-two m) [
+    | inl q ↦ rw q (cover i b (omega arith) label-b (λ u e. unnamed u e .0) (λ y. second (eqb a y) (eqb b y)))
+    | inr q ↦ rw q (cover j a place label-a (λ u e. unnamed u e .1) (λ y. first (eqb a y) (eqb b y)))
+  ])
+    where
+      first : (p q : Bool) → (p && not (p || q)) ≡ false
+      first true q = refl
+      first false q = refl
+
+      second : (p q : Bool) → (q && not (p || q)) ≡ false
+      second true true = refl
+      second true false = refl
+      second false true = refl
+      second false false = refl
+
+  pub closed-bay : a ≢ b → closed (baySizes n) (listed (bayPairs n)) (exchange i j a b) ≡ true
+  unfolding closed clashingAfter twoOf anyOf
+  closed-bay d = or-right (idle (baySizes n) (listed (bayPairs n)) (exchange i j a b)) _ (rw (after, covered) refl)
+    where
+      after : clashingAfter (baySizes n) (listed (bayPairs n)) (exchange i j a b) ≡ false
+      after = rw (paired-bay n i b j a (omega arith) (omega arith) place label-b label-a, ne-eqb b a (λ q. d (sym q))) refl
+
+-- Every operator of a bay is one, and the pairs are closed under it.
+slide-rules : (n : ℕ) (near : ℕ → ℕ → Bool) → ((p q : ℕ) → near p q ≡ true → p ≢ q) → (o : Operator) → In o (bayOperators n near)
+    → IsOperator (baySizes n) o × (closed (baySizes n) (listed (bayPairs n)) o ≡ true)
+unfolding slide
+slide-rules n near apart o m = elim (order (f .gap) (f .slot)) [
+  | less l ↦ rw (f .form, lt-ltb (f .gap) (f .slot) l) (rules (f .gap) (f .slot) 0 (f .label) l (f .slot-place) (omega (arith, f .is-label)) (f .is-label) (omega (arith, f .is-pallet)))
+  | same q ↦ absurd (apart (f .gap) (f .slot) (f .beside) q)
+  | more l ↦ rw (f .form, le-ltb (f .gap) (f .slot) (omega arith))
+      (rules (f .slot) (f .gap) (f .label) 0 l (f .gap-place) (f .is-label) (omega (arith, f .is-label)) (omega (arith, f .is-pallet)))
+]
+  where
+    f : Slide n near o
+    f = operator-slide n near o m
+
+    rules : (i j a b : ℕ) → i < j → j < n → a < n → b < n → a ≢ b → IsOperator (baySizes n) (exchange i j a b) × (closed (baySizes n) (listed (bayPairs n)) (exchange i j a b) ≡ true)
+    rules i j a b l k h h' d = (exchange-operator n i j a b l k h h', closed-bay n i j a b l k h h' d)
+
+-- ---- the whole task
+
+pub bay-free : (n : ℕ) (s : List ℕ) → State (baySizes n) s → ((label : ℕ) → label < n → occurrences label s ≤ 1) → holds (baySizes n) (listed (bayPairs n)) s ≡ false
+unfolding holds
+bay-free n s S once = some-not _ _ (λ j l. let k : j < n = rw (length-replicate n n) at l in some-not _ _ (λ i h. apart i j h k))
+  where
+    apart : (i j : ℕ) → i < j → j < n → paired (baySizes n) (listed (bayPairs n)) i (value s i) j (value s j) ≡ false
+    apart i j l k =
+        paired-bay n i (value s i) j (value s j) (omega arith) (omega arith) k (bay-value n s S i (omega arith)) (bay-value n s S j k)
+        ∙ ne-eqb (value s i) (value s j) (λ q. omega (arith, one-only (value s j) s i j (once (value s j) (bay-value n s S j k)) (omega (arith, bay-length n s S)) (omega (arith, bay-length n s S)) q refl))
+
+pub bay-writable : (n : ℕ) (near : ℕ → ℕ → Bool) (start goal : List ℕ) → leastSlots ≤ n → n ≤ mostSlots → ((p q : ℕ) → near p q ≡ true → p ≢ q)
+    → State (baySizes n) start → State (baySizes n) goal → ((label : ℕ) → label < n → occurrences label start ≤ 1) → Writable (taskFor n near start goal)
+unfolding taskFor
+bay-writable n near start goal h k apart S G once = record {
+  acceptable = record {
+    limits = bay-limits n h k;
+    start = S;
+    goal = G;
+    pairs = pairs-run n;
+    operators = λ o m. slide-rules n near apart o m .0;
+    free = bay-free n start S once;
+    closed-under = λ o m. slide-rules n near apart o m .1;
+  };
+  countable = omega (arith, operators-most n near, bay-room n k);
+}

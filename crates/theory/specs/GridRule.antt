@@ -1,0 +1,74 @@
+-- The grid's rule: a feature of two atoms changes its truth exactly where the grid has 1; and what that comes to for two variables.
+use Prim.Native.Nat.{ℕ, _<_}
+use mathlib.Core.Path.{_≡_, refl, sym}
+use mathlib.Core.Bool.{Bool, true, false, _&&_, cond}
+use mathlib.Core.List.{List, [], _∷_, List·Memᴰ as In, List·Memᴰ·head as here, List·Memᴰ·tail as there}
+use lib.Dec.{eqb, ltb}
+use borrow.Author.Tests.{eqb-true, ltb-true}
+use Rattle.meaning.specs.Sets.{_⊕_, allOf}
+use Rattle.meaning.specs.Grid.{Kind, absent, kept, made, used, kind, effect}
+use Rattle.theory.specs.Truth.{on, off, test, xor-self, xors}
+use Rattle.theory.specs.Search.{all-at}
+use Rattle.theory.specs.Toggles.{xorOf}
+
+-- The grid has 1 for the kinds of two atoms.
+abbrev pub turns : Kind → Kind → Bool
+turns a b = eqb (effect a b) 1
+
+-- "True before" and "true after" of the one atom, then of the other.
+pub grid-rule : (p q p' q' : Bool) → turns (kind p q) (kind p' q') ≡ (p && p') ⊕ (q && q')
+grid-rule false false false false = refl
+grid-rule false false false true = refl
+grid-rule false false true false = refl
+grid-rule false false true true = refl
+grid-rule false true false false = refl
+grid-rule false true false true = refl
+grid-rule false true true false = refl
+grid-rule false true true true = refl
+grid-rule true false false false = refl
+grid-rule true false false true = refl
+grid-rule true false true false = refl
+grid-rule true false true true = refl
+grid-rule true true false false = refl
+grid-rule true true false true = refl
+grid-rule true true true false = refl
+grid-rule true true true true = refl
+
+kinds : List Kind
+kinds = absent ∷ kept ∷ made ∷ used ∷ []
+
+in-kinds : (a : Kind) → In a kinds
+unfolding kinds
+in-kinds absent = here refl
+in-kinds kept = there (here refl)
+in-kinds made = there (there (here refl))
+in-kinds used = there (there (there (here refl)))
+
+pub effect-small : (a b : Kind) → effect a b < 2
+unfolding kinds allOf
+effect-small a b = ltb-true _ _ (all-at (λ y. ltb (effect a y) 2) kinds (all-at (λ x. allOf (λ y. ltb (effect x y) 2) kinds) kinds refl a (in-kinds a)) b (in-kinds b))
+
+-- The atoms of a variable that goes from one value to another, with their kinds; an unnamed variable goes from its value to the same.
+unfoldable pub kindsOf : ℕ → ℕ → List (ℕ × Kind)
+kindsOf before after = cond (eqb before after) ((before, kept) ∷ []) ((before, used) ∷ (after, made) ∷ [])
+
+-- The sum of w over the pairs of atoms for which the grid has 1.
+unfoldable pub gridSum : (ℕ → ℕ → Bool) → List (ℕ × Kind) → List (ℕ × Kind) → Bool
+gridSum w l m = xorOf (λ x. xorOf (λ y. turns (x .1) (y .1) && w (x .0) (y .0)) m) l
+
+-- What two variables change together: what is true after, and what was true before.
+pub grid-pair : (w : ℕ → ℕ → Bool) (b a b' a' : ℕ) → gridSum w (kindsOf b a) (kindsOf b' a') ≡ w a a' ⊕ w b b'
+unfolding gridSum kindsOf xorOf
+grid-pair w b a b' a' = elim (test (eqb b a)) [
+  | on p ↦ elim (test (eqb b' a')) [
+    | on q ↦ rw (p, q, eqb-true b a p, eqb-true b' a' q) (sym (xor-self (w a a')))
+    | off q ↦ rw (p, q, eqb-true b a p) (one-kept (w a b') (w a a'))
+  ]
+  | off p ↦ elim (test (eqb b' a')) [ on q ↦ rw (p, q, eqb-true b' a' q) (one-turns (w b a') (w a a')) | off q ↦ rw (p, q) (one-turns (w b b') (w a a')) ]
+]
+  where
+    one-kept : (x y : Bool) → (x ⊕ (y ⊕ false)) ⊕ false ≡ y ⊕ x
+    one-kept x y = simp xors
+
+    one-turns : (x y : Bool) → (x ⊕ false) ⊕ ((y ⊕ false) ⊕ false) ≡ y ⊕ x
+    one-turns x y = simp xors

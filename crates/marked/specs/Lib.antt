@@ -1,0 +1,4 @@
+pub mod States
+pub mod Decide
+pub mod Table
+pub mod Examples

@@ -26,3 +26,8 @@ pub mod NumberBack
 pub mod BayMoves
 pub mod BayPairs
 pub mod BayTask
+pub mod Rows
+pub mod Contents
+pub mod ReadBack
+pub mod Conditions
+pub mod Operands

@@ -74,19 +74,24 @@ stands : (before : List ℕ) (b : ℕ) (after : List ℕ) → length before < le
 stands before b after = omega (arith, length-append before (b ∷ after))
 
 pub one-back : (k n : ℕ) → n < group → (first : ℕ) (after : List ℕ) → Reads (groups (suc k) first) n (n ∷ []) after
-one-back k n h first after before =
-    let e : getD (before ++ (n ∷ after)) (length before) 0 ≡ n = getD-append-seam before n after 0 in
-    groups-one k first (before ++ (n ∷ after)) (length before) (stands before n after) (rw e h) ∙ ap (λ m. got m (length before + 1)) e
+one-back k n h first after = record {
+  reads = λ before.
+      let e : getD (before ++ (n ∷ after)) (length before) 0 ≡ n = getD-append-seam before n after 0 in
+      groups-one k first (before ++ (n ∷ after)) (length before) (stands before n after) (rw e h) ∙ ap (λ m. got m (length before + 1)) e;
+}
 
 pub more-back : (k low high : ℕ) → low < group → 1 ≤ high → (first : ℕ) (l after : List ℕ)
     → Reads (groups k first) high l after → Reads (groups (suc k) first) (low + group * high) ((group + low) ∷ l) after
-more-back k low high h m first l after rest before =
-    let b : ℕ = group + low in
-    let e : getD (before ++ (b ∷ (l ++ after))) (length before) 0 ≡ b = getD-append-seam before b (l ++ after) 0 in
-    let r : groups k first (before ++ (b ∷ (l ++ after))) (length before + 1) ≡ got high (length before + 1 + length l)
-    = rw (append-snoc before b (l ++ after), length-append before (b ∷ [])) at (rest (before ++ (b ∷ []))) in
-    groups-more k first (before ++ (b ∷ (l ++ after))) (length before) high (length before + 1 + length l) (stands before b (l ++ after)) (rw e (omega arith)) r m
-    ∙ ap₂ got (ap (λ c. c % group + group * high) e ∙ remains) (omega arith)
+more-back k low high h m first l after rest = record {
+  reads = λ before.
+      let b : ℕ = group + low in
+      let bytes : List ℕ = before ++ (b ∷ (l ++ after)) in
+      let e : getD bytes (length before) 0 ≡ b = getD-append-seam before b (l ++ after) 0 in
+      let r : groups k first bytes (length before + 1) ≡ got high (length before + 1 + length l)
+      = rw (append-snoc before b (l ++ after), length-append before (b ∷ [])) at (rest .reads (before ++ (b ∷ []))) in
+      groups-more k first bytes (length before) high (length before + 1 + length l) (stands before b (l ++ after)) (rw e (omega arith)) r m
+      ∙ ap₂ got (ap (λ c. c % group + group * high) e ∙ remains) (omega arith);
+}
   where
     remains : (group + low) % group + group * high ≡ low + group * high
     remains = omega arith
@@ -140,23 +145,25 @@ give-more bytes k place high next h l m s = record {
 
 pub groups-give : (bytes : List ℕ) (k first : ℕ) → Gives bytes (groups k first) (Grouped bytes k)
 unfolding groups
-groups-give bytes zero first place n next e = absurd (not-got e)
-groups-give bytes (suc k) first place n next e =
-    let (begun, q) = test-passed (ltb place (length bytes)) _ _ first n next e in
-    elim (test (ltb (getD bytes place 0) group)) [
-      | on c ↦ spent-same (Grouped bytes (suc k)) (rw c at q) (give-one bytes k place (ltb-true place (length bytes) begun) (ltb-true (getD bytes place 0) group c))
-      | off c ↦
-          let (high, middle, p, r) = on-got (groups k first bytes (place + 1)) _ n next (rw c at q) in
-          let (some, z) = test-failed (eqb high 0) _ _ first n next r in
-          spent-same (Grouped bytes (suc k)) z (give-more bytes k place high middle (ltb-true place (length bytes) begun) (ltb-false (getD bytes place 0) group c)
-          (omega (arith, eqb-false high 0 some)) (groups-give bytes k first (place + 1) high middle p))
-    ]
+groups-give bytes zero first = record { gives = λ place n next e. absurd (not-got e) }
+groups-give bytes (suc k) first = record {
+  gives = λ place n next e.
+      let (begun, q) = test-passed (ltb place (length bytes)) _ _ first n next e in
+      elim (test (ltb (getD bytes place 0) group)) [
+        | on c ↦ spent-same (Grouped bytes (suc k)) (rw c at q) (give-one bytes k place (ltb-true place (length bytes) begun) (ltb-true (getD bytes place 0) group c))
+        | off c ↦
+            let (high, middle, p, r) = on-got (groups k first bytes (place + 1)) _ n next (rw c at q) in
+            let (some, z) = test-failed (eqb high 0) _ _ first n next r in
+            spent-same (Grouped bytes (suc k)) z (give-more bytes k place high middle (ltb-true place (length bytes) begun) (ltb-false (getD bytes place 0) group c)
+            (omega (arith, eqb-false high 0 some)) (groups-give bytes k first .gives (place + 1) high middle p))
+      ];
+}
 
 -- ---- numbers of a file
 
 pub number-back : (n : ℕ) → n < numberEnd → (after : List ℕ) → Reads number n (numberBytes n) after
 unfolding number numberBytes
-number-back n h after before = groups-back 1 n h (length before) after before
+number-back n h after = record { reads = λ before. groups-back 1 n h (length before) after .reads before }
 
 pub number-bytes : (n : ℕ) → Bytes (numberBytes n)
 unfolding numberBytes
@@ -168,11 +175,11 @@ number-bytes-length n = (group-bytes-filled 1 n, group-bytes-few mostGroups n)
 
 pub number-gives : (bytes : List ℕ) → Gives bytes number (Grouped bytes mostGroups)
 unfolding number
-number-gives bytes place n next e = groups-give bytes mostGroups place place n next e
+number-gives bytes = record { gives = λ place n next e. groups-give bytes mostGroups place .gives place n next e }
 
 module _ (bytes : List ℕ) (place n next : ℕ) (e : number bytes place ≡ got n next) where
   from : Spent bytes place next (Grouped bytes mostGroups n)
-  from = number-gives bytes place n next e
+  from = number-gives bytes .gives place n next e
 
   pub number-below : n < numberEnd
   number-below = from .known .below

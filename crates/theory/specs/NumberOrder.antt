@@ -61,11 +61,12 @@ pair-step (d ∷ ds) i zero l = absurd (omega arith)
 pair-step (d ∷ ds) zero (suc j) l = sym (mul-add d (sumOf (take j ds)) (size ds j)) ∙ ap (λ n. d * n) (front-step ds j)
 pair-step (d ∷ ds) (suc i) (suc j) l = omega (arith, pair-step ds i j (omega arith))
 
-pair-turn : (sizes : List ℕ) (i : ℕ) → i < length sizes → pairStart sizes i (length sizes) ≡ pairStart sizes (suc i) (suc (suc i))
+-- After the last second variable comes the next first variable.
+pair-turn : (sizes : List ℕ) (i : ℕ) → pairStart sizes i (length sizes) ≡ pairStart sizes (suc i) (suc (suc i))
 unfolding pairStart
-pair-turn [] i l = refl
-pair-turn (d ∷ ds) zero l = omega (arith, pair-first ds, ap (λ n. d * sumOf n) (take-length ds))
-pair-turn (d ∷ ds) (suc i) l = ap (λ n. d * sumOf ds + n) (pair-turn ds i (omega arith))
+pair-turn [] i = refl
+pair-turn (d ∷ ds) zero = omega (arith, pair-first ds, ap (λ n. d * sumOf n) (take-length ds))
+pair-turn (d ∷ ds) (suc i) = ap (λ n. d * sumOf ds + n) (pair-turn ds i)
 
 pair-last : (sizes : List ℕ) → pairStart sizes (length sizes) (suc (length sizes)) ≡ pairsOf sizes
 unfolding pairStart pairsOf
@@ -75,6 +76,7 @@ pair-last (d ∷ ds) = ap (λ n. d * sumOf ds + n) (pair-last ds)
 -- ---- the numbers in order
 
 module _ (sizes : List ℕ) where
+  -- The atoms of a variable; the pairs of two variables; the same in a row that has a place for every second variable.
   abbrev values : ℕ → List ℕ
   values i = flat (size sizes i) (λ x. single sizes i x ∷ [])
 
@@ -86,7 +88,8 @@ module _ (sizes : List ℕ) where
 
   run-values : (i : ℕ) → Run (sumOf (take i sizes)) (values i) (sumOf (take i sizes) + size sizes i)
   unfolding single
-  run-values i = run-wider _ _ _ _ (values i) (omega arith) (omega arith) (run-flat (size sizes i) (λ x. single sizes i x ∷ []) (λ x. sumOf (take i sizes) + x) (λ x l. run-one _ _ _ (omega arith) (omega arith)))
+  run-values i = run-wider _ _ _ _ (values i) (omega arith) (omega arith)
+      (run-flat (size sizes i) (λ x. single sizes i x ∷ []) (λ x. sumOf (take i sizes) + x) (λ x l. run-one _ _ _ (omega arith) (omega arith)))
 
   run-cells : (i j : ℕ) → Run (atoms sizes + pairStart sizes i j) (pairs i j) (atoms sizes + (pairStart sizes i j + size sizes i * size sizes j))
   unfolding double
@@ -112,7 +115,7 @@ module _ (sizes : List ℕ) where
 
   length-row : (i : ℕ) → i < length sizes → pairStart sizes i (suc i) + length (flat (length sizes) (cells i)) ≡ pairStart sizes (suc i) (suc (suc i))
   length-row i l = sym (ap (λ n. n + length (flat (length sizes) (cells i))) (row-out sizes i 0 (omega arith)))
-      ∙ length-steps (length sizes) (cells i) (rowStart sizes i) (λ j k. length-cell i j) ∙ row-in sizes i (length sizes) l ∙ pair-turn sizes i l
+      ∙ length-steps (length sizes) (cells i) (rowStart sizes i) (λ j k. length-cell i j) ∙ row-in sizes i (length sizes) l ∙ pair-turn sizes i
 
   pub length-all : length (allFeatures sizes) ≡ features sizes
   unfolding allFeatures features atoms sumOf

@@ -49,22 +49,24 @@ test-failed false r reason place a next e = (refl, e)
 -- ---- what was written is read
 
 -- Where `written` stands, whatever is before it and with `after` behind it, a value is read and the place is then behind `written`.
-abbrev pub Reads : {A : Type 0} → Parser A → A → List ℕ → List ℕ → Type 0
-Reads parser a written after = (before : List ℕ) → parser (before ++ (written ++ after)) (length before) ≡ got a (length before + length written)
+pub record Reads {A : Type 0} (parser : Parser A) (a : A) (written after : List ℕ) : Type 0 where
+  pub reads : (before : List ℕ) → parser (before ++ (written ++ after)) (length before) ≡ got a (length before + length written)
 
-pub reads-give : {A : Type 0} (a : A) (after : List ℕ) → Reads (give a) a [] after
-reads-give a after before = ap (got a) (sym (add-zero (length before)))
+pub reads-give : {A : Type 0} {a : A} {after : List ℕ} → Reads (give a) a [] after
+reads-give {a = a} = record { reads = λ before. ap (got a) (sym (add-zero (length before))) }
 
-pub reads-then : {A B : Type 0} (first : Parser A) (rest : A → Parser B) (a : A) (b : B) (l m after : List ℕ)
+pub reads-then : {A B : Type 0} {first : Parser A} (rest : A → Parser B) {a : A} {b : B} {l m after : List ℕ}
     → Reads first a l (m ++ after) → Reads (rest a) b m after → Reads (then first rest) b (l ++ m) after
-reads-then first rest a b l m after h k before =
-    rw (append-assoc l m after, h before, length-append l m, ← add-assoc (length before) (length l) (length m)) (
-    rw (← length-append before l, ← append-assoc before l (m ++ after)) (k (before ++ l)))
+reads-then rest {l = l} {m = m} {after = after} h k = record {
+  reads = λ before.
+      rw (append-assoc l m after, h .reads before, length-append l m, ← add-assoc (length before) (length l) (length m)) (
+      rw (← length-append before l, ← append-assoc before l (m ++ after)) (k .reads (before ++ l)));
+}
 
 -- Nothing more is read.
-pub reads-map : {A B : Type 0} (first : Parser A) (f : A → B) (a : A) (l after : List ℕ)
+pub reads-map : {A B : Type 0} {first : Parser A} (f : A → B) {a : A} {l after : List ℕ}
     → Reads first a l after → Reads (then first (λ c. give (f c))) (f a) l after
-reads-map first f a l after h before = rw (h before)
+reads-map f h = record { reads = λ before. rw (h .reads before) }
 
 -- ---- what is known of what was read
 
@@ -100,17 +102,17 @@ spent-slice bytes place next P s h = sym (
     ∙ take-append-seam (s .spent) (drop next bytes))
 
 -- What is known of each value that is read anywhere in some bytes, together with the bytes that it was read from.
-abbrev pub Gives : {A : Type 0} → List ℕ → Parser A → (A → List ℕ → Type 0) → Type 0
-Gives {A} bytes parser P = (place : ℕ) (a : A) (next : ℕ) → parser bytes place ≡ got a next → Spent bytes place next (P a)
+pub record Gives {A : Type 0} (bytes : List ℕ) (parser : Parser A) (P : A → List ℕ → Type 0) : Type 0 where
+  pub gives : (place : ℕ) (a : A) (next : ℕ) → parser bytes place ≡ got a next → Spent bytes place next (P a)
 
-pub gives-then : {A B : Type 0} (bytes : List ℕ) (first : Parser A) (rest : A → Parser B) (P : A → List ℕ → Type 0) (Q : B → List ℕ → Type 0)
+pub gives-then : {A B : Type 0} {bytes : List ℕ} {first : Parser A} (rest : A → Parser B) {P : A → List ℕ → Type 0} (Q : B → List ℕ → Type 0)
     → Gives bytes first P → ((a : A) (l : List ℕ) → P a l → Gives bytes (rest a) (λ b m. Q b (l ++ m))) → Gives bytes (then first rest) Q
-gives-then {A} {B} bytes first rest P Q h k place b next e = join (on-got (first bytes place) (λ a middle. rest a bytes middle) b next e)
+gives-then {A} {B} {bytes} {first} rest {P} Q h k = record { gives = λ place b next e. join place b next (on-got (first bytes place) (λ a middle. rest a bytes middle) b next e) }
   where
-    join : (a : A) × (middle : ℕ) × (first bytes place ≡ got a middle) × (rest a bytes middle ≡ got b next) → Spent bytes place next (Q b)
-    join (a, middle, p, q) =
-        let s : Spent bytes place middle (P a) = h place a middle p in
-        let t : Spent bytes middle next (λ m. Q b (s .spent ++ m)) = k a (s .spent) (s .known) middle b next q in
+    join : (place : ℕ) (b : B) (next : ℕ) → (a : A) × (middle : ℕ) × (first bytes place ≡ got a middle) × (rest a bytes middle ≡ got b next) → Spent bytes place next (Q b)
+    join place b next (a, middle, p, q) =
+        let s : Spent bytes place middle (P a) = h .gives place a middle p in
+        let t : Spent bytes middle next (λ m. Q b (s .spent ++ m)) = k a (s .spent) (s .known) .gives middle b next q in
         record {
           spent = s .spent ++ t .spent;
           moved = omega (arith, s .moved, t .moved, length-append (s .spent) (t .spent));
@@ -119,18 +121,17 @@ gives-then {A} {B} bytes first rest P Q h k place b next e = join (on-got (first
         }
 
 -- Nothing more is read.
-pub gives-map : {A B : Type 0} (bytes : List ℕ) (first : Parser A) (f : A → B) (P : A → List ℕ → Type 0) (Q : B → List ℕ → Type 0)
+pub gives-map : {A B : Type 0} {bytes : List ℕ} {first : Parser A} (f : A → B) {P : A → List ℕ → Type 0} (Q : B → List ℕ → Type 0)
     → Gives bytes first P → ((a : A) (l : List ℕ) → P a l → Q (f a) l) → Gives bytes (then first (λ c. give (f c))) Q
-gives-map {A} {B} bytes first f P Q h k place b next e = join (on-got (first bytes place) (λ a middle. give (f a) bytes middle) b next e)
+gives-map {A} {B} {bytes} {first} f {P} Q h k = record { gives = λ place b next e. join place b next (on-got (first bytes place) (λ a middle. give (f a) bytes middle) b next e) }
   where
-    join : (a : A) × (middle : ℕ) × (first bytes place ≡ got a middle) × (got (f a) middle ≡ got b next) → Spent bytes place next (Q b)
-    join (a, middle, p, q) =
-        let s : Spent bytes place middle (P a) = h place a middle p in
+    join : (place : ℕ) (b : B) (next : ℕ) → (a : A) × (middle : ℕ) × (first bytes place ≡ got a middle) × (got (f a) middle ≡ got b next) → Spent bytes place next (Q b)
+    join place b next (a, middle, p, q) =
+        let s : Spent bytes place middle (P a) = h .gives place a middle p in
         spent-same Q q (record { spent = s .spent; moved = s .moved; there = s .there; known = k a (s .spent) (s .known) })
 
-pub gives-give : {A : Type 0} (bytes : List ℕ) (a : A) (P : A → List ℕ → Type 0) → P a [] → Gives bytes (give a) P
-gives-give bytes a P h place b next e =
-    spent-same P e (record { spent = []; moved = sym (add-zero place); there = refl; known = h })
+pub gives-give : {A : Type 0} {bytes : List ℕ} {a : A} (P : A → List ℕ → Type 0) → P a [] → Gives bytes (give a) P
+gives-give P h = record { gives = λ place b next e. spent-same P e (record { spent = []; moved = sym (add-zero place); there = refl; known = h }) }
 
 -- Bytes that were read from the first place on to the end are all of the bytes.
 pub spent-all : (bytes : List ℕ) (next : ℕ) (P : List ℕ → Type 0) → Spent bytes 0 next P → length bytes ≤ next → (next ≡ length bytes) × P bytes

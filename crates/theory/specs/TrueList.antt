@@ -90,10 +90,6 @@ some-pairs n p = true-together _ _ to back
     back e = let (j, k, r) = some-get n _ e in let (i, l, q) = some-get j _ r in
         some-at n _ i (omega arith) (some-at n (λ j. ltb i j && p i j) j k (and-both (ltb i j) (p i j) (lt-ltb i j l) q))
 
-listed-one : (a f : ℕ) → listed (a ∷ []) f ≡ eqb f a
-unfolding listed anyOf
-listed-one a f = or-false (eqb f a)
-
 listed-when : (b : Bool) (a f : ℕ) → listed (cond b (a ∷ []) []) f ≡ (b && eqb f a)
 unfolding listed anyOf
 listed-when true a f = or-false (eqb f a)
@@ -107,7 +103,7 @@ listed-true sizes x f = listed-join (flat v (λ i. single sizes i (x i) ∷ []))
     v = length sizes
 
     singles : listed (flat v (λ i. single sizes i (x i) ∷ [])) f ≡ some v (λ i. eqb f (single sizes i (x i)))
-    singles = listed-flat v _ f ∙ some-cong v _ _ (λ i l. listed-one _ f)
+    singles = listed-flat v _ f ∙ some-cong v _ _ (λ i l. listed-when true _ f)
 
     doubles : listed (flat v (λ i. flat v (λ j. cond (ltb i j) (double sizes i (x i) j (x j) ∷ []) []))) f ≡ some v (λ j. some j (λ i. eqb f (double sizes i (x i) j (x j))))
     doubles = listed-flat v _ f ∙ some-cong v _ _ (λ i l. listed-flat v _ f ∙ some-cong v _ _ (λ j k. listed-when (ltb i j) _ f)) ∙ some-pairs v (λ i j. eqb f (double sizes i (x i) j (x j)))

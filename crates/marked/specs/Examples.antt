@@ -1,0 +1,180 @@
+-- The worked examples of document 01, each by computing: a sentence of the document and the fact that it states.
+use Prim.Native.Nat.{ℕ, _-_}
+use mathlib.Core.Path.{_≡_, refl}
+use mathlib.Core.Bool.{true}
+use mathlib.Core.List.{List, [], _∷_, _++_, List·Memᴰ·head as here, List·Memᴰ·tail as there}
+use lib.ListN.{length, replicate}
+use Rattle.meaning.specs.Sets.{listed, table}
+use Rattle.meaning.specs.Task.{Operator, Task}
+use Rattle.meaning.specs.Feature.{features}
+use Rattle.meaning.specs.Slot.{SlotsOf}
+use Rattle.meaning.specs.Weight.{Meets}
+use Rattle.meaning.specs.Number.{Limit, Padded, Endless, got, fault, number, groupBytes, numberBytes}
+use Rattle.meaning.specs.File.{header, judgedTask, bytesOf, counted, entryBytes, operatorBytes, weightBytes, taskBytes}
+use Rattle.meaning.specs.Workspace.{wordsOf, packed, contentOf}
+use Rattle.meaning.specs.Answer.{done, refused, Opens}
+use Rattle.meaning.specs.Line.{separating, Says, Prints, digits, word, wordsIn, line}
+use Rattle.meaning.specs.Bay.{Bay, bayOf, occurrences, eachOnce, judgedBay, neighbours, slide, bayOperators, bayPairs, taskFor, bayTask, Builds}
+use Rattle.marked.specs.Decide.{computing, slotsIn, slots?, slots-of}
+use Rattle.marked.specs.Table.{finds, fileB, marked, marked-right}
+
+-- To name one of these on an `unfolding` line opens what the bytes of a task, the words of a workspace, a bay are computed with.
+writing : Unit {0}
+unfolding taskBytes counted bytesOf weightBytes operatorBytes entryBytes numberBytes groupBytes
+writing = tt
+
+opening : Unit {0}
+unfolding computing wordsOf packed table
+opening = tt
+
+building : Unit {0}
+unfolding computing writing judgedBay bayOf eachOnce occurrences taskFor bayPairs bayOperators neighbours slide
+building = tt
+
+-- ---- numbers
+
+-- "80 01 is 128"
+pub number-128 : number (128 ∷ 1 ∷ []) 0 ≡ got 128 2
+unfolding computing
+number-128 = refl
+
+-- "FF 7F is 16,383"
+pub number-16383 : number (255 ∷ 127 ∷ []) 0 ≡ got 16383 2
+unfolding computing
+number-16383 = refl
+
+-- "80 00 .. refused": it has a shorter form.
+pub number-padded : number (128 ∷ 0 ∷ []) 0 ≡ fault Padded 0
+unfolding computing
+number-padded = refl
+
+-- "and 80 80 01 are refused": its second byte says that one more follows.
+pub number-endless : number (128 ∷ 128 ∷ 1 ∷ []) 0 ≡ fault Endless 0
+unfolding computing
+number-endless = refl
+
+-- ---- limits
+
+-- "Sizes 64 and 62 give 4,094"
+pub features-64-62 : features (64 ∷ 62 ∷ []) ≡ 4094
+unfolding computing
+features-64-62 = refl
+
+-- "and are taken"
+pub taken-64-62 : header (2 ∷ 64 ∷ 62 ∷ []) 0 ≡ got (64 ∷ 62 ∷ []) 3
+unfolding computing
+taken-64-62 = refl
+
+-- "64 and 63 give 4,159"
+pub features-64-63 : features (64 ∷ 63 ∷ []) ≡ 4159
+unfolding computing
+features-64-63 = refl
+
+-- "and are refused": N breaks its limit, judged after the last size;
+pub limit-64-63 : header (2 ∷ 64 ∷ 63 ∷ []) 0 ≡ fault Limit 3
+unfolding computing
+limit-64-63 = refl
+
+-- that is number 2.
+pub refused-64-63 : Says (2 ∷ 64 ∷ 63 ∷ []) (refused 2)
+unfolding computing
+refused-64-63 = refl
+
+-- "64 variables of size 1 give 2,080"
+pub features-ones : features (replicate 64 1) ≡ 2080
+unfolding computing
+features-ones = refl
+
+-- ---- case B
+
+-- An operator that flips both digits, where they are x and y.
+abbrev flip : ℕ → ℕ → Operator
+flip x y = record { variable = 0; before = x; after = 1 - x } ∷ record { variable = 1; before = y; after = 1 - y } ∷ []
+
+-- "00 to 01, the four that flip both digits"
+abbrev pub taskB : Task
+taskB = record {
+  sizes = 2 ∷ 2 ∷ [];
+  start = 0 ∷ 0 ∷ [];
+  goal = 0 ∷ 1 ∷ [];
+  pairs = [];
+  operators = flip 0 0 ∷ flip 0 1 ∷ flip 1 1 ∷ flip 1 0 ∷ [];
+}
+
+-- "Case B's 37 bytes" are judged as this task,
+pub judged-B : judgedTask fileB ≡ got taskB 37
+unfolding computing
+judged-B = refl
+
+-- and are the bytes of this task.
+pub bytes-B : taskBytes taskB ≡ fileB
+unfolding writing
+bytes-B = refl
+
+-- "It prints `separated 2 0 2`.": the program's answer,
+pub prints-B : Prints fileB (done (separating (0 ∷ 2 ∷ [])))
+unfolding computing marked
+prints-B = marked-right (finds fileB (done (separating (0 ∷ 2 ∷ [])))) (there (here refl))
+
+-- and the bytes of its line.
+pub line-B : line (done (separating (0 ∷ 2 ∷ [])))
+    ≡ 115 ∷ 101 ∷ 112 ∷ 97 ∷ 114 ∷ 97 ∷ 116 ∷ 101 ∷ 100 ∷ 32 ∷ 50 ∷ 32 ∷ 48 ∷ 32 ∷ 50 ∷ 10 ∷ []
+unfolding line wordsIn word digits
+line-B = refl
+
+-- B's slots 0 and 4; the others are empty.
+abbrev pub rowsB : List (List ℕ)
+rowsB = (0 ∷ 1 ∷ 2 ∷ 3 ∷ 5 ∷ 6 ∷ []) ∷ [] ∷ [] ∷ [] ∷ (4 ∷ 5 ∷ 6 ∷ 7 ∷ []) ∷ []
+
+computed-B : slots? taskB rowsB ≡ true
+unfolding computing
+computed-B = refl
+
+-- These are the slots of document 01 for B's operators.
+pub slots-B : SlotsOf (features (taskB .sizes)) (Meets (taskB .sizes) (listed (taskB .pairs)) (taskB .operators)) (slotsIn rowsB)
+slots-B = slots-of taskB rowsB computed-B
+
+-- "B's workspace is 2, 2,2, 0,0, 0,1, 0, then 111,0,0,0,240,0,0,0."
+abbrev pub wordsB : List ℕ
+wordsB = 2 ∷ 2 ∷ 2 ∷ 0 ∷ 0 ∷ 0 ∷ 1 ∷ 0 ∷ 111 ∷ 0 ∷ 0 ∷ 0 ∷ 240 ∷ 0 ∷ 0 ∷ 0 ∷ []
+
+pub words-B : wordsOf (contentOf taskB (slotsIn rowsB)) ≡ wordsB
+unfolding opening
+words-B = refl
+
+-- An opening writes these words,
+pub opens-B : Opens fileB (replicate 16 0) (record { answer = done 16; lent = wordsB })
+unfolding opening
+opens-B = (slotsIn rowsB, slots-B, refl)
+
+-- and "further words are never touched".
+pub opens-further-B : Opens fileB (replicate 16 0 ++ (8 ∷ 9 ∷ [])) (record { answer = done 16; lent = wordsB ++ (8 ∷ 9 ∷ []) })
+unfolding opening
+opens-further-B = (slotsIn rowsB, slots-B, refl)
+
+-- ---- bays
+
+-- "The bay 1 by 2 from 0 1 to 1 0"
+abbrev pub bay12 : Bay
+bay12 = record { rows = 1; columns = 2; start = 0 ∷ 1 ∷ []; goal = 1 ∷ 0 ∷ [] }
+
+pub judged-bay : judgedBay (1 ∷ 2 ∷ 0 ∷ 1 ∷ 1 ∷ 0 ∷ []) ≡ got bay12 6
+unfolding building
+judged-bay = refl
+
+-- "gives 02 02 02 00 01 01 00 02 04 07 02 02 00 00 01 01 01 00 02 00 01 00 01 00 01."
+abbrev pub bytes12 : List ℕ
+bytes12 = 2 ∷ 2 ∷ 2 ∷ 0 ∷ 1 ∷ 1 ∷ 0 ∷ 2 ∷ 4 ∷ 7 ∷ 2 ∷ 2 ∷ 0 ∷ 0 ∷ 1 ∷ 1 ∷ 1 ∷ 0 ∷ 2 ∷ 0 ∷ 1 ∷ 0 ∷ 1 ∷ 0 ∷ 1 ∷ []
+
+pub bytes-bay : taskBytes (bayTask bay12) ≡ bytes12
+unfolding building
+bytes-bay = refl
+
+pub builds-bay : Builds (1 ∷ 2 ∷ 0 ∷ 1 ∷ 1 ∷ 0 ∷ []) (replicate 25 0) (record { answer = done 25; lent = bytes12 })
+unfolding building
+builds-bay = refl
+
+-- "Three by three has 192."
+pub operators-3-3 : length (bayOperators 9 (neighbours 3)) ≡ 192
+unfolding building
+operators-3-3 = refl

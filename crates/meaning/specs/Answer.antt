@@ -1,5 +1,5 @@
 -- What each call answers, and what it leaves in the memory that it was lent. Each call is a relation; that it allows one outcome is proved.
-use Prim.Native.Nat.{ℕ, suc, _<_, _≤_}
+use Prim.Native.Nat.{ℕ, suc, _<_}
 use mathlib.Core.Path.{_≡_}
 use mathlib.Core.Logic.{_≢_, _⊎_}
 use mathlib.Core.Bool.{Bool, true, false, not, cond}
@@ -7,7 +7,7 @@ use mathlib.Core.List.{List, [], _∷_, _++_}
 use lib.ListN.{length, getD, take, drop}
 use lib.Dec.{eqb, leb, ltb}
 use Rattle.meaning.specs.Sets.{Set, Slots, listed}
-use Rattle.meaning.specs.Task.{Entry, Operator, Task, Run, size}
+use Rattle.meaning.specs.Task.{Entry, Operator, Task, size}
 use Rattle.meaning.specs.Feature.{features, parity}
 use Rattle.meaning.specs.Pair.{idle, closed, holds}
 use Rattle.meaning.specs.Slot.{SlotsOf, Stored}

@@ -8,7 +8,7 @@ use lib.ListN.{length, set, replicate}
 use lib.Dec.{eqb, ltb}
 use Rattle.meaning.specs.Sets.{every, flat}
 use Rattle.meaning.specs.Limits.{leastSide, mostSide, leastSlots, mostSlots}
-use Rattle.meaning.specs.Task.{Entry, Operator, Task, applies, applied, value}
+use Rattle.meaning.specs.Task.{Operator, Task, applies, applied, value}
 use Rattle.meaning.specs.Feature.{double}
 use Rattle.meaning.specs.Number.{Limit, Mislabelled, Read, got, fault, onRead}
 use Rattle.meaning.specs.File.{Parser, give, then, inside, item, judge, ended, valuesOf, taskBytes}

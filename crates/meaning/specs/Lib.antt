@@ -13,3 +13,4 @@ pub mod Answer
 pub mod Bay
 pub mod Line
 pub mod History
+pub mod Facts

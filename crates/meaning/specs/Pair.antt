@@ -4,7 +4,7 @@ use mathlib.Core.Bool.{Bool, not, _&&_, _||_}
 use mathlib.Core.List.{List}
 use lib.ListN.{length}
 use Rattle.meaning.specs.Sets.{Set, some, anyOf, twoOf}
-use Rattle.meaning.specs.Task.{Entry, Operator, names, value, size}
+use Rattle.meaning.specs.Task.{Operator, names, value, size}
 use Rattle.meaning.specs.Feature.{both}
 
 -- The sizes of a task and the set of its listed pairs.

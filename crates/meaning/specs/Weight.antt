@@ -7,7 +7,7 @@ use mathlib.Core.List.{List, [], _∷_, List·Memᴰ as In}
 use lib.ListN.{length}
 use Rattle.meaning.specs.Sets.{Set, listed, wholeNumber}
 use Rattle.meaning.specs.Task.{Operator, Task, State, names, applies, applied, value}
-use Rattle.meaning.specs.Feature.{features, parity}
+use Rattle.meaning.specs.Feature.{parity}
 use Rattle.meaning.specs.Pair.{possible, idle}
 
 module _ (sizes : List ℕ) (pairs : Set) where

@@ -1,8 +1,6 @@
 -- The conditions of a list of operators: what their rows force, and the slots that stand for them.
 use Prim.Native.Nat.{ℕ}
-use mathlib.Core.Path.{_≡_}
 use mathlib.Core.Logic.{_↔_, inl, inr}
-use mathlib.Core.Bool.{false}
 use mathlib.Core.List.{List, [], _∷_, _++_, List·Memᴰ as In, List·Memᴰ·append-cases as append-cases, Memᴰ·append-left as append-left}
 use mathlib.Core.List.{Memᴰ·append-right as append-right, List·Memᴰ·eq-of-singleton as eq-of-singleton, List·Memᴰ·head as here}
 use mathlib.Core.Path.{refl}
@@ -11,9 +9,9 @@ use Rattle.meaning.specs.Task.{Operator, Entries}
 use Rattle.meaning.specs.Feature.{features}
 use Rattle.meaning.specs.Slot.{SlotsOf, Stored}
 use Rattle.meaning.specs.Weight.{Allows, Meets}
-use Rattle.theory.specs.Parity.{dot, dot-even}
+use Rattle.theory.specs.Parity.{dot-even}
 use Rattle.theory.specs.SlotsOf.{Closed, slots-along, stored-of-slots}
-use Rattle.theory.specs.Rows.{rowsOf, allows-rows}
+use Rattle.theory.specs.Rows.{allows-rows}
 
 module _ (sizes : List ℕ) (pairs : Set) where
   -- Every entry of every operator is in its range.

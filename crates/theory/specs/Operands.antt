@@ -1,10 +1,10 @@
 -- What an accepted operand of an edit is: an operator with its entries in range, or a state.
 use Prim.Native.Nat.{ℕ, zero, suc, _<_}
-use mathlib.Core.Path.{_≡_, refl, ap, sym, _∙_}
+use mathlib.Core.Path.{_≡_, refl}
 use mathlib.Core.Bool.{Bool, true, false, not}
 use mathlib.Core.List.{List, [], _∷_}
 use native.Mathlib.Omega.{arith}
-use lib.Dec.{eqb, ltb, leb}
+use lib.Dec.{eqb}
 use lib.ListN.{length}
 use borrow.Author.Tests.{eqb-true, ltb-true, leb-true, not-true}
 use Rattle.meaning.specs.Task.{Operator, State, Entries, value, size}
@@ -12,7 +12,7 @@ use Rattle.meaning.specs.Pair.{closed, holds}
 use Rattle.meaning.specs.Number.{Reason, Range, Held, Unclosed}
 use Rattle.meaning.specs.File.{inside}
 use Rattle.meaning.specs.Workspace.{Content}
-use Rattle.meaning.specs.Answer.{OperatorRecord, operatorIn, addOperator, replaceStart, Judged, fine, faulty, need, entriesJudged, valuesJudged, editJudged}
+use Rattle.meaning.specs.Answer.{OperatorRecord, operatorIn, addOperator, replaceStart, Judged, fine, need, entriesJudged, valuesJudged, editJudged}
 
 -- What is found fine has passed the test, and what comes after it is fine.
 pub need-fine : (b : Bool) (reason : Reason) (rest : Judged) → need b reason rest ≡ fine → (b ≡ true) × (rest ≡ fine)

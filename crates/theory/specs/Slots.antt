@@ -6,10 +6,10 @@ use mathlib.Core.Bool.{true, false, _&&_, cond}
 use native.Mathlib.Omega.{arith}
 use lib.Dec.{eqb, ltb}
 use borrow.Author.Tests.{lt-ltb, le-ltb, ne-eqb}
-use Rattle.meaning.specs.Sets.{_⊕_, Set, Slots, odd, shared}
+use Rattle.meaning.specs.Sets.{_⊕_, Set, Slots}
 use Rattle.theory.specs.Truth.{Test, on, off, test, less, same, more, order, clash, xor-false}
 use Rattle.theory.specs.Parity.{par, dot, par-one, par-none, dot-comm, dot-one, dot-xor, xor-dot, even-dot, dot-even}
-use Rattle.meaning.specs.Slot.{LeastMember, Reduced, Forced, SlotsOf, Stored}
+use Rattle.meaning.specs.Slot.{LeastMember, Reduced, Forced, Stored}
 
 -- ---- the least member
 

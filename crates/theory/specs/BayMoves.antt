@@ -1,9 +1,10 @@
 -- Bays over any neighbour relation: counts of labels, what a move leaves as it was, and that operators lead where moves lead.
 use Prim.Native.Nat.{ℕ, zero, suc, _+_, _-_, _*_, _/_, _%_, _<_, _≤_}
-use mathlib.Core.Path.{_≡_, refl, sym, ap, ap₂, _∙_}
-use mathlib.Core.Logic.{_≢_, _↔_}
+use mathlib.Core.Path.{_≡_, refl, sym, ap, ap₂, _∙_, subst}
+use mathlib.Core.Logic.{_≢_, _↔_, inl, inr}
 use mathlib.Core.Bool.{Bool, true, false, _&&_, _||_, cond, or-comm}
 use mathlib.Core.List.{List, [], _∷_, List·Memᴰ as In, List·Memᴰ·head as here, List·Memᴰ·tail as there, List·Memᴰ·eq-of-singleton as eq-of-singleton}
+use mathlib.Core.List.{List·Memᴰ·not-nil as not-nil, List·Memᴰ·cases-cons as cases-cons}
 use native.Mathlib.Omega.{arith}
 use native.Mathlib.Nat.{div-add-mod', suc-mul}
 use lib.ListN.{length, set, length-set, length-replicate, getD-replicate}
@@ -208,20 +209,44 @@ move-step n near s t S m = record {
 pub same-moves : (n : ℕ) (near : ℕ → ℕ → Bool) (start s t : List ℕ) → State (baySizes n) start → SameLabels start s → Move n near s t ↔ Step (bayOperators n near) s t
 same-moves n near start s t S a = (move-step n near s t (same-labels-state n start s S a), step-move n near s t)
 
--- Every state that operators reach from the start holds its labels.
-pub reached-labels : (n : ℕ) (near : ℕ → ℕ → Bool) (plan : List Operator) (s t : List ℕ) → length s ≡ n
-    → ((o : Operator) → In o plan → In o (bayOperators n near)) → Leads plan s t → SameLabels s t
-reached-labels n near [] s t e from leads = rw leads (same-labels-self t)
-reached-labels n near (o ∷ plan) s t e from leads =
-    same-labels-then s (applied o s) t once (reached-labels n near plan (applied o s) t (once .as-long ∙ e) (λ b m. from b (there m)) (leads .1))
+-- ---- many moves
+
+-- Moves, one after another, through the listed states.
+abbrev pub Moves : ℕ → (ℕ → ℕ → Bool) → List (List ℕ) → List ℕ → List ℕ → Type 0
+Moves n near [] s t = s ≡ t
+Moves n near (m ∷ ms) s t = Move n near s m × Moves n near ms m t
+
+-- Every state that moves reach from the start holds its labels.
+pub moves-labels : (n : ℕ) (near : ℕ → ℕ → Bool) (ms : List (List ℕ)) (s t : List ℕ) → length s ≡ n → Moves n near ms s t → SameLabels s t
+moves-labels n near [] s t e z = rw z (same-labels-self t)
+moves-labels n near (m ∷ ms) s t e (move, rest) = same-labels-then s m t once (moves-labels n near ms m t (once .as-long ∙ e) rest)
   where
-    once : SameLabels s (applied o s)
-    once = move-labels n near s (applied o s) e (step-move n near s (applied o s) (record { by = o; has = from o (here refl); able = leads .0; result = refl }))
+    once : SameLabels s m
+    once = move-labels n near s m e move
+
+-- A plan of operators is a way to move.
+pub plan-moves : (n : ℕ) (near : ℕ → ℕ → Bool) (plan : List Operator) (s t : List ℕ) → ((o : Operator) → In o plan → In o (bayOperators n near))
+    → Leads plan s t → (ms : List (List ℕ)) × Moves n near ms s t
+plan-moves n near [] s t from z = ([], z)
+plan-moves n near (o ∷ plan) s t from (able, rest) =
+    let (ms, moves) = plan-moves n near plan (applied o s) t (λ b m. from b (there m)) rest in
+    (applied o s ∷ ms, (step-move n near s (applied o s) (record { by = o; has = from o (here refl); able = able; result = refl }), moves))
+
+-- A way to move from a state of the bay is a plan of operators.
+pub moves-plan : (n : ℕ) (near : ℕ → ℕ → Bool) (ms : List (List ℕ)) (s t : List ℕ) → State (baySizes n) s → Moves n near ms s t
+    → (plan : List Operator) × ((o : Operator) → In o plan → In o (bayOperators n near)) × Leads plan s t
+moves-plan n near [] s t S z = ([], λ o m. absurd (not-nil m), z)
+moves-plan n near (m ∷ ms) s t S (move, rest) =
+    let (plan, from, leads) = moves-plan n near ms m t (same-labels-state n s m S (move-labels n near s m (bay-length n s S) move)) rest in
+    (step .by ∷ plan, λ o k. elim (cases-cons k) [ inl z ↦ rw z (step .has) | inr k' ↦ from o k' ], (step .able, subst (λ x. Leads plan x t) (step .result) leads))
+  where
+    step : Step (bayOperators n near) s m
+    step = move-step n near s m S move
 
 -- ---- neighbours share a side
 
 -- No slot is beside itself.
-neighbours-self : (columns p : ℕ) → neighbours columns p p ≡ false
+pub neighbours-self : (columns p : ℕ) → neighbours columns p p ≡ false
 unfolding neighbours
 neighbours-self columns p =
     or-neither (eqb (p / columns) (p / columns) && oneApart (p % columns) (p % columns)) _ (side (p / columns) (p % columns)) (side (p % columns) (p / columns))

@@ -1,13 +1,14 @@
 -- The pairs of a bay: they are in order, and two atoms of different slots are paired exactly when they have one label.
-use Prim.Native.Nat.{ℕ, suc, _+_, _*_, _<_, _≤_}
+use Prim.Native.Nat.{ℕ, _+_, _*_, _<_}
 use mathlib.Core.Path.{_≡_, refl, sym, ap, _∙_}
 use mathlib.Core.Logic.{_≢_}
-use mathlib.Core.Bool.{true, cond}
-use mathlib.Core.List.{List, [], _∷_, List·Memᴰ as In, List·Memᴰ·head as here, List·Memᴰ·eq-of-singleton as eq-of-singleton}
+use mathlib.Core.Bool.{true}
+use mathlib.Core.List.{[], _∷_, List·Memᴰ as In, List·Memᴰ·head as here, List·Memᴰ·eq-of-singleton as eq-of-singleton}
 use native.Mathlib.Omega.{arith}
 use native.Mathlib.Nat.{suc-mul}
+use lib.ListN.{length-replicate}
 use lib.Dec.{eqb, ltb}
-use borrow.Author.Tests.{eqb-true, eq-eqb, ltb-true, lt-ltb, le-ltb}
+use borrow.Author.Tests.{eqb-true, eq-eqb, ltb-true, lt-ltb}
 use Rattle.meaning.specs.Sets.{flat, listed}
 use Rattle.meaning.specs.Task.{Run, size}
 use Rattle.meaning.specs.Feature.{atoms, features, pairStart, double}
@@ -16,42 +17,10 @@ use Rattle.meaning.specs.Bay.{baySizes, bayPairs}
 use Rattle.theory.specs.Truth.{less, same, more, order}
 use Rattle.theory.specs.Search.{true-together, listed-in, in-listed}
 use Rattle.theory.specs.Flat.{in-flat, flat-in, in-when, when-in}
-use Rattle.theory.specs.Run.{run-none, run-one, run-wider, run-flat}
-use Rattle.theory.specs.Numbering.{pair-room, pair-along, pair-down, double-only, both-less, both-more}
+use Rattle.theory.specs.Run.{run-one, run-wider, run-flat}
+use Rattle.theory.specs.Numbering.{double-only, both-less, both-more}
+use Rattle.theory.specs.TrueList.{run-pairs}
 use Rattle.theory.specs.BayMoves.{eqb-mirror, bay-size, bay-below}
-
--- ---- runs of two-variable features
-
--- Where the pairs of variable i with the variables from j on begin.
-abbrev pairsFrom : List ℕ → ℕ → ℕ → ℕ
-pairsFrom sizes i j = atoms sizes + cond (ltb i j) (pairStart sizes i j) (pairStart sizes i (suc i))
-
-from-less : (sizes : List ℕ) (i j : ℕ) → i < j → pairsFrom sizes i j ≡ atoms sizes + pairStart sizes i j
-from-less sizes i j l = rw (lt-ltb i j l) refl
-
-from-more : (sizes : List ℕ) (i j : ℕ) → j ≤ i → pairsFrom sizes i j ≡ atoms sizes + pairStart sizes i (suc i)
-from-more sizes i j l = rw (le-ltb i j l) refl
-
--- Runs within the blocks of numbers of two variables each, one after another, are a run of two-variable features.
-module _ (sizes : List ℕ) (n : ℕ) (blocks : ℕ → ℕ → List ℕ)
-    (block : (i j : ℕ) → i < j → j < n → Run (atoms sizes + pairStart sizes i j) (blocks i j) (atoms sizes + (pairStart sizes i j + size sizes i * size sizes j))) where
-  run-block : (i j : ℕ) → j < n → Run (pairsFrom sizes i j) (cond (ltb i j) (blocks i j) []) (pairsFrom sizes i (suc j))
-  run-block i j h = elim (order i j) [
-    | less l ↦ rw (from-less sizes i (suc j) (omega arith), lt-ltb i j l) (run-wider _ _ _ _ _ (omega arith) (omega (arith, pair-along sizes i j (suc j) l (omega arith))) (block i j l h))
-    | same q ↦ rw (from-less sizes i (suc j) (omega arith), le-ltb i j (omega arith), q) (run-none _ _ (omega arith))
-    | more l ↦ rw (from-more sizes i (suc j) (omega arith), le-ltb i j (omega arith)) (run-none _ _ (omega arith))
-  ]
-
-  run-row : (i : ℕ) → i < n → Run (atoms sizes + pairStart sizes i (suc i)) (flat n (λ j. cond (ltb i j) (blocks i j) [])) (atoms sizes + pairStart sizes (suc i) (suc (suc i)))
-  run-row i l = run-wider _ _ _ _ _ (omega (arith, from-more sizes i 0 (omega arith)))
-      (omega (arith, from-less sizes i n l, pair-down sizes i n (suc i) (suc (suc i)) l (omega arith) (omega arith)))
-      (run-flat n _ (pairsFrom sizes i) (run-block i))
-
-  pub run-pairs : Run (atoms sizes) (flat n (λ i. flat n (λ j. cond (ltb i j) (blocks i j) []))) (features sizes)
-  unfolding features
-  run-pairs = run-wider _ _ _ _ _ (omega arith) (omega (arith, pair-room sizes n (suc n) (omega arith))) (run-flat n _ (λ i. atoms sizes + pairStart sizes i (suc i)) run-row)
-
--- ---- the pairs of a bay
 
 -- The features that put one label in the slots i < j.
 label-run : (n i j : ℕ) → i < j → j < n → Run (atoms (baySizes n) + pairStart (baySizes n) i j) (flat n (λ label. double (baySizes n) i label j label ∷ []))
@@ -63,7 +32,7 @@ label-run n i j l h = rw (bay-size n i (omega arith), bay-size n j h)
 
 pub pairs-run : (n : ℕ) → Run (atoms (baySizes n)) (bayPairs n) (features (baySizes n))
 unfolding bayPairs
-pairs-run n = run-pairs (baySizes n) n _ (label-run n)
+pairs-run n = rw (length-replicate n n) at (run-pairs (baySizes n) _ (λ i j l h. label-run n i j l (rw (length-replicate n n) at h)))
 
 pub in-pairs : (n i j label : ℕ) → i < j → j < n → label < n → In (double (baySizes n) i label j label) (bayPairs n)
 unfolding bayPairs

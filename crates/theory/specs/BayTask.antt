@@ -1,26 +1,33 @@
 -- The task of a bay keeps every rule of tasks, over any relation that sets no slot beside itself; so what a bay file says can be written.
 use Prim.Native.Nat.{ℕ, suc, _-_, _*_, _<_, _≤_}
-use mathlib.Core.Path.{_≡_, refl, sym, _∙_}
-use mathlib.Core.Logic.{_≢_, inl, inr}
+use mathlib.Core.Path.{_≡_, refl, sym, _∙_, subst}
+use mathlib.Core.Logic.{_≢_, _↔_, inl, inr}
 use mathlib.Core.Bool.{Bool, true, false, not, _&&_, _||_, cond, or-false}
 use mathlib.Core.List.{List, [], List·Memᴰ as In}
 use native.Mathlib.Omega.{arith}
 use native.Mathlib.Nat.{le-trans}
 use lib.ListN.{length, length-replicate}
 use lib.Dec.{eqb, leb, ltb}
-use borrow.Author.Tests.{eqb-false, ne-eqb, lt-ltb, le-ltb}
+use borrow.Author.Tests.{eqb-true, eqb-false, ne-eqb, lt-ltb, le-ltb}
 use Rattle.meaning.specs.Sets.{some, every, anyOf, twoOf, listed}
-use Rattle.meaning.specs.Limits.{leastSlots, mostSlots, mostFeatures, numberEnd}
+use Rattle.meaning.specs.Limits.{leastSide, mostSide, leastSlots, mostSlots, mostFeatures, numberEnd}
 use Rattle.meaning.specs.Task.{Operator, State, IsOperator, names, value, size}
 use Rattle.meaning.specs.Feature.{sumOf, pairsOf, atoms, features}
 use Rattle.meaning.specs.Pair.{paired, possible, idle, clashingAfter, uncovered, closed, holds}
-use Rattle.meaning.specs.File.{InLimits, Writable}
-use Rattle.meaning.specs.Bay.{baySizes, occurrences, exchange, slide, bayOperators, bayPairs, taskFor}
+use Rattle.meaning.specs.Number.{Reason, Limit, Mislabelled, got}
+use Rattle.meaning.specs.File.{judgedTask, taskBytes, inside, item, judge, valuesOf, InLimits, Writable}
+use Rattle.meaning.specs.Weight.{Unsolvable}
+use Rattle.meaning.specs.Bay.{Move, Step, SameLabels, Bay, slotCount, bayOf, eachOnce, judgedBay, neighbours, bayTask, baySizes, occurrences, exchange, slide, bayOperators, bayPairs, taskFor}
 use Rattle.theory.specs.Truth.{on, off, test, less, same, more, order}
-use Rattle.theory.specs.Search.{and-none-right, or-right, or-none-left, or-none-right, some-not, any-not}
+use Rattle.theory.specs.Search.{and-left, and-right, every-at, and-none-right, or-right, or-none-left, or-none-right, some-not, any-not}
 use Rattle.theory.specs.Flat.{in-two, flat-few}
 use Rattle.theory.specs.Tells.{tells-every, tells-and, tells-le, tells-lt}
-use Rattle.theory.specs.BayMoves.{bay-size, bay-below, bay-length, bay-value, one-only, Slide, operator-slide}
+use Rattle.theory.specs.Reading.{not-got, got-value, got-next, on-got, test-passed}
+use Rattle.theory.specs.Spent.{Gives, Ends, gives-then, gives-give, gives-ended, ends-then, ends-ended}
+use Rattle.theory.specs.Parts.{item-said, values-said}
+use Rattle.theory.specs.Accepted.{whole-said}
+use Rattle.theory.specs.ReadBack.{read-back}
+use Rattle.theory.specs.BayMoves.{same-moves, Moves, moves-plan, plan-moves, neighbours-apart, bay-size, bay-below, bay-length, bay-value, one-only, Slide, operator-slide}
 use Rattle.theory.specs.BayPairs.{pairs-run, paired-bay}
 
 -- ---- limits
@@ -140,7 +147,8 @@ bay-free n s S once = some-not _ _ (λ j l. let k : j < n = rw (length-replicate
     apart : (i j : ℕ) → i < j → j < n → paired (baySizes n) (listed (bayPairs n)) i (value s i) j (value s j) ≡ false
     apart i j l k =
         paired-bay n i (value s i) j (value s j) (omega arith) (omega arith) k (bay-value n s S i (omega arith)) (bay-value n s S j k)
-        ∙ ne-eqb (value s i) (value s j) (λ q. omega (arith, one-only (value s j) s i j (once (value s j) (bay-value n s S j k)) (omega (arith, bay-length n s S)) (omega (arith, bay-length n s S)) q refl))
+        ∙ ne-eqb (value s i) (value s j) (λ q.
+        omega (arith, one-only (value s j) s i j (once (value s j) (bay-value n s S j k)) (omega (arith, bay-length n s S)) (omega (arith, bay-length n s S)) q refl))
 
 pub bay-writable : (n : ℕ) (near : ℕ → ℕ → Bool) (start goal : List ℕ) → leastSlots ≤ n → n ≤ mostSlots → ((p q : ℕ) → near p q ≡ true → p ≢ q)
     → State (baySizes n) start → State (baySizes n) goal → ((label : ℕ) → label < n → occurrences label start ≤ 1) → Writable (taskFor n near start goal)
@@ -157,3 +165,96 @@ bay-writable n near start goal h k apart S G once = record {
   };
   countable = omega (arith, operators-most n near, bay-room n k);
 }
+
+-- ---- what an accepted bay file says
+
+-- A bay that keeps every rule that is judged while it is read: "Rows and columns are each 1 to 9; rows times columns, n, is 2 to 9", "labels run
+-- from 0 to n-1".
+pub record ReadableBay (b : Bay) : Type 0 where
+  pub rows-limit : (leastSide ≤ b .rows) × (b .rows ≤ mostSide)
+  pub columns-limit : (leastSide ≤ b .columns) × (b .columns ≤ mostSide)
+  pub slots-limit : (leastSlots ≤ slotCount b) × (slotCount b ≤ mostSlots)
+  pub start-state : State (baySizes (slotCount b)) (b .start)
+  pub goal-state : State (baySizes (slotCount b)) (b .goal)
+
+-- "each once in each list"
+pub record AcceptedBay (b : Bay) : Type 0 where
+  pub readable : ReadableBay b
+  pub start-once : (label : ℕ) → label < slotCount b → occurrences label (b .start) ≡ 1
+  pub goal-once : (label : ℕ) → label < slotCount b → occurrences label (b .goal) ≡ 1
+
+judge-said : (bytes : List ℕ) (t : Bool) (reason : Reason) → Gives bytes (judge t reason) (λ u l. t ≡ true)
+unfolding judge
+judge-said bytes true reason = gives-give (λ u l. true ≡ true) refl
+judge-said bytes false reason = record { gives = λ place u next e. absurd (not-got e) }
+
+pub bay-said : (bytes : List ℕ) → Gives bytes bayOf (λ b l. ReadableBay b)
+unfolding bayOf
+bay-said bytes =
+    gives-then _ _ (item-said bytes leastSide (suc mostSide) Limit) (λ r l₁ h₁.
+    gives-then _ _ (item-said bytes leastSide (suc mostSide) Limit) (λ c l₂ h₂.
+    gives-then _ _ (judge-said bytes (inside leastSlots (suc mostSlots) (r * c)) Limit) (λ u l₃ h₃.
+    gives-then _ _ (values-said bytes (baySizes (r * c))) (λ start l₄ h₄.
+    gives-ended (λ goal. record { rows = r; columns = c; start = start; goal = goal }) _ (values-said bytes (baySizes (r * c))) (λ goal l₅ h₅. record {
+      rows-limit = omega (arith, h₁ .0, h₁ .1);
+      columns-limit = omega (arith, h₂ .0, h₂ .1);
+      slots-limit = omega (arith, tells-and (tells-le leastSlots (r * c)) (tells-lt (r * c) (suc mostSlots)) .yes h₃);
+      start-state = h₄ .0;
+      goal-state = h₅ .0;
+    })))))
+
+bay-ends : (bytes : List ℕ) → Ends bytes bayOf
+unfolding bayOf
+bay-ends bytes =
+    ends-then (item (inside leastSide (suc mostSide)) Limit) _ (λ r. ends-then (item (inside leastSide (suc mostSide)) Limit) _ (λ c.
+    ends-then (judge (inside leastSlots (suc mostSlots) (r * c)) Limit) _ (λ u.
+    ends-then (valuesOf (baySizes (r * c))) _ (λ start. ends-then (valuesOf (baySizes (r * c))) _ (λ goal. ends-ended _)))))
+
+module _ (bytes : List ℕ) (b : Bay) (next : ℕ) (e : judgedBay bytes ≡ got b next) where
+  bay-all : (next ≡ length bytes) × AcceptedBay b
+  unfolding judgedBay eachOnce
+  bay-all =
+      let (c, middle, p, q) = on-got (bayOf bytes 0) _ b next e in
+      let (t, z) = test-passed (eachOnce (slotCount c) (c .start) && eachOnce (slotCount c) (c .goal)) _ Mislabelled 0 b next q in
+      let (end, readable) = whole-said bytes bayOf (λ d l. ReadableBay d) c middle (bay-said bytes) (bay-ends bytes) p in (
+        sym (got-next z) ∙ end,
+        subst AcceptedBay (got-value z) (record {
+          readable = readable;
+          start-once = once (slotCount c) (c .start) (and-left _ (eachOnce (slotCount c) (c .goal)) t);
+          goal-once = once (slotCount c) (c .goal) (and-right (eachOnce (slotCount c) (c .start)) _ t);
+        }),
+      )
+    where
+      once : (n : ℕ) (labels : List ℕ) → eachOnce n labels ≡ true → (label : ℕ) → label < n → occurrences label labels ≡ 1
+      once n labels t label l = eqb-true (occurrences label labels) 1 (every-at n _ t label l)
+
+  pub accepted-bay : AcceptedBay b
+  accepted-bay = bay-all .1
+
+  -- No byte is left over.
+  pub bay-end : next ≡ length bytes
+  bay-end = bay-all .0
+
+  -- The task of an accepted bay file can be written.
+  pub bay-accepted : Writable (bayTask b)
+  bay-accepted =
+      let bay = accepted-bay .readable in
+      bay-writable (slotCount b) (neighbours (b .columns)) (b .start) (b .goal) (bay .slots-limit .0) (bay .slots-limit .1) (neighbours-apart (b .columns))
+      (bay .start-state) (bay .goal-state) (λ label l. omega (arith, accepted-bay .start-once label l))
+
+  -- Its bytes are read as that task.
+  pub bay-read : judgedTask (taskBytes (bayTask b)) ≡ got (bayTask b) (length (taskBytes (bayTask b)))
+  bay-read = read-back (bayTask b) bay-accepted
+
+  -- "From every state that holds the start's labels, each as often, one operator leads to exactly the states that one move leads to."
+  pub bay-moves : (s t : List ℕ) → SameLabels (b .start) s → Move (slotCount b) (neighbours (b .columns)) s t ↔ Step (bayTask b .operators) s t
+  unfolding taskFor
+  bay-moves s t a = same-moves (slotCount b) (neighbours (b .columns)) (b .start) s t (accepted-bay .readable .start-state) a
+
+  -- The task is unsolvable exactly when no moves lead from the start to the goal.
+  pub bay-unsolvable : Unsolvable (bayTask b) ↔ ((ms : List (List ℕ)) → Moves (slotCount b) (neighbours (b .columns)) ms (b .start) (b .goal) → ⊥)
+  unfolding taskFor
+  bay-unsolvable = (
+    λ no ms moves. let (plan, from, leads) = moves-plan _ _ ms (b .start) (b .goal) (accepted-bay .readable .start-state) moves in no plan from leads,
+    λ no plan from leads. let (ms, moves) = plan-moves _ _ plan (b .start) (b .goal) from leads in no ms moves,
+  )

@@ -1,26 +1,31 @@
--- The words of a content: how many there are, where each part is read back, that they fix the content, and what a changed part leaves as it was.
-use Prim.Native.Nat.{ℕ, zero, suc, _+_, _-_, _*_, _<_, _≤_}
-use mathlib.Core.Path.{_≡_, refl, ap, ap₂, sym, _∙_, fun-ext}
+-- The words of a content: how many there are, where each part is read back, that they fix the content, when a workspace is well formed,
+-- what a changed part leaves as it was, and that opening and accepted edits leave a proper content.
+use Prim.Native.Nat.{ℕ, zero, suc, _+_, _-_, _*_, _<_, _≤_, min}
+use mathlib.Core.Path.{_≡_, refl, ap, ap₂, sym, _∙_, subst}
 use mathlib.Core.Logic.{_⊎_, inl, inr}
-use mathlib.Core.Bool.{false}
-use mathlib.Core.List.{List, _∷_, _++_, append-assoc}
+use mathlib.Core.Bool.{Bool, true, false, not, _&&_}
+use mathlib.Core.List.{List, [], _∷_, _++_, append-assoc}
 use native.Mathlib.Omega.{arith}
-use lib.Dec.{ltb}
-use lib.ListN.{length, getD, take, drop, length-append, List·getD-append}
-use lib.Seq.{take-at, drop-at, drop-drop, getD-take, getD-drop, getD-append-add, length-take-le}
-use borrow.Author.Tests.{ltb-true, ltb-false}
-use Rattle.meaning.specs.Sets.{Set, Slots, flat}
-use Rattle.meaning.specs.Task.{Task}
+use native.Mathlib.Nat.{mul-le-mul-right}
+use lib.Dec.{eqb, leb, ltb}
+use lib.ListN.{length, getD, take, drop, length-append, length-take, length-drop, take-append-drop, List·getD-append}
+use lib.Seq.{take-at, drop-at, drop-drop, getD-take, getD-drop, getD-append-add, length-take-le, drop-cons}
+use borrow.Author.Tests.{eqb-true, ltb-true, ltb-false, lt-ltb, leb-true, not-true}
+use Rattle.meaning.specs.Sets.{Slots, flat}
+use Rattle.meaning.specs.Task.{Operator, Task, State, Entries, IsOperator, size}
 use Rattle.meaning.specs.Feature.{features}
 use Rattle.meaning.specs.Slot.{Reduced}
-use Rattle.meaning.specs.File.{Acceptable}
-use Rattle.meaning.specs.Workspace.{wordsFor, sizesAt, startAt, goalAt, pairsAt, slotsAt, wordsDue, packed, Content, wordsOf, Proper, WellFormed, contentOf}
-use Rattle.theory.specs.Truth.{Test, on, off, test, less, same, more, order}
-use Rattle.theory.specs.Search.{listed-in}
-use Rattle.theory.specs.Flat.{length-flat}
+use Rattle.meaning.specs.Pair.{closed, holds}
+use Rattle.meaning.specs.Number.{Reason, Range, Unordered, Held, Unclosed}
+use Rattle.meaning.specs.File.{inside, Acceptable}
+use Rattle.meaning.specs.Workspace.{has, wordsFor, sizesAt, startAt, goalAt, pairsAt, slotsAt, wordsDue, packed, Content, wordsOf, Proper, WellFormed, contentOf}
+use Rattle.meaning.specs.Answer.{OperatorRecord, operatorIn, Edit, addOperator, replaceStart, replaceGoal, Judged, fine, need, entriesJudged, valuesJudged, editJudged, Changes}
+use Rattle.theory.specs.Truth.{on, off, test, less, same, more, order}
+use Rattle.theory.specs.Search.{and-left, listed-in}
+use Rattle.theory.specs.Flat.{flat-cong, length-flat}
 use Rattle.theory.specs.Run.{run-in}
 use Rattle.theory.specs.Slots.{slot-past}
-use Rattle.theory.specs.Words.{length-packed, packed-same}
+use Rattle.theory.specs.Words.{Words, length-packed, packed-holds, packed-has, packed-cong}
 
 -- ---- lists that begin with a known part
 
@@ -40,6 +45,16 @@ module _ {A : Type 0} where
     | same q ↦ rw (q, drop-at (flat n g) (g n ++ r) (n * b) (length-flat n b g (λ j _. h j))) (take-at (g n) r b (h n))
     | more k ↦ absurd (omega arith)
   ])
+
+  part-cut : (l : List A) (k n : ℕ) → take n (drop k l) ++ drop (k + n) l ≡ drop k l
+  part-cut l k n = rw (← (drop-drop n k l)) (take-append-drop n (drop k l))
+
+  -- A list cut into parts that are equally long, and the rest.
+  flat-cut : (n b at : ℕ) (l : List A) → flat n (λ i. take b (drop (at + i * b) l)) ++ drop (at + n * b) l ≡ drop at l
+  unfolding flat
+  flat-cut zero b at l = let e : at + zero * b ≡ at = omega arith in rw e
+  flat-cut (suc n) b at l = let e : at + suc n * b ≡ (at + n * b) + b = omega arith in
+      rw (append-assoc (flat n (λ i. take b (drop (at + i * b) l))) (take b (drop (at + n * b) l)) (drop (at + suc n * b) l), e, part-cut l (at + n * b) b) (flat-cut n b at l)
 
   -- Lists that differ in one part: the second is the first with that part written over.
   part-changed : (l l' front old new rest : List A) (at n : ℕ) → l ≡ front ++ (old ++ rest) → l' ≡ front ++ (new ++ rest) → length front ≡ at → length old ≡ n
@@ -140,7 +155,23 @@ module _ (c : Content) (further : List ℕ) where
       pub read-further : drop (wordsDue (variablesIn c) (featuresIn c)) (wordsOf c ++ further) ≡ further
       read-further = part-next (wordsOf c ++ further) (slotWords (featuresIn c) (c .slots)) further (slotsAt (variablesIn c) (featuresIn c)) _ at-slots (length-slots (featuresIn c) (c .slots))
 
--- ---- the words fix the content
+-- ---- the content in a list of words, which need not be in order
+
+unfoldable pub sizesIn : List ℕ → List ℕ
+sizesIn ws = take (getD ws 0 0) (drop sizesAt ws)
+
+-- The content in words, given the sizes; slots that are not there are empty.
+abbrev pub contentBy : List ℕ → List ℕ → Content
+contentBy sizes ws = record {
+  sizes = sizes;
+  start = take (length sizes) (drop (startAt (length sizes)) ws);
+  goal = take (length sizes) (drop (goalAt (length sizes)) ws);
+  pairs = has (take (wordsFor (features sizes)) (drop (pairsAt (length sizes)) ws));
+  slots = λ i f. ltb i (features sizes) && has (take (wordsFor (features sizes)) (drop (slotsAt (length sizes) (features sizes) + i * wordsFor (features sizes)) ws)) f;
+}
+
+abbrev pub contentIn : List ℕ → Content
+contentIn ws = contentBy (sizesIn ws) ws
 
 pub pairs-past : {c : Content} → Proper c → (f : ℕ) → featuresIn c ≤ f → c .pairs f ≡ false
 pairs-past {c} p f l = elim (test (c .pairs f)) [ on e ↦ absurd (omega (arith, p .pairs f e)) | off e ↦ e ]
@@ -148,62 +179,117 @@ pairs-past {c} p f l = elim (test (c .pairs f)) [ on e ↦ absurd (omega (arith,
 slot-beyond : {n : ℕ} {slots : Slots} → Reduced n slots → (i f : ℕ) → n ≤ i → slots i f ≡ false
 slot-beyond {n} {slots} R i f l = elim (test (slots i f)) [ on e ↦ absurd (omega (arith, R .within i f e)) | off e ↦ e ]
 
--- Sets of features below n with the same words are equal.
-sets-same : (n : ℕ) (a b : Set) → ((f : ℕ) → n ≤ f → a f ≡ false) → ((f : ℕ) → n ≤ f → b f ≡ false) → packed n a ≡ packed n b → a ≡ b
-sets-same n a b h k e = fun-ext (λ f. elim (test (ltb f n)) [
-  | on t ↦ packed-same n a b e f (ltb-true f n t)
-  | off t ↦ h f (ltb-false f n t) ∙ sym (k f (ltb-false f n t))
-])
+-- The words of a proper content are read back as that content.
+pub content-back : {c : Content} (further : List ℕ) → Proper c → contentIn (wordsOf c ++ further) ≡ c
+unfolding sizesIn
+content-back {c} further p = ap (λ sizes. contentBy sizes (wordsOf c ++ further)) sizes ∙ parts
+  where
+    sizes : sizesIn (wordsOf c ++ further) ≡ c .sizes
+    sizes = rw (read-count c further) (read-sizes c further)
 
-module _ {c c' : Content} (p : Proper c) (p' : Proper c') (further further' : List ℕ) (e : wordsOf c ++ further ≡ wordsOf c' ++ further') where
-  sizes-same : c .sizes ≡ c' .sizes
-  sizes-same = sym (read-sizes c further) ∙ ap₂ (λ v l. take v (drop sizesAt l)) count-same e ∙ read-sizes c' further'
-    where
-      count-same : variablesIn c ≡ variablesIn c'
-      count-same = sym (read-count c further) ∙ ap (λ l. getD l 0 0) e ∙ read-count c' further'
+    pairs : (f : ℕ) → contentBy (c .sizes) (wordsOf c ++ further) .pairs f ≡ c .pairs f
+    pairs f = rw (read-pairs c further (p .start .full) (p .goal .full)) (packed-holds (featuresIn c) (c .pairs) f (pairs-past p f))
 
-  start-same : c .start ≡ c' .start
-  start-same = sym (read-start c further (p .start .full))
-      ∙ ap₂ (λ sizes l. take (length sizes) (drop (startAt (length sizes)) l)) sizes-same e
-      ∙ read-start c' further' (p' .start .full)
+    slots : (i f : ℕ) → contentBy (c .sizes) (wordsOf c ++ further) .slots i f ≡ c .slots i f
+    slots i f = elim (test (ltb i (featuresIn c))) [
+      | on t ↦ rw (t, read-slot c further (p .start .full) (p .goal .full) i (ltb-true i (featuresIn c) t)) (packed-holds (featuresIn c) (c .slots i) f (slot-past (p .slots) i f))
+      | off t ↦ rw t (sym (slot-beyond (p .slots) i f (ltb-false i (featuresIn c) t)))
+    ]
 
-  goal-same : c .goal ≡ c' .goal
-  goal-same = sym (read-goal c further (p .start .full) (p .goal .full))
-      ∙ ap₂ (λ sizes l. take (length sizes) (drop (goalAt (length sizes)) l)) sizes-same e
-      ∙ read-goal c' further' (p' .start .full) (p' .goal .full)
+    parts : contentBy (c .sizes) (wordsOf c ++ further) ≡ c
+    parts i = record {
+      sizes = c .sizes;
+      start = read-start c further (p .start .full) i;
+      goal = read-goal c further (p .start .full) (p .goal .full) i;
+      pairs = λ f. pairs f i;
+      slots = λ n f. slots n f i;
+    }
 
-  total-same : featuresIn c ≡ featuresIn c'
-  total-same = ap features sizes-same
+-- Proper contents with the same words, and with any words after them, are equal, and so are the words after them.
+pub contents-same : {c c' : Content} → Proper c → Proper c' → (further further' : List ℕ) → wordsOf c ++ further ≡ wordsOf c' ++ further' → (c ≡ c') × (further ≡ further')
+contents-same {c} {c'} p p' further further' e = (whole, rest)
+  where
+    whole : c ≡ c'
+    whole = sym (content-back further p) ∙ ap contentIn e ∙ content-back further' p'
 
-  pairs-same : c .pairs ≡ c' .pairs
-  pairs-same = sets-same (featuresIn c) (c .pairs) (c' .pairs) (pairs-past p) (λ f l. pairs-past p' f (rw total-same at l))
-      (sym (read-pairs c further (p .start .full) (p .goal .full))
-      ∙ ap₂ (λ sizes l. take (wordsFor (features sizes)) (drop (pairsAt (length sizes)) l)) sizes-same e
-      ∙ read-pairs c' further' (p' .start .full) (p' .goal .full)
-      ∙ ap (λ n. packed n (c' .pairs)) (sym total-same))
-
-  slot-same : (i : ℕ) → Test (ltb i (featuresIn c)) → c .slots i ≡ c' .slots i
-  slot-same i (on t) = let l : i < featuresIn c = ltb-true i (featuresIn c) t in
-      sets-same (featuresIn c) (c .slots i) (c' .slots i) (slot-past (p .slots) i) (λ f k. slot-past (p' .slots) i f (rw total-same at k))
-      (sym (read-slot c further (p .start .full) (p .goal .full) i l)
-      ∙ ap₂ (λ sizes l. take (wordsFor (features sizes)) (drop (slotsAt (length sizes) (features sizes) + i * wordsFor (features sizes)) l)) sizes-same e
-      ∙ read-slot c' further' (p' .start .full) (p' .goal .full) i (rw total-same at l)
-      ∙ ap (λ n. packed n (c' .slots i)) (sym total-same))
-  slot-same i (off t) = let l : featuresIn c ≤ i = ltb-false i (featuresIn c) t in
-      fun-ext (λ f. slot-beyond (p .slots) i f l ∙ sym (slot-beyond (p' .slots) i f (rw total-same at l)))
-
-  further-same : further ≡ further'
-  further-same = sym (read-further c further (p .start .full) (p .goal .full))
-      ∙ ap₂ (λ sizes l. drop (wordsDue (length sizes) (features sizes)) l) sizes-same e
-      ∙ read-further c' further' (p' .start .full) (p' .goal .full)
-
-  -- Proper contents with the same words, and with any words after them, are equal, and so are the words after them.
-  pub contents-same : (c ≡ c') × (further ≡ further')
-  contents-same = (λ i. record { sizes = sizes-same i; start = start-same i; goal = goal-same i; pairs = pairs-same i; slots = λ n. slot-same n (test (ltb n (featuresIn c))) i }, further-same)
+    rest : further ≡ further'
+    rest = sym (read-further c further (p .start .full) (p .goal .full))
+        ∙ ap₂ (λ d l. drop (wordsDue (variablesIn d) (featuresIn d)) l) whole e
+        ∙ read-further c' further' (p' .start .full) (p' .goal .full)
 
 -- A well formed workspace has one content.
 pub formed-only : {workspace : List ℕ} (formed formed' : WellFormed workspace) → formed .content ≡ formed' .content
 formed-only formed formed' = contents-same (formed .proper) (formed' .proper) (formed .further) (formed' .further) (sym (formed .words) ∙ formed' .words) .0
+
+-- ---- when a workspace is well formed
+
+words-part : (l : List ℕ) (k n : ℕ) → Words l → Words (take n (drop k l))
+words-part l k n w i h = let j : i < min n (length l - k) = rw (length-take n (drop k l), length-drop k l) at h in
+    rw (getD-take n (drop k l) i 0 (omega arith), getD-drop k l i 0) (w (k + i) (omega arith))
+
+module _ (sizes ws : List ℕ) (due : wordsDue (length sizes) (features sizes) ≤ length ws) (w : Words ws) where
+  -- A group of words inside the words due, with no bit past the features.
+  group-packed : (at : ℕ) → at + wordsFor (features sizes) ≤ length ws
+      → ((f : ℕ) → features sizes ≤ f → has (take (wordsFor (features sizes)) (drop at ws)) f ≡ false)
+      → packed (features sizes) (has (take (wordsFor (features sizes)) (drop at ws))) ≡ take (wordsFor (features sizes)) (drop at ws)
+  group-packed at l h = packed-has (features sizes) _ (length-take-le (wordsFor (features sizes)) (drop at ws) (rw (length-drop at ws) (omega arith)))
+      (words-part ws at (wordsFor (features sizes)) w) h
+
+  slot-packed : ((i f : ℕ) → features sizes ≤ f → contentBy sizes ws .slots i f ≡ false) → (i : ℕ) → i < features sizes
+      → packed (features sizes) (contentBy sizes ws .slots i)
+      ≡ take (wordsFor (features sizes)) (drop (slotsAt (length sizes) (features sizes) + i * wordsFor (features sizes)) ws)
+  slot-packed s i l = packed-cong (features sizes) _ _ (λ f k. rw (lt-ltb i (features sizes) l)) ∙ group-packed _ inside (λ f k. rw (lt-ltb i (features sizes) l) at (s i f k))
+    where
+      inside : (slotsAt (length sizes) (features sizes) + i * wordsFor (features sizes)) + wordsFor (features sizes) ≤ length ws
+      inside = omega (arith, mul-le-mul-right (wordsFor (features sizes)) l)
+
+  parts-packed : ((f : ℕ) → features sizes ≤ f → contentBy sizes ws .pairs f ≡ false) → ((i f : ℕ) → features sizes ≤ f → contentBy sizes ws .slots i f ≡ false)
+      → fromStart (contentBy sizes ws) (drop (wordsDue (length sizes) (features sizes)) ws) ≡ drop (startAt (length sizes)) ws
+  parts-packed p s = rw (
+    group-packed (pairsAt (length sizes)) (omega arith) p,
+    flat-cong (features sizes) _ _ (slot-packed s),
+    flat-cut (features sizes) (wordsFor (features sizes)) (slotsAt (length sizes) (features sizes)) ws,
+    part-cut ws (pairsAt (length sizes)) (wordsFor (features sizes)),
+    part-cut ws (goalAt (length sizes)) (length sizes),
+  )
+      (part-cut ws (startAt (length sizes)) (length sizes))
+
+count-in : (ws : List ℕ) → startAt (getD ws 0 0) ≤ length ws → length (sizesIn ws) ≡ getD ws 0 0
+unfolding sizesIn
+count-in ws l = length-take-le (getD ws 0 0) (drop sizesAt ws) (rw (length-drop sizesAt ws) (omega arith))
+
+header-in : (ws : List ℕ) → startAt (getD ws 0 0) ≤ length ws → length (sizesIn ws) ∷ (sizesIn ws ++ drop (startAt (length (sizesIn ws))) ws) ≡ ws
+unfolding sizesIn
+header-in ws l = rw (count-in ws l, part-cut ws sizesAt (getD ws 0 0)) (sym (drop-cons ws 0 0 (omega arith)))
+
+module _ (ws : List ℕ) where
+  -- A workspace that is long enough, and whose content is proper, is well formed.
+  pub formed-by : wordsDue (getD ws 0 0) (features (sizesIn ws)) ≤ length ws → Words ws → Proper (contentIn ws) → WellFormed ws
+  formed-by due w p = record {
+    content = contentIn ws;
+    further = drop (wordsDue (length (sizesIn ws)) (features (sizesIn ws))) ws;
+    words = sym (words-join (contentIn ws) _ ∙ rw (parts-packed (sizesIn ws) ws (rw (count-in ws (omega arith)) due) w (pairs-past p) (slot-past (p .slots))) (header-in ws (omega arith)));
+    proper = p;
+  }
+
+  module _ (formed : WellFormed ws) where
+    pub formed-content : contentIn ws ≡ formed .content
+    formed-content = ap contentIn (formed .words) ∙ content-back (formed .further) (formed .proper)
+
+    pub formed-proper : Proper (contentIn ws)
+    formed-proper = subst Proper (sym formed-content) (formed .proper)
+
+    pub formed-due : wordsDue (getD ws 0 0) (features (sizesIn ws)) ≤ length ws
+    formed-due = rw (count, sizes) (omega (arith, ap length (formed .words), length-append (wordsOf c) (formed .further), length-words c (formed .proper .start .full) (formed .proper .goal .full)))
+      where
+        c : Content
+        c = formed .content
+
+        count : getD ws 0 0 ≡ variablesIn c
+        count = ap (λ l. getD l 0 0) (formed .words) ∙ read-count c (formed .further)
+
+        sizes : sizesIn ws ≡ c .sizes
+        sizes = ap (λ d. d .sizes) formed-content
 
 -- ---- a changed part
 
@@ -258,6 +344,8 @@ module _ (c : Content) (further : List ℕ) (s : length (c .start) ≡ variables
     slots-outside slots k o = rw (slots-changed slots) (written-outside (wordsOf c ++ further) (slotWords (featuresIn c) slots) (slotsAt (variablesIn c) (featuresIn c))
         (featuresIn c * wordsFor (featuresIn c)) k 0 (length-slots (featuresIn c) slots) (omega (arith, words-long)) o)
 
+-- ---- an opened task, and an accepted edit
+
 -- The content of an opened task is proper.
 pub opened-proper : (T : Task) (slots : Slots) → Acceptable T → Reduced (features (T .sizes)) slots → Proper (contentOf T slots)
 opened-proper T slots a R = record {
@@ -268,3 +356,58 @@ opened-proper T slots a R = record {
   free = a .free;
   slots = R;
 }
+
+need-fine : (b : Bool) (reason : Reason) (rest : Judged) → need b reason rest ≡ fine → (b ≡ true) × (rest ≡ fine)
+need-fine true reason rest e = (refl, e)
+need-fine false reason rest e = (cc, cc)
+
+-- New values that are judged fine are a state.
+pub values-fine : (sizes values : List ℕ) (rest : Judged) → length values ≡ length sizes → valuesJudged sizes values rest ≡ fine → State sizes values × (rest ≡ fine)
+unfolding valuesJudged
+values-fine [] values rest h e = (record { full = h; values = λ i l. absurd (omega arith) }, e)
+values-fine (d ∷ ds) [] rest h e = absurd (omega arith)
+values-fine (d ∷ ds) (x ∷ xs) rest h e = let (b, q) = need-fine (ltb x d) Range (valuesJudged ds xs rest) e in
+    let (s, r) = values-fine ds xs rest (omega arith) q in (record { full = h; values = each b s }, r)
+  where
+    each : ltb x d ≡ true → State ds xs → (i : ℕ) → i < length (d ∷ ds) → getD (x ∷ xs) i 0 < getD (d ∷ ds) i 0
+    each b s zero l = ltb-true x d b
+    each b s (suc i) l = s .values i (omega arith)
+
+pub start-fine : (c : Content) (values : List ℕ) → editJudged c (replaceStart values) ≡ fine → State (c .sizes) values × (holds (c .sizes) (c .pairs) values ≡ false)
+start-fine c values e = let (b, q) = need-fine (eqb (length values) (variablesIn c)) Range _ e in
+    let (s, r) = values-fine (c .sizes) values _ (eqb-true (length values) (variablesIn c) b) q in
+    (s, not-true (holds (c .sizes) (c .pairs) values) (need-fine (not (holds (c .sizes) (c .pairs) values)) Held fine r .0))
+
+pub goal-fine : (c : Content) (values : List ℕ) → editJudged c (replaceGoal values) ≡ fine → State (c .sizes) values
+goal-fine c values e = let (b, q) = need-fine (eqb (length values) (variablesIn c)) Range _ e in
+    values-fine (c .sizes) values _ (eqb-true (length values) (variablesIn c) b) q .0
+
+entries-fine : (sizes : List ℕ) (low : ℕ) (o : Operator) (rest : Judged) → entriesJudged sizes low o rest ≡ fine → Entries sizes low o × (rest ≡ fine)
+unfolding entriesJudged
+entries-fine sizes low [] rest e = (tt, e)
+entries-fine sizes low (x ∷ xs) rest e =
+    let (a, e₁) = need-fine (ltb (x .variable) (length sizes)) Range _ e in
+    let (b, e₂) = need-fine (leb low (x .variable)) Unordered _ e₁ in
+    let (c, e₃) = need-fine (ltb (x .before) (size sizes (x .variable))) Range _ e₂ in
+    let (d, e₄) = need-fine (ltb (x .after) (size sizes (x .variable))) Range _ e₃ in
+    let (es, r) = entries-fine sizes (suc (x .variable)) xs rest e₄ in
+    ((leb-true low (x .variable) b, ltb-true _ _ a, ltb-true _ _ c, ltb-true _ _ d, es), r)
+
+-- A new operator that is judged fine keeps the rules of an operator, where the record has as many places as it counts.
+pub operator-fine : (c : Content) (r : OperatorRecord) → r .count ≤ length (r .places) → editJudged c (addOperator r) ≡ fine
+    → IsOperator (c .sizes) (operatorIn r) × (closed (c .sizes) (c .pairs) (operatorIn r) ≡ true)
+operator-fine c r l e =
+    let (b, q) = need-fine (inside 1 (suc (variablesIn c)) (r .count)) Range _ e in
+    let (es, k) = entries-fine (c .sizes) 0 (operatorIn r) _ q in (
+      record { filled = rw (length-take-le (r .count) (r .places) l) (leb-true 1 (r .count) (and-left (leb 1 (r .count)) (ltb (r .count) (suc (variablesIn c))) b)); entries = es },
+      need-fine (closed (c .sizes) (c .pairs) (operatorIn r)) Unclosed fine k .0,
+    )
+
+-- An accepted edit leaves a proper content.
+pub edit-proper : (c c' : Content) (edit : Edit) → Proper c → editJudged c edit ≡ fine → Changes c edit c' → Proper c'
+edit-proper c c' (addOperator r) p e h = subst Proper (sym (h .2))
+    (record { limits = p .limits; start = p .start; goal = p .goal; pairs = p .pairs; free = p .free; slots = h .1 .shape })
+edit-proper c c' (replaceStart values) p e h = let (s, k) = start-fine c values e in subst Proper (sym h)
+    (record { limits = p .limits; start = s; goal = p .goal; pairs = p .pairs; free = k; slots = p .slots })
+edit-proper c c' (replaceGoal values) p e h = subst Proper (sym h)
+    (record { limits = p .limits; start = p .start; goal = goal-fine c values e; pairs = p .pairs; free = p .free; slots = p .slots })

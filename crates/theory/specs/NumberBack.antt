@@ -1,5 +1,5 @@
--- Numbers of a file, written and read: what is written is read back, what is read is in its range and is written as the bytes it was read from.
--- All of it over how many groups a number may have.
+-- Numbers of a file, over how many groups a number may have: what is written is read back, what is read is in its range, and it is written as
+-- the bytes that it was read from.
 use Prim.Native.Nat.{ℕ, zero, suc, _+_, _*_, _/_, _%_, _^_, _<_, _≤_}
 use mathlib.Core.Path.{_≡_, refl, sym, ap, ap₂, _∙_, subst}
 use mathlib.Core.List.{List, [], _∷_, _++_}
@@ -13,7 +13,8 @@ use borrow.Author.Tests.{ltb-true, ltb-false, lt-ltb, le-ltb, eqb-false, ne-eqb}
 use Rattle.meaning.specs.Limits.{group, mostGroups, numberEnd}
 use Rattle.meaning.specs.Number.{got, groups, number, groupBytes, numberBytes}
 use Rattle.theory.specs.Truth.{on, off, test}
-use Rattle.theory.specs.Reading.{Reads, Bytes, Spent, Gives, not-got, on-got, spent-same, spent-within, spent-begun, spent-slice, test-passed, test-failed}
+use Rattle.theory.specs.Reading.{Reads, not-got, on-got, test-passed, test-failed}
+use Rattle.theory.specs.Spent.{Bytes, Spent, Gives, spent-same, spent-within, spent-begun, spent-slice}
 
 -- ---- the bytes of a number
 
@@ -28,7 +29,7 @@ group-more k low high h l =
     let b : (low + group * high) / group ≡ high = omega arith in
     rw (le-ltb (low + group * high) group (omega arith), a, b)
 
--- A number with more than one group is its low group and what is left.
+-- A number is its low group and what is left.
 parts : (n : ℕ) → n ≡ n % group + group * (n / group)
 parts n = omega arith
 
@@ -87,8 +88,7 @@ more-back k low high h m first l after rest = record {
       let b : ℕ = group + low in
       let bytes : List ℕ = before ++ (b ∷ (l ++ after)) in
       let e : getD bytes (length before) 0 ≡ b = getD-append-seam before b (l ++ after) 0 in
-      let r : groups k first bytes (length before + 1) ≡ got high (length before + 1 + length l)
-      = rw (append-snoc before b (l ++ after), length-append before (b ∷ [])) at (rest .reads (before ++ (b ∷ []))) in
+      let r = rw (append-snoc before b (l ++ after), length-append before (b ∷ [])) at (rest .reads (before ++ (b ∷ []))) in
       groups-more k first bytes (length before) high (length before + 1 + length l) (stands before b (l ++ after)) (rw e (omega arith)) r m
       ∙ ap₂ got (ap (λ c. c % group + group * high) e ∙ remains) (omega arith);
 }
@@ -96,7 +96,7 @@ more-back k low high h m first l after rest = record {
     remains : (group + low) % group + group * high ≡ low + group * high
     remains = omega arith
 
--- With one group at least.
+-- One group, and at most k more.
 pub groups-back : (k n : ℕ) → n < group ^ suc k → (first : ℕ) (after : List ℕ) → Reads (groups (suc k) first) n (groupBytes (suc k) n) after
 groups-back zero n h first after = let l : n < group = omega arith in rw (group-one zero n l) (one-back zero n l first after)
 groups-back (suc k) n h first after = elim (test (ltb n group)) [
@@ -123,7 +123,12 @@ give-one bytes k place h l = record {
   spent = getD bytes place 0 ∷ [];
   moved = refl;
   there = rw add-one (drop-cons bytes place 0 h);
-  known = record { below = omega (arith, l, pow-succ' group k, one-le-pow k group (omega arith)); filled = omega arith; few = omega arith; written = λ _. sym (group-one k (getD bytes place 0) l) };
+  known = record {
+    below = omega (arith, l, pow-succ' group k, one-le-pow k group (omega arith));
+    filled = omega arith;
+    few = omega arith;
+    written = λ small. sym (group-one k (getD bytes place 0) l);
+  };
 }
 
 give-more : (bytes : List ℕ) (k place high next : ℕ) → place < length bytes → group ≤ getD bytes place 0 → 1 ≤ high

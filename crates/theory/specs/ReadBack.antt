@@ -115,7 +115,7 @@ entries-length sizes low [] l h = omega arith
 entries-length sizes low (e ∷ es) l h = omega (arith, entries-length sizes (suc (e .variable)) es (h .1) (h .4))
 
 -- The bytes of an entry and what stands behind them, one number after another.
-entry-apart : (e : Entry) (l : List ℕ) → entryBytes e ++ l ≡ numberBytes (e .variable) ++ (numberBytes (e .before) ++ (numberBytes (e .after) ++ l))
+pub entry-apart : (e : Entry) (l : List ℕ) → entryBytes e ++ l ≡ numberBytes (e .variable) ++ (numberBytes (e .before) ++ (numberBytes (e .after) ++ l))
 unfolding entryBytes
 entry-apart e l = append-assoc (numberBytes (e .variable)) (numberBytes (e .before) ++ numberBytes (e .after)) l
     ∙ ap (_++_ (numberBytes (e .variable))) (append-assoc (numberBytes (e .before)) (numberBytes (e .after)) l)

@@ -1,15 +1,12 @@
--- How a reader of a file is judged, both ways: what it reads of bytes that were written, and what is known of a value and of the bytes that it
--- was read from. Both are put together along `then`.
-use Prim.Native.Nat.{ℕ, _+_, _<_, _≤_}
-use mathlib.Core.Path.{_≡_, refl, sym, ap, _∙_, subst}
+-- The outcome of a read; and bytes that were written for a value and are read as that value, part after part.
+use Prim.Native.Nat.{ℕ, _+_}
+use mathlib.Core.Path.{_≡_, refl, sym, ap, subst}
 use mathlib.Core.Bool.{Bool, true, false, cond}
-use mathlib.Core.List.{List, [], _++_, append-assoc, append-nil}
-use native.Mathlib.Omega.{arith}
-use native.Mathlib.Nat.{zero-add, add-zero, add-assoc}
-use lib.ListN.{length, getD, take, drop, length-append, length-drop, drop-of-length-le}
-use lib.Seq.{slice, take-add, drop-at, take-append-seam, length-take-le}
+use mathlib.Core.List.{List, [], _++_, append-assoc}
+use native.Mathlib.Nat.{add-zero, add-assoc}
+use lib.ListN.{length, length-append}
 use Rattle.meaning.specs.Number.{Reason, Read, got, fault, onRead}
-use Rattle.meaning.specs.File.{Parser, give, then}
+use Rattle.meaning.specs.File.{Parser, give, then, judge}
 
 -- ---- the outcome of a read
 
@@ -46,6 +43,13 @@ pub test-failed : {A : Type 0} (b : Bool) (r : Read A) (reason : Reason) (place 
 test-failed true r reason place a next e = absurd (not-got e)
 test-failed false r reason place a next e = (refl, e)
 
+-- A judgement that was passed.
+pub judged-passed : {A : Type 0} (b : Bool) (reason : Reason) (bytes : List ℕ) (place : ℕ) (a c : A) (next : ℕ)
+    → then (judge b reason) (λ _. give a) bytes place ≡ got c next → (b ≡ true) × (got a place ≡ got c next)
+unfolding judge
+judged-passed true reason bytes place a c next e = (refl, e)
+judged-passed false reason bytes place a c next e = absurd (not-got e)
+
 -- ---- what was written is read
 
 -- Where `written` stands, whatever is before it and with `after` behind it, a value is read and the place is then behind `written`.
@@ -67,75 +71,3 @@ reads-then rest {l = l} {m = m} {after = after} h k = record {
 pub reads-map : {A B : Type 0} {first : Parser A} (f : A → B) {a : A} {l after : List ℕ}
     → Reads first a l after → Reads (then first (λ c. give (f c))) (f a) l after
 reads-map f h = record { reads = λ before. rw (h .reads before) }
-
--- ---- what is known of what was read
-
--- Numbers that bytes can hold.
-abbrev pub Bytes : List ℕ → Type 0
-Bytes bytes = (i : ℕ) → getD bytes i 0 < 256
-
--- The bytes from one place to another, and what is known of them.
-pub record Spent (bytes : List ℕ) (place next : ℕ) (P : List ℕ → Type 0) : Type 0 where
-  pub spent : List ℕ
-  pub moved : next ≡ place + length spent
-  pub there : drop place bytes ≡ spent ++ drop next bytes
-  pub known : P spent
-
-pub spent-same : {A : Type 0} {bytes : List ℕ} {place next other : ℕ} {a b : A} (P : A → List ℕ → Type 0)
-    → got a next ≡ got b other → Spent bytes place next (P a) → Spent bytes place other (P b)
-spent-same P e s = rw (← got-value e, ← got-next e) s
-
--- The place that is reached is not past the end.
-pub spent-within : (bytes : List ℕ) (place next : ℕ) (P : List ℕ → Type 0) → Spent bytes place next P → place ≤ length bytes → next ≤ length bytes
-spent-within bytes place next P s h =
-    omega (arith, s .moved, length-drop place bytes, length-drop next bytes, ap length (s .there), length-append (s .spent) (drop next bytes))
-
-pub spent-begun : (bytes : List ℕ) (place next : ℕ) (P : List ℕ → Type 0) (s : Spent bytes place next P) → 1 ≤ length (s .spent) → place < length bytes
-spent-begun bytes place next P s h = omega (arith, length-drop place bytes, ap length (s .there), length-append (s .spent) (drop next bytes))
-
-pub spent-slice : (bytes : List ℕ) (place next : ℕ) (P : List ℕ → Type 0) (s : Spent bytes place next P) → place ≤ length bytes → s .spent ≡ slice place next bytes
-spent-slice bytes place next P s h = sym (
-    ap (λ k. drop place (take k bytes)) (s .moved)
-    ∙ ap (drop place) (take-add place (length (s .spent)) bytes)
-    ∙ drop-at (take place bytes) (take (length (s .spent)) (drop place bytes)) place (length-take-le place bytes h)
-    ∙ ap (take (length (s .spent))) (s .there)
-    ∙ take-append-seam (s .spent) (drop next bytes))
-
--- What is known of each value that is read anywhere in some bytes, together with the bytes that it was read from.
-pub record Gives {A : Type 0} (bytes : List ℕ) (parser : Parser A) (P : A → List ℕ → Type 0) : Type 0 where
-  pub gives : (place : ℕ) (a : A) (next : ℕ) → parser bytes place ≡ got a next → Spent bytes place next (P a)
-
-pub gives-then : {A B : Type 0} {bytes : List ℕ} {first : Parser A} (rest : A → Parser B) {P : A → List ℕ → Type 0} (Q : B → List ℕ → Type 0)
-    → Gives bytes first P → ((a : A) (l : List ℕ) → P a l → Gives bytes (rest a) (λ b m. Q b (l ++ m))) → Gives bytes (then first rest) Q
-gives-then {A} {B} {bytes} {first} rest {P} Q h k = record { gives = λ place b next e. join place b next (on-got (first bytes place) (λ a middle. rest a bytes middle) b next e) }
-  where
-    join : (place : ℕ) (b : B) (next : ℕ) → (a : A) × (middle : ℕ) × (first bytes place ≡ got a middle) × (rest a bytes middle ≡ got b next) → Spent bytes place next (Q b)
-    join place b next (a, middle, p, q) =
-        let s : Spent bytes place middle (P a) = h .gives place a middle p in
-        let t : Spent bytes middle next (λ m. Q b (s .spent ++ m)) = k a (s .spent) (s .known) .gives middle b next q in
-        record {
-          spent = s .spent ++ t .spent;
-          moved = omega (arith, s .moved, t .moved, length-append (s .spent) (t .spent));
-          there = s .there ∙ ap (_++_ (s .spent)) (t .there) ∙ sym (append-assoc (s .spent) (t .spent) (drop next bytes));
-          known = t .known;
-        }
-
--- Nothing more is read.
-pub gives-map : {A B : Type 0} {bytes : List ℕ} {first : Parser A} (f : A → B) {P : A → List ℕ → Type 0} (Q : B → List ℕ → Type 0)
-    → Gives bytes first P → ((a : A) (l : List ℕ) → P a l → Q (f a) l) → Gives bytes (then first (λ c. give (f c))) Q
-gives-map {A} {B} {bytes} {first} f {P} Q h k = record { gives = λ place b next e. join place b next (on-got (first bytes place) (λ a middle. give (f a) bytes middle) b next e) }
-  where
-    join : (place : ℕ) (b : B) (next : ℕ) → (a : A) × (middle : ℕ) × (first bytes place ≡ got a middle) × (got (f a) middle ≡ got b next) → Spent bytes place next (Q b)
-    join place b next (a, middle, p, q) =
-        let s : Spent bytes place middle (P a) = h .gives place a middle p in
-        spent-same Q q (record { spent = s .spent; moved = s .moved; there = s .there; known = k a (s .spent) (s .known) })
-
-pub gives-give : {A : Type 0} {bytes : List ℕ} {a : A} (P : A → List ℕ → Type 0) → P a [] → Gives bytes (give a) P
-gives-give P h = record { gives = λ place b next e. spent-same P e (record { spent = []; moved = sym (add-zero place); there = refl; known = h }) }
-
--- Bytes that were read from the first place on to the end are all of the bytes.
-pub spent-all : (bytes : List ℕ) (next : ℕ) (P : List ℕ → Type 0) → Spent bytes 0 next P → length bytes ≤ next → (next ≡ length bytes) × P bytes
-spent-all bytes next P s h = (s .moved ∙ zero-add (length (s .spent)) ∙ ap length same, subst P same (s .known))
-  where
-    same : s .spent ≡ bytes
-    same = sym (s .there ∙ rw (drop-of-length-le bytes h) (append-nil (s .spent)))

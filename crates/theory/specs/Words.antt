@@ -108,6 +108,9 @@ has-packed n a f = elim (test (ltb (f / wordBits) (wordsFor n))) [
     past l = let k : length (packed n a) ≤ f / wordBits = rw (length-packed n a) l in
         rw (le-ltb f n (omega arith), List·getD-eq-default (packed n a) 0 k) (bit-past 0 (f % wordBits) (pow-pos (f % wordBits)))
 
+pub packed-holds : (n : ℕ) (a : Set) (f : ℕ) → (n ≤ f → a f ≡ false) → has (packed n a) f ≡ a f
+packed-holds n a f h = has-packed n a f ∙ elim (test (ltb f n)) [ on t ↦ rw t | off t ↦ rw t (sym (h (ltb-false f n t))) ]
+
 -- Words that hold the members below n of a set, and nothing else, are the words of the set.
 pub packed-is : (n : ℕ) (a : Set) (l : List ℕ) → length l ≡ wordsFor n → Words l → ((f : ℕ) → has l f ≡ (ltb f n && a f)) → packed n a ≡ l
 packed-is n a l e w h = words-same (packed n a) l (length-packed n a ∙ sym e) (packed-words n a) w (λ f. has-packed n a f ∙ sym (h f))

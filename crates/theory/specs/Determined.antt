@@ -1,0 +1,143 @@
+-- Each call of the library and the program has one outcome: two that its relation allows for the same input are equal.
+use Prim.Native.Nat.{ℕ, _<_}
+use mathlib.Core.Path.{_≡_, refl, ap, sym, _∙_, subst}
+use mathlib.Core.Logic.{_⊎_, inl, inr, Iff·rfl}
+use mathlib.Core.Bool.{Bool, true, false, _||_, cond}
+use mathlib.Core.List.{List, [], _∷_}
+use native.Mathlib.Nat.{le-antisymm}
+use lib.Dec.{ltb}
+use lib.ListN.{length, getD}
+use Rattle.meaning.specs.Sets.{Set, listed}
+use Rattle.meaning.specs.Limits.{mostInput}
+use Rattle.meaning.specs.Task.{Task}
+use Rattle.meaning.specs.Feature.{features}
+use Rattle.meaning.specs.Weight.{LeastOf, Separates}
+use Rattle.meaning.specs.Number.{Reason, Small, Malformed, refusal, Read, got, fault}
+use Rattle.meaning.specs.File.{judgedTask, judgedWeights}
+use Rattle.meaning.specs.Workspace.{Content, wordsOf, wordsFor, wordsDue, WellFormed, contentOf}
+use Rattle.meaning.specs.Answer.{done, refused, refuses, writes, byRead, accepted, endsAlike, breaks, Breaks, Judges, Checks, Opens}
+use Rattle.meaning.specs.Answer.{separated, FindsIn, Finds, Edit, addOperator, replaceStart, replaceGoal, Judged, fine, faulty, editJudged, Changes, EditsIn, Edits}
+use Rattle.meaning.specs.Bay.{Builds, judgedBay}
+use Rattle.meaning.specs.Line.{nothing, separating, Seeks, Says, tooLarge, Prints}
+use Rattle.theory.specs.Truth.{less, same, more, order}
+use Rattle.theory.specs.Flat.{flat-cong, getD-in}
+use Rattle.theory.specs.Run.{members, members-listed}
+use Rattle.theory.specs.SlotsOf.{slots-only}
+use Rattle.theory.specs.Whole.{whole-same}
+use Rattle.theory.specs.Words.{packed-cong}
+use Rattle.theory.specs.Contents.{formed-only, withSlots}
+
+-- ---- how such statements are put together
+
+-- A statement that holds of one thing at most.
+abbrev pub AtMostOne : {A : Type 0} → (A → Type 0) → Type 0
+AtMostOne {A} P = (a b : A) → P a → P b → a ≡ b
+
+-- Two things that both equal a third.
+pub is-only : {A : Type 0} (c : A) → AtMostOne (λ a. a ≡ c)
+is-only c a b e e' = e ∙ sym e'
+
+pub if-only : {A : Type 0} (t : Bool) (P Q : A → Type 0) → AtMostOne P → AtMostOne Q → AtMostOne (λ a. cond t (P a) (Q a))
+if-only true P Q p q = p
+if-only false P Q p q = q
+
+-- A fault fixes the outcome, and so does whatever is read.
+pub read-only : {A B : Type 0} (read : Read B) (P : B → A → Type 0) (bad : Reason → A) → ((b : B) → AtMostOne (P b)) → AtMostOne (λ a. byRead read (λ b. P b a) (λ reason. a ≡ bad reason))
+read-only (got b next) P bad only = only b
+read-only (fault reason place) P bad only = is-only (bad reason)
+
+-- A workspace that is not well formed fixes the outcome, and so does the one content of a workspace that is.
+pub formed-or : {A : Type 0} (workspace : List ℕ) (P : Content → A → Type 0) (bad : A) → ((c : Content) → AtMostOne (P c))
+    → AtMostOne (λ a. ((WellFormed workspace → ⊥) × (a ≡ bad)) ⊎ ((formed : WellFormed workspace) × P (formed .content) a))
+formed-or workspace P bad only a b (inl h) (inl h') = h .1 ∙ sym (h' .1)
+formed-or workspace P bad only a b (inl h) (inr h') = absurd (h .0 (h' .0))
+formed-or workspace P bad only a b (inr h) (inl h') = absurd (h' .0 (h .0))
+formed-or workspace P bad only a b (inr h) (inr h') = only (h .0 .content) a b (h .1) (subst (λ c. P c b) (formed-only (h' .0) (h .0)) (h' .1))
+
+-- ---- the checker
+
+not-both : (T : Task) (weights : Set) (j : ℕ) → Separates T weights → Breaks T weights j → ⊥
+not-both T weights j s b = b .broken (s .keeps (getD (T .operators) j []) (getD-in (T .operators) j [] (b .counted)) (b .busy))
+
+pub verdict-only : (T : Task) (weights : Set) → AtMostOne (Judges T weights)
+verdict-only T weights accepted accepted h h' = refl
+verdict-only T weights accepted endsAlike h h' = absurd (h .ends h')
+verdict-only T weights accepted (breaks j) h h' = absurd (not-both T weights j h h')
+verdict-only T weights endsAlike accepted h h' = absurd (h' .ends h)
+verdict-only T weights endsAlike endsAlike h h' = refl
+verdict-only T weights endsAlike (breaks j) h h' = absurd (h' .ends h)
+verdict-only T weights (breaks j) accepted h h' = absurd (not-both T weights j h' h)
+verdict-only T weights (breaks j) endsAlike h h' = absurd (h .ends h')
+verdict-only T weights (breaks j) (breaks k) h h' = elim (order j k) [
+  | less l ↦ absurd (h .broken (h' .earlier j l (h .busy)))
+  | same q ↦ ap breaks q
+  | more l ↦ absurd (h' .broken (h .earlier k l (h' .busy)))
+]
+
+pub checks-only : (task weights : List ℕ) → AtMostOne (Checks task weights)
+checks-only task weights = read-only (judgedTask task) _ (λ reason. refused (refusal reason))
+    (λ T. read-only (judgedWeights (features (T .sizes)) weights) _ (λ reason. refused (refusal reason))
+    (λ ws a b h h'. h .1 ∙ ap done (verdict-only T (listed ws) (h .0) (h' .0) (h .2) (h' .2)) ∙ sym (h' .1)))
+
+-- ---- opening
+
+pub opens-only : (task room : List ℕ) → AtMostOne (Opens task room)
+opens-only task room = read-only (judgedTask task) _ (λ reason. refuses reason room)
+    (λ T. let due = wordsDue (length (T .sizes)) (features (T .sizes)) in
+    if-only (ltb (length room) due) _ _ (is-only (refuses Small room))
+    (λ a b h h'. h .2
+    ∙ ap (λ slots. writes due (wordsOf (contentOf T slots)) room) (slots-only _ _ _ (h .0) (h' .0) (λ w. Iff·rfl) (h .1) (h' .1))
+    ∙ sym (h' .2)))
+
+-- ---- finding
+
+-- Two least sets agree below n.
+pub least-agree : (n : ℕ) (Good : Set → Type 0) (a b : Set) → LeastOf n Good a → LeastOf n Good b → (f : ℕ) → f < n → a f ≡ b f
+least-agree n Good a b h h' = whole-same n a b (le-antisymm (h .least b (h' .good)) (h' .least a (h .good)))
+
+pub finds-in-only : (c : Content) (room : List ℕ) → AtMostOne (FindsIn c room)
+finds-in-only c room a b (inl h) (inl h') = h .1 ∙ sym (h' .1)
+finds-in-only c room a b (inl h) (inr h') = absurd (h .0 (h' .0) (h' .1 .good))
+finds-in-only c room a b (inr h) (inl h') = absurd (h' .0 (h .0) (h .1 .good))
+finds-in-only c room a b (inr h) (inr h') = h .2
+    ∙ ap (λ words. writes separated words room) (packed-cong (features (c .sizes)) (h .0) (h' .0) (least-agree _ _ (h .0) (h' .0) (h .1) (h' .1)))
+    ∙ sym (h' .2)
+
+pub finds-only : (workspace room : List ℕ) → AtMostOne (Finds workspace room)
+finds-only workspace room = formed-or workspace _ (refuses Malformed room)
+    (λ c. if-only (ltb (length room) (wordsFor (features (c .sizes)))) _ _ (is-only (refuses Small room)) (finds-in-only c room))
+
+-- ---- edits
+
+pub changes-only : (c : Content) (edit : Edit) → AtMostOne (Changes c edit)
+changes-only c (addOperator r) a b h h' = h .2 ∙ ap (withSlots c) (slots-only _ _ _ (h .0) (h' .0) (λ w. Iff·rfl) (h .1) (h' .1)) ∙ sym (h' .2)
+changes-only c (replaceStart values) a b h h' = h ∙ sym h'
+changes-only c (replaceGoal values) a b h h' = h ∙ sym h'
+
+pub edits-in-only : (judged : Judged) (workspace : List ℕ) (c : Content) (edit : Edit) → AtMostOne (EditsIn judged workspace c edit)
+edits-in-only (faulty reason) workspace c edit a b h h' = h ∙ sym h'
+edits-in-only fine workspace c edit a b h h' = h .2 ∙ ap (λ c'. writes tt (wordsOf c') workspace) (changes-only c edit (h .0) (h' .0) (h .1) (h' .1)) ∙ sym (h' .2)
+
+pub edits-only : (workspace : List ℕ) (edit : Edit) → AtMostOne (Edits workspace edit)
+edits-only workspace edit = formed-or workspace _ (refuses Malformed workspace) (λ c. edits-in-only (editJudged c edit) workspace c edit)
+
+-- ---- building, and the program
+
+pub builds-only : (bay room : List ℕ) → AtMostOne (Builds bay room)
+builds-only bay room = read-only (judgedBay bay) _ (λ reason. refuses reason room) (λ b. is-only _)
+
+pub seeks-only : (T : Task) → AtMostOne (Seeks T)
+unfolding members
+seeks-only T nothing nothing h h' = refl
+seeks-only T nothing (separating l) h h' = absurd (h (listed l) (h' .1 .good))
+seeks-only T (separating l) nothing h h' = absurd (h' (listed l) (h .1 .good))
+seeks-only T (separating l) (separating m) h h' = ap separating (sym (members-listed 0 (features (T .sizes)) l (h .0))
+    ∙ flat-cong _ _ _ (λ f k. ap (λ b. cond b (f ∷ []) []) (least-agree _ _ (listed l) (listed m) (h .1) (h' .1) f k))
+    ∙ members-listed 0 (features (T .sizes)) m (h' .0))
+
+pub says-only : (task : List ℕ) → AtMostOne (Says task)
+says-only task = read-only (judgedTask task) _ (λ reason. refused (refusal reason))
+    (λ T a b h h'. h .1 ∙ ap done (seeks-only T (h .0) (h' .0) (h .2) (h' .2)) ∙ sym (h' .1))
+
+pub prints-only : (input : List ℕ) → AtMostOne (Prints input)
+prints-only input = if-only (ltb mostInput (length input) || tooLarge (judgedTask input)) _ _ (is-only (refused (refusal Small))) (says-only input)

@@ -1,0 +1,142 @@
+-- What is read of each part of a file is in its range, and was read from the very bytes that are written for it.
+use Prim.Native.Nat.{ℕ, zero, suc, _<_, _≤_, max}
+use mathlib.Core.Path.{_≡_, refl, sym, ap, ap₂, _∙_}
+use mathlib.Core.Logic.{inl, inr}
+use mathlib.Core.List.{List, [], _∷_, _++_, List·Memᴰ as In, List·Memᴰ·not-nil as not-nil, List·Memᴰ·cases-cons as cases-cons}
+use native.Mathlib.Omega.{arith}
+use lib.ListN.{length}
+use lib.Dec.{leb, ltb}
+use borrow.Author.Tests.{leb-true, ltb-true}
+use Rattle.meaning.specs.Limits.{leastVariables, mostVariables, leastSize, mostSize, mostFeatures, numberEnd}
+use Rattle.meaning.specs.Task.{Entry, Operator, State, Entries, IsOperator, Run, size, value}
+use Rattle.meaning.specs.Feature.{features}
+use Rattle.meaning.specs.Number.{Reason, Limit, Range, Unordered, number, numberBytes}
+use Rattle.meaning.specs.File.{inside, item, rising, sizesOf, header, valuesOf, featuresOf, featureList, entriesOf}
+use Rattle.meaning.specs.File.{operatorOf, operatorsOf, InLimits, bytesOf, counted, entryBytes, operatorBytes, weightBytes}
+use Rattle.theory.specs.Search.{and-left, and-right}
+use Rattle.theory.specs.Run.{run-none, run-more, run-wider}
+use Rattle.theory.specs.Spent.{Bytes, Gives, gives-known, gives-then, gives-map, gives-give, gives-tested, gives-judged}
+use Rattle.theory.specs.NumberBack.{number-gives}
+use Rattle.theory.specs.ReadBack.{entry-apart}
+
+-- ---- the bytes that were read are those that are written
+
+-- Bytes that were spent on a value are those that are written for it.
+abbrev pub Exact : {A : Type 0} → List ℕ → (A → List ℕ) → A → List ℕ → Type 0
+Exact bytes write a spent = Bytes bytes → spent ≡ write a
+
+exact-none : {A : Type 0} (bytes : List ℕ) (write : A → List ℕ) → Exact bytes (bytesOf write) [] []
+unfolding bytesOf
+exact-none bytes write small = refl
+
+exact-more : {A : Type 0} (bytes : List ℕ) (write : A → List ℕ) (a : A) (others : List A) (l m : List ℕ)
+    → Exact bytes write a l → Exact bytes (bytesOf write) others m → Exact bytes (bytesOf write) (a ∷ others) (l ++ m)
+unfolding bytesOf
+exact-more bytes write a others l m h k small = ap₂ _++_ (h small) (k small)
+
+pub exact-counted : {A : Type 0} (bytes : List ℕ) (write : A → List ℕ) (n : ℕ) (things : List A) (l m : List ℕ) → length things ≡ n
+    → Exact bytes numberBytes n l → Exact bytes (bytesOf write) things m → Exact bytes (counted write) things (l ++ m)
+unfolding counted
+exact-counted bytes write n things l m e h k small = ap₂ _++_ (h small ∙ ap numberBytes (sym e)) (k small)
+
+exact-entry : (bytes : List ℕ) (e : Entry) (es : Operator) (l m n p : List ℕ) → Exact bytes numberBytes (e .variable) l → Exact bytes numberBytes (e .before) m
+    → Exact bytes numberBytes (e .after) n → Exact bytes (bytesOf entryBytes) es p → Exact bytes (bytesOf entryBytes) (e ∷ es) (l ++ (m ++ (n ++ p)))
+unfolding bytesOf
+exact-entry bytes e es l m n p a b c d small =
+    ap₂ _++_ (a small) (ap₂ _++_ (b small) (ap₂ _++_ (c small) (d small))) ∙ sym (entry-apart e (bytesOf entryBytes es))
+
+-- What holds at the first index and at each later one.
+each-more : (P : ℕ → Type 0) (n : ℕ) → P 0 → ((i : ℕ) → i < n → P (suc i)) → (i : ℕ) → i < suc n → P i
+each-more P n h k zero l = h
+each-more P n h k (suc i) l = k i (omega arith)
+
+-- ---- one number
+
+module _ (bytes : List ℕ) where
+  -- A number of a file, with its bytes.
+  abbrev pub Said : ℕ → List ℕ → Type 0
+  Said n l = (n < numberEnd) × Exact bytes numberBytes n l
+
+  pub number-said : Gives bytes number Said
+  unfolding numberBytes
+  number-said = gives-known _ (number-gives bytes) (λ n l g. (g .below, g .written))
+
+  pub item-said : (low high : ℕ) (reason : Reason) → Gives bytes (item (inside low high) reason) (λ n l. (low ≤ n) × (n < high) × Said n l)
+  unfolding item
+  item-said low high reason = gives-known _ (gives-tested (inside low high) reason number-said) (λ n l k.
+      (leb-true low n (and-left (leb low n) (ltb n high) (k .0)), ltb-true n high (and-right (leb low n) (ltb n high) (k .0)), k .1))
+
+  pub rising-said : (low high least : ℕ) → Gives bytes (rising low high least) (λ n l. (max low least ≤ n) × (n < high) × Said n l)
+  unfolding rising
+  rising-said low high least = gives-known _ (gives-tested (leb least) Unordered (item-said low high Range)) (λ n l k.
+      let (e, (h, m, said)) = k in let o : least ≤ n = leb-true least n e in (omega arith, m, said))
+
+  -- ---- sizes and values
+
+  pub sizes-said : (k : ℕ) → Gives bytes (sizesOf k) (λ sizes l. (length sizes ≡ k)
+      × ((i : ℕ) → i < length sizes → (leastSize ≤ size sizes i) × (size sizes i ≤ mostSize)) × Exact bytes (bytesOf numberBytes) sizes l)
+  unfolding sizesOf
+  sizes-said zero = gives-give _ (refl, (λ i l. absurd (omega arith)), exact-none bytes numberBytes)
+  sizes-said (suc k) = gives-then _ _ (item-said leastSize (suc mostSize) Limit) (λ d l h. gives-map (_∷_ d) _ (sizes-said k) (λ ds m g. (
+    ap suc (g .0),
+    each-more (λ i. (leastSize ≤ size (d ∷ ds) i) × (size (d ∷ ds) i ≤ mostSize)) (length ds) (h .0, omega (arith, h .1)) (g .1),
+    exact-more bytes numberBytes d ds l m (h .2 .1) (g .2),
+  )))
+
+  pub header-said : Gives bytes header (λ sizes l. InLimits sizes × Exact bytes (counted numberBytes) sizes l)
+  unfolding header
+  header-said = gives-then _ _ (item-said leastVariables (suc mostVariables) Limit) (λ v l h.
+      gives-known _ (gives-judged (λ ds. leb (features ds) mostFeatures) Limit (sizes-said v)) (λ sizes m g.
+      let (total, (long, each, exact)) = g in (
+        record { variables = (omega (arith, h .0), omega (arith, h .1)); each = each; total = leb-true (features sizes) mostFeatures total },
+        exact-counted bytes numberBytes v sizes l m long (h .2 .1) exact,
+      )))
+
+  pub values-said : (sizes : List ℕ) → Gives bytes (valuesOf sizes) (λ state l. State sizes state × Exact bytes (bytesOf numberBytes) state l)
+  unfolding valuesOf
+  values-said [] = gives-give _ (record { full = refl; values = λ i l. absurd (omega arith) }, exact-none bytes numberBytes)
+  values-said (d ∷ ds) = gives-then _ _ (item-said 0 d Range) (λ x l h. gives-map (_∷_ x) _ (values-said ds) (λ xs m g. (
+    record { full = ap suc (g .0 .full); values = each-more (λ i. value (x ∷ xs) i < size (d ∷ ds) i) (length ds) (h .1) (g .0 .values) },
+    exact-more bytes numberBytes x xs l m (h .2 .1) (g .1),
+  )))
+
+  -- ---- features
+
+  pub features-said : (k low high least : ℕ) → low ≤ high → least ≤ high
+      → Gives bytes (featuresOf k low high least) (λ fs l. (length fs ≡ k) × Run (max low least) fs high × Exact bytes (bytesOf numberBytes) fs l)
+  unfolding featuresOf
+  features-said zero low high least h k = gives-give _ (refl, run-none (max low least) high (omega arith), exact-none bytes numberBytes)
+  features-said (suc k) low high least h m = gives-then _ _ (rising-said low high least) (λ f l g.
+      gives-map (_∷_ f) _ (features-said k low high (suc f) h (g .1)) (λ fs n r. (
+        ap suc (r .0),
+        run-more (max low least) high f fs (g .0) (run-wider (max low (suc f)) high (suc f) high fs (omega arith) (omega arith) (r .1)),
+        exact-more bytes numberBytes f fs l n (g .2 .1) (r .2),
+      )))
+
+  pub feature-list-said : (low high : ℕ) → low ≤ high → Gives bytes (featureList low high) (λ fs l. Run low fs high × Exact bytes weightBytes fs l)
+  unfolding featureList weightBytes
+  feature-list-said low high h = gives-then _ _ number-said (λ k l g. gives-known _ (features-said k low high 0 h (omega arith)) (λ fs m r.
+      (run-wider (max low 0) high low high fs (omega arith) (omega arith) (r .1), exact-counted bytes numberBytes k fs l m (r .0) (g .1) (r .2))))
+
+  -- ---- operators
+
+  pub entries-said : (sizes : List ℕ) (k least : ℕ) → Gives bytes (entriesOf sizes k least) (λ o l. (length o ≡ k) × Entries sizes least o × Exact bytes (bytesOf entryBytes) o l)
+  unfolding entriesOf
+  entries-said sizes zero least = gives-give _ (refl, tt, exact-none bytes entryBytes)
+  entries-said sizes (suc k) least = gives-then _ _ (rising-said 0 (length sizes) least) (λ i l g.
+      gives-then _ _ (item-said 0 (size sizes i) Range) (λ x m h.
+      gives-then _ _ (item-said 0 (size sizes i) Range) (λ y n r.
+      gives-map (_∷_ (record { variable = i; before = x; after = y })) _ (entries-said sizes k (suc i)) (λ es p u.
+      (ap suc (u .0), (omega (arith, g .0), g .1, h .1, r .1, u .1), exact-entry bytes (record { variable = i; before = x; after = y }) es l m n p (g .2 .1) (h .2 .1) (r .2 .1) (u .2))))))
+
+  pub operator-said : (sizes : List ℕ) → Gives bytes (operatorOf sizes) (λ o l. IsOperator sizes o × Exact bytes operatorBytes o l)
+  unfolding operatorOf operatorBytes
+  operator-said sizes = gives-then _ _ (item-said 1 (suc (length sizes)) Range) (λ k l g. gives-known _ (entries-said sizes k 0) (λ o m h.
+      (record { filled = omega (arith, g .0, h .0); entries = h .1 }, exact-counted bytes entryBytes k o l m (h .0) (g .2 .1) (h .2))))
+
+  pub operators-said : (sizes : List ℕ) (k : ℕ) → Gives bytes (operatorsOf sizes k) (λ os l. (length os ≡ k)
+      × ((o : Operator) → In o os → IsOperator sizes o) × Exact bytes (bytesOf operatorBytes) os l)
+  unfolding operatorsOf
+  operators-said sizes zero = gives-give _ (refl, (λ o m. absurd (not-nil m)), exact-none bytes operatorBytes)
+  operators-said sizes (suc k) = gives-then _ _ (operator-said sizes) (λ o l g. gives-map (_∷_ o) _ (operators-said sizes k) (λ os m h.
+      (ap suc (h .0), (λ p z. elim (cases-cons z) [ inl q ↦ rw q (g .0) | inr q ↦ h .1 p q ]), exact-more bytes operatorBytes o os l m (g .1) (h .2))))

@@ -21,15 +21,10 @@ use Rattle.meaning.specs.Line.{Found, nothing, separating, Seeks, Says}
 use Rattle.theory.specs.Truth.{on, off, test}
 use Rattle.theory.specs.Search.{and-left, and-right, every-at, all-at, listed-in}
 use Rattle.theory.specs.SlotsOf.{slots-of-stored}
-use Rattle.theory.specs.Parity.{dot-comm, dot-cong, odd-shared}
 use Rattle.theory.specs.Whole.{whole-cong}
 use Rattle.theory.specs.Tells.{Tells, tells-map, tells-true, tells-false, tells-differ, tells-same, tells-and, tells-not, tells-imp, tells-every, tells-all, tells-eq, tells-lt, tells-le}
-use Rattle.theory.specs.Insert.{cut}
-use Rattle.marked.specs.States.{states, in-states, cut-below, tells-sets, everySet}
-
--- Only the weights below n matter.
-pub shared-cut : (n : ℕ) (weights a : Set) → odd (shared n (cut n weights) a) ≡ odd (shared n weights a)
-shared-cut n weights a = odd-shared n _ a ∙ dot-comm n _ a ∙ dot-cong n a _ _ (cut-below n weights) ∙ dot-comm n a _ ∙ sym (odd-shared n weights a)
+use Rattle.theory.specs.Cut.{cut, cut-below, shared-cut, meets-cut, separates-cut}
+use Rattle.marked.specs.States.{states, in-states, tells-sets, everySet}
 
 -- ---- an operator keeps parity
 
@@ -41,10 +36,6 @@ module _ (sizes : List ℕ) where
   unfolding state?
   tells-state state = tells-map (λ h. record { full = h .0; values = h .1 }) (λ h. (h .full, h .values))
       (tells-and (tells-eq _ _) (tells-every _ _ _ (λ i l. tells-lt _ _)))
-
-  pub parity-cut : (weights : Set) (state : List ℕ) → parity sizes (cut (features sizes) weights) state ≡ parity sizes weights state
-  unfolding parity
-  parity-cut weights state = shared-cut (features sizes) weights _
 
 module _ (sizes : List ℕ) (pairs : Set) where
   unfoldable pub considered? : Operator → List ℕ → Bool
@@ -81,12 +72,6 @@ module _ (sizes : List ℕ) (pairs : Set) where
   unfolding meets?
   tells-meets operators weights = tells-all _ (Allows sizes pairs weights) operators (λ o m. tells-allows weights o)
 
-  pub meets-cut : (operators : List Operator) (weights : Set) → Meets sizes pairs operators (cut (features sizes) weights) ↔ Meets sizes pairs operators weights
-  meets-cut operators weights = (
-    λ h o m b state c. sym (parity-cut sizes weights _) ∙ h o m b state c ∙ parity-cut sizes weights state,
-    λ h o m b state c. parity-cut sizes weights _ ∙ h o m b state c ∙ sym (parity-cut sizes weights state),
-  )
-
 -- ---- weights separate
 
 -- The parities of start and goal differ.
@@ -100,12 +85,6 @@ pub tells-separates : (T : Task) (weights : Set) → Tells (separates? T weights
 unfolding separates? endsDiffer?
 tells-separates T weights = tells-map (λ h. record { ends = h .0; keeps = h .1 }) (λ h. (h .ends, h .keeps))
     (tells-and (tells-differ _ _) (tells-meets (T .sizes) (listed (T .pairs)) (T .operators) weights))
-
-pub separates-cut : (T : Task) (weights : Set) → Separates T weights → Separates T (cut (features (T .sizes)) weights)
-separates-cut T weights h = record {
-  ends = rw (parity-cut (T .sizes) weights (T .start), parity-cut (T .sizes) weights (T .goal)) (h .ends);
-  keeps = meets-cut (T .sizes) (listed (T .pairs)) (T .operators) weights .1 (h .keeps);
-}
 
 -- ---- what is to be found
 

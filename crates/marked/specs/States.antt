@@ -1,5 +1,5 @@
 -- All states of some sizes, and all sets of features below a number: what the decisions go through.
-use Prim.Native.Nat.{ℕ, zero, suc, _<_}
+use Prim.Native.Nat.{ℕ, zero, suc}
 use mathlib.Core.Path.{_≡_, refl, fun-ext}
 use mathlib.Core.Bool.{Bool, true, false, _&&_, _||_}
 use mathlib.Core.List.{List, [], _∷_, map, List·Memᴰ as In, List·Memᴰ·head as here, Memᴰ·map as in-map}
@@ -11,7 +11,7 @@ use Rattle.meaning.specs.Task.{State}
 use Rattle.theory.specs.Truth.{on, off, test, less, same, more, order}
 use Rattle.theory.specs.Search.{and-left, and-right, and-both}
 use Rattle.theory.specs.Flat.{in-flat}
-use Rattle.theory.specs.Insert.{cut}
+use Rattle.theory.specs.Cut.{cut}
 use Rattle.theory.specs.Tells.{Tells}
 
 -- ---- states
@@ -32,10 +32,6 @@ in-states (d ∷ ds) (x ∷ xs) h = in-flat d _ x (x ∷ xs) (h .values 0 (omega
     rest = record { full = omega (arith, h .full); values = λ i l. h .values (suc i) (omega arith) }
 
 -- ---- sets
-
-pub cut-below : (n : ℕ) (a : Set) (f : ℕ) → f < n → cut n a f ≡ a f
-unfolding cut
-cut-below n a f l = rw (lt-ltb f n l)
 
 -- Every set of numbers below n passes a test, from the empty set up.
 unfoldable pub everySet : ℕ → (Set → Bool) → Bool

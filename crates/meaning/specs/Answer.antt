@@ -4,10 +4,10 @@ use mathlib.Core.Path.{_≡_}
 use mathlib.Core.Logic.{_≢_, _⊎_}
 use mathlib.Core.Bool.{Bool, true, false, not, cond}
 use mathlib.Core.List.{List, [], _∷_, _++_}
-use lib.ListN.{length, getD, take, drop}
+use lib.ListN.{length, getD, drop}
 use lib.Dec.{eqb, leb, ltb}
-use Rattle.meaning.specs.Sets.{Set, Slots, listed}
-use Rattle.meaning.specs.Task.{Entry, Operator, Task, size}
+use Rattle.meaning.specs.Sets.{Set, Slots, table, listed}
+use Rattle.meaning.specs.Task.{Operator, Task, size}
 use Rattle.meaning.specs.Feature.{features, parity}
 use Rattle.meaning.specs.Pair.{idle, closed, holds}
 use Rattle.meaning.specs.Slot.{SlotsOf, Stored}
@@ -118,14 +118,18 @@ Finds workspace room outcome =
 
 -- ---- edits
 
--- "An operator is held as one record of its entries": a count and places, those past the count ignored.
+-- "An operator is held as one record of its entries": a count, and a list of variables, of before values and of after values.
 pub record OperatorRecord : Type 0 where
   pub count : ℕ
-  pub places : List Entry
+  pub variables : List ℕ
+  pub befores : List ℕ
+  pub afters : List ℕ
 
--- The operator that a record holds.
-abbrev pub operatorIn : OperatorRecord → Operator
-operatorIn r = take (r .count) (r .places)
+-- The operator that a record holds: its entries below the count; a place past a list's end counts as 0.
+unfoldable pub operatorIn : OperatorRecord → Operator
+operatorIn r =
+    table (r .count)
+    (λ i. record { variable = getD (r .variables) i 0; before = getD (r .befores) i 0; after = getD (r .afters) i 0 })
 
 pub data Edit : Type 0 where
   addOperator : OperatorRecord → Edit

@@ -3,28 +3,27 @@
 use Prim.Native.Nat.{ℕ, zero, suc, _+_, _-_, _*_, _<_, _≤_, min}
 use mathlib.Core.Path.{_≡_, refl, ap, ap₂, sym, _∙_, subst}
 use mathlib.Core.Logic.{_⊎_, inl, inr}
-use mathlib.Core.Bool.{Bool, true, false, not, _&&_}
-use mathlib.Core.List.{List, [], _∷_, _++_, append-assoc}
+use mathlib.Core.Bool.{false, _&&_}
+use mathlib.Core.List.{List, _∷_, _++_, append-assoc}
 use native.Mathlib.Omega.{arith}
 use native.Mathlib.Nat.{mul-le-mul-right}
-use lib.Dec.{eqb, leb, ltb}
+use lib.Dec.{ltb}
 use lib.ListN.{length, getD, take, drop, length-append, length-take, length-drop, take-append-drop, List·getD-append}
 use lib.Seq.{take-at, drop-at, drop-drop, getD-take, getD-drop, getD-append-add, length-take-le, drop-cons}
-use borrow.Author.Tests.{eqb-true, ltb-true, ltb-false, lt-ltb, leb-true, not-true}
+use borrow.Author.Tests.{ltb-true, ltb-false, lt-ltb}
 use Rattle.meaning.specs.Sets.{Slots, flat}
-use Rattle.meaning.specs.Task.{Operator, Task, State, Entries, IsOperator, size}
+use Rattle.meaning.specs.Task.{Task}
 use Rattle.meaning.specs.Feature.{features}
 use Rattle.meaning.specs.Slot.{Reduced}
-use Rattle.meaning.specs.Pair.{closed, holds}
-use Rattle.meaning.specs.Number.{Reason, Range, Unordered, Held, Unclosed}
-use Rattle.meaning.specs.File.{inside, Acceptable}
+use Rattle.meaning.specs.File.{Acceptable}
 use Rattle.meaning.specs.Workspace.{has, wordsFor, sizesAt, startAt, goalAt, pairsAt, slotsAt, wordsDue, packed, Content, wordsOf, Proper, WellFormed, contentOf}
-use Rattle.meaning.specs.Answer.{OperatorRecord, operatorIn, Edit, addOperator, replaceStart, replaceGoal, Judged, fine, need, entriesJudged, valuesJudged, editJudged, Changes}
+use Rattle.meaning.specs.Answer.{Edit, addOperator, replaceStart, replaceGoal, fine, editJudged, Changes}
 use Rattle.theory.specs.Truth.{on, off, test, less, same, more, order}
-use Rattle.theory.specs.Search.{and-left, listed-in}
+use Rattle.theory.specs.Search.{listed-in}
 use Rattle.theory.specs.Flat.{flat-cong, length-flat}
 use Rattle.theory.specs.Run.{run-in}
 use Rattle.theory.specs.Slots.{slot-past}
+use Rattle.theory.specs.Operands.{start-fine, goal-fine}
 use Rattle.theory.specs.Words.{Words, length-packed, packed-holds, packed-has, packed-cong}
 
 -- ---- lists that begin with a known part
@@ -357,52 +356,6 @@ opened-proper T slots a R = record {
   slots = R;
 }
 
-need-fine : (b : Bool) (reason : Reason) (rest : Judged) → need b reason rest ≡ fine → (b ≡ true) × (rest ≡ fine)
-need-fine true reason rest e = (refl, e)
-need-fine false reason rest e = (cc, cc)
-
--- New values that are judged fine are a state.
-pub values-fine : (sizes values : List ℕ) (rest : Judged) → length values ≡ length sizes → valuesJudged sizes values rest ≡ fine → State sizes values × (rest ≡ fine)
-unfolding valuesJudged
-values-fine [] values rest h e = (record { full = h; values = λ i l. absurd (omega arith) }, e)
-values-fine (d ∷ ds) [] rest h e = absurd (omega arith)
-values-fine (d ∷ ds) (x ∷ xs) rest h e = let (b, q) = need-fine (ltb x d) Range (valuesJudged ds xs rest) e in
-    let (s, r) = values-fine ds xs rest (omega arith) q in (record { full = h; values = each b s }, r)
-  where
-    each : ltb x d ≡ true → State ds xs → (i : ℕ) → i < length (d ∷ ds) → getD (x ∷ xs) i 0 < getD (d ∷ ds) i 0
-    each b s zero l = ltb-true x d b
-    each b s (suc i) l = s .values i (omega arith)
-
-pub start-fine : (c : Content) (values : List ℕ) → editJudged c (replaceStart values) ≡ fine → State (c .sizes) values × (holds (c .sizes) (c .pairs) values ≡ false)
-start-fine c values e = let (b, q) = need-fine (eqb (length values) (variablesIn c)) Range _ e in
-    let (s, r) = values-fine (c .sizes) values _ (eqb-true (length values) (variablesIn c) b) q in
-    (s, not-true (holds (c .sizes) (c .pairs) values) (need-fine (not (holds (c .sizes) (c .pairs) values)) Held fine r .0))
-
-pub goal-fine : (c : Content) (values : List ℕ) → editJudged c (replaceGoal values) ≡ fine → State (c .sizes) values
-goal-fine c values e = let (b, q) = need-fine (eqb (length values) (variablesIn c)) Range _ e in
-    values-fine (c .sizes) values _ (eqb-true (length values) (variablesIn c) b) q .0
-
-entries-fine : (sizes : List ℕ) (low : ℕ) (o : Operator) (rest : Judged) → entriesJudged sizes low o rest ≡ fine → Entries sizes low o × (rest ≡ fine)
-unfolding entriesJudged
-entries-fine sizes low [] rest e = (tt, e)
-entries-fine sizes low (x ∷ xs) rest e =
-    let (a, e₁) = need-fine (ltb (x .variable) (length sizes)) Range _ e in
-    let (b, e₂) = need-fine (leb low (x .variable)) Unordered _ e₁ in
-    let (c, e₃) = need-fine (ltb (x .before) (size sizes (x .variable))) Range _ e₂ in
-    let (d, e₄) = need-fine (ltb (x .after) (size sizes (x .variable))) Range _ e₃ in
-    let (es, r) = entries-fine sizes (suc (x .variable)) xs rest e₄ in
-    ((leb-true low (x .variable) b, ltb-true _ _ a, ltb-true _ _ c, ltb-true _ _ d, es), r)
-
--- A new operator that is judged fine keeps the rules of an operator, where the record has as many places as it counts.
-pub operator-fine : (c : Content) (r : OperatorRecord) → r .count ≤ length (r .places) → editJudged c (addOperator r) ≡ fine
-    → IsOperator (c .sizes) (operatorIn r) × (closed (c .sizes) (c .pairs) (operatorIn r) ≡ true)
-operator-fine c r l e =
-    let (b, q) = need-fine (inside 1 (suc (variablesIn c)) (r .count)) Range _ e in
-    let (es, k) = entries-fine (c .sizes) 0 (operatorIn r) _ q in (
-      record { filled = rw (length-take-le (r .count) (r .places) l) (leb-true 1 (r .count) (and-left (leb 1 (r .count)) (ltb (r .count) (suc (variablesIn c))) b)); entries = es },
-      need-fine (closed (c .sizes) (c .pairs) (operatorIn r)) Unclosed fine k .0,
-    )
-
 -- An accepted edit leaves a proper content.
 pub edit-proper : (c c' : Content) (edit : Edit) → Proper c → editJudged c edit ≡ fine → Changes c edit c' → Proper c'
 edit-proper c c' (addOperator r) p e h = subst Proper (sym (h .2))
@@ -410,4 +363,15 @@ edit-proper c c' (addOperator r) p e h = subst Proper (sym (h .2))
 edit-proper c c' (replaceStart values) p e h = let (s, k) = start-fine c values e in subst Proper (sym h)
     (record { limits = p .limits; start = s; goal = p .goal; pairs = p .pairs; free = k; slots = p .slots })
 edit-proper c c' (replaceGoal values) p e h = subst Proper (sym h)
-    (record { limits = p .limits; start = p .start; goal = goal-fine c values e; pairs = p .pairs; free = p .free; slots = p .slots })
+    (record { limits = p .limits; start = p .start; goal = goal-fine c values fine e .0; pairs = p .pairs; free = p .free; slots = p .slots })
+
+pub edit-sizes : (c c' : Content) (edit : Edit) → Changes c edit c' → c' .sizes ≡ c .sizes
+edit-sizes c c' (addOperator r) h = ap (λ d. d .sizes) (h .2)
+edit-sizes c c' (replaceStart values) h = ap (λ d. d .sizes) h
+edit-sizes c c' (replaceGoal values) h = ap (λ d. d .sizes) h
+
+-- An accepted edit leaves the words after those due as they were.
+pub edit-further : (c c' : Content) (edit : Edit) (further : List ℕ) → Proper c → Proper c' → Changes c edit c' → drop (length (wordsOf c')) (wordsOf c ++ further) ≡ further
+edit-further c c' edit further p p' h = ap (λ n. drop n (wordsOf c ++ further))
+    (length-words c' (p' .start .full) (p' .goal .full) ∙ ap (λ sizes. wordsDue (length sizes) (features sizes)) (edit-sizes c c' edit h))
+    ∙ read-further c further (p .start .full) (p .goal .full)

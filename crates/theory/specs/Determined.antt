@@ -16,7 +16,7 @@ use Rattle.meaning.specs.Number.{Reason, Small, Malformed, refusal, Read, got, 
 use Rattle.meaning.specs.File.{judgedTask, judgedWeights}
 use Rattle.meaning.specs.Workspace.{Content, wordsOf, wordsFor, wordsDue, WellFormed, contentOf}
 use Rattle.meaning.specs.Answer.{done, refused, refuses, writes, byRead, accepted, endsAlike, breaks, Breaks, Judges, Checks, Opens}
-use Rattle.meaning.specs.Answer.{separated, FindsIn, Finds, Edit, addOperator, replaceStart, replaceGoal, Judged, fine, faulty, editJudged, Changes, EditsIn, Edits}
+use Rattle.meaning.specs.Answer.{separated, FindsIn, FindsBy, Finds, Edit, addOperator, replaceStart, replaceGoal, Judged, fine, faulty, editJudged, Changes, EditsIn, Edits}
 use Rattle.meaning.specs.Bay.{Builds, judgedBay}
 use Rattle.meaning.specs.Line.{nothing, separating, Seeks, Says, tooLarge, Prints}
 use Rattle.theory.specs.Truth.{less, same, more, order}
@@ -104,7 +104,7 @@ finds-in-only c room a b (inr h) (inr h') = h .2
     ∙ sym (h' .2)
 
 pub finds-only : (workspace room : List ℕ) → AtMostOne (Finds workspace room)
-finds-only workspace room = formed-or workspace _ (refuses Malformed room)
+finds-only workspace room = formed-or workspace (λ c. FindsBy c room) (refuses Malformed room)
     (λ c. if-only (ltb (length room) (wordsFor (features (c .sizes)))) _ _ (is-only (refuses Small room)) (finds-in-only c room))
 
 -- ---- edits

@@ -1,19 +1,19 @@
 -- The finder: the least weights from reduced slots, and when there are none; for a task's workspace these are the task's own.
-use Prim.Native.Nat.{ℕ, _<_, _≤_}
+use Prim.Native.Nat.{ℕ, _<_}
 use mathlib.Core.Path.{_≡_, refl, ap, ap₂, sym, _∙_, subst}
-use mathlib.Core.Logic.{_≢_, _↔_, inl, inr}
-use mathlib.Core.Bool.{Bool, true, false, cond}
+use mathlib.Core.Logic.{_↔_, inl, inr}
+use mathlib.Core.Bool.{true, false}
 use mathlib.Core.List.{List, _++_}
 use native.Mathlib.Omega.{arith}
 use lib.Dec.{ltb}
 use lib.ListN.{length, drop}
-use Rattle.meaning.specs.Sets.{_⊕_, Set, Slots, listed, wholeNumber}
+use Rattle.meaning.specs.Sets.{_⊕_, Set, listed}
 use Rattle.meaning.specs.Task.{Task, value}
 use Rattle.meaning.specs.Feature.{features, trueIn, parity}
-use Rattle.meaning.specs.Slot.{LeastMember, Reduced, Stored}
-use Rattle.meaning.specs.Weight.{Meets, SeparatesBy, Separates, LeastOf}
-use Rattle.meaning.specs.Workspace.{Content, wordsFor, packed, contentOf, WellFormed}
-use Rattle.meaning.specs.Answer.{Answer, done, Outcome, refuses, writes, Finding, none, separated, SeparatesIn, FindsIn, FindsBy, Finds}
+use Rattle.meaning.specs.Slot.{LeastMember, Reduced}
+use Rattle.meaning.specs.Weight.{Separates, LeastOf}
+use Rattle.meaning.specs.Workspace.{Content, wordsFor, packed, contentOf}
+use Rattle.meaning.specs.Answer.{done, Outcome, refuses, Finding, none, separated, SeparatesIn, FindsIn, FindsBy, Finds}
 use Rattle.meaning.specs.Number.{Small}
 use Rattle.theory.specs.Truth.{on, off, test, clash, xor-true-differ, differ-xor}
 use Rattle.theory.specs.Parity.{dot, dot-xor, odd-shared}

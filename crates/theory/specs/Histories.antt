@@ -1,23 +1,22 @@
 -- Demand 3: a workspace opened from a task and changed by edits holds the words that a fresh opening would, and gives its answers.
 use Prim.Native.Nat.{ℕ}
-use mathlib.Core.Path.{_≡_, refl, ap, sym, _∙_, subst}
-use mathlib.Core.Logic.{_↔_, inl, inr, ⊎-elim}
-use mathlib.Core.Bool.{Bool, true, false, not, cond}
-use mathlib.Core.List.{List, [], _∷_, _++_, List·Memᴰ as In, List·Memᴰ·append-cases as append-cases, List·Memᴰ·eq-of-singleton as eq-of-singleton}
+use mathlib.Core.Path.{_≡_, refl, ap, _∙_, subst}
+use mathlib.Core.Logic.{inl, inr}
+use mathlib.Core.Bool.{false, cond}
+use mathlib.Core.List.{List, [], _∷_, _++_, List·Memᴰ·append-cases as append-cases, List·Memᴰ·eq-of-singleton as eq-of-singleton}
 use native.Mathlib.Omega.{arith}
 use lib.Dec.{ltb}
 use lib.ListN.{length, take, drop}
 use lib.Seq.{take-at}
-use borrow.Author.Tests.{eqb-true, not-true}
-use Rattle.meaning.specs.Sets.{Set, Slots, listed}
+use Rattle.meaning.specs.Sets.{Slots, listed}
 use Rattle.meaning.specs.Task.{Operator, Task, State, Entries}
 use Rattle.meaning.specs.Feature.{features}
 use Rattle.meaning.specs.Pair.{holds}
 use Rattle.meaning.specs.Slot.{SlotsOf, Stored}
 use Rattle.meaning.specs.Weight.{Allows, Meets}
-use Rattle.meaning.specs.Number.{Reason, Small, refusal, got}
+use Rattle.meaning.specs.Number.{Small, refusal, got}
 use Rattle.meaning.specs.File.{judgedTask}
-use Rattle.meaning.specs.Workspace.{Content, wordsOf, wordsDue, Proper, WellFormed, contentOf}
+use Rattle.meaning.specs.Workspace.{wordsOf, wordsDue, Proper, WellFormed, contentOf}
 use Rattle.meaning.specs.Answer.{Answer, done, refused, Outcome, refuses, writes, Edit, addOperator, replaceStart, replaceGoal, operatorIn, Judged, fine, faulty, editJudged, EditsIn, Edits, Opens, Finding, FindsBy, Finds}
 use Rattle.meaning.specs.History.{Event, Edited, startAfter, goalAfter, movesAfter, taskAfter, SameTask}
 use Rattle.theory.specs.Truth.{on, off, test}
@@ -205,19 +204,7 @@ same-content T U ws us S R q = λ i. record {
 pub stands-words : (T : Task) (ws : List ℕ) (S : StandsFor T ws) → take (wordsDue (length (T .sizes)) (features (T .sizes))) ws ≡ wordsOf (contentOf T (S .slots))
 stands-words T ws S = rw (S .words) (take-at (wordsOf (contentOf T (S .slots))) (S .further) _ (length-words (contentOf T (S .slots)) (S .proper .start .full) (S .proper .goal .full)))
 
--- Demand 3. "Its words then equal those opened afresh from a task with the same variables and pairs, the last accepted start and goal, and all
--- its moves, the first task's with every one accepted since, listed in any order, repeats or not, provided such a task can be written."
-pub same-words : (T U : Task) (file file' room room' ws end us : List ℕ) (next next' k k' : ℕ) (events : List Event)
-    → judgedTask file ≡ got T next → Opens file room (record { answer = done k; lent = ws }) → Edited ws events end
-    → judgedTask file' ≡ got U next' → Opens file' room' (record { answer = done k'; lent = us })
-    → SameTask (taskAfter T events) U
-    → take (wordsDue (length (U .sizes)) (features (U .sizes))) end ≡ take (wordsDue (length (U .sizes)) (features (U .sizes))) us
-same-words T U file file' room room' ws end us next next' k k' events judged opens edited judged' opens' same =
-    let S = edited-stands events T ws end (opened-stands T file room ws next k judged opens) edited in
-    let R = opened-stands U file' room' us next' k' judged' opens' in
-    rw (← (same .sizes)) (stands-words (taskAfter T events) end S ∙ ap wordsOf (same-content (taskAfter T events) U end us S R same) ∙ sym (rw (same .sizes) (stands-words U us R)))
-
--- Demand 3, the answer: "Its answer is that task's answer." Whatever the finder may answer for the one workspace it may for the other.
+-- Whatever the finder may answer for the one workspace it may for the other.
 pub same-finds : (T U : Task) (ws us room : List ℕ) (outcome : Outcome Finding) → StandsFor T ws → StandsFor U us → SameTask T U
     → Finds ws room outcome → Finds us room outcome
 unfolding stands-formed

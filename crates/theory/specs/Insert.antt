@@ -5,7 +5,7 @@ use mathlib.Core.Logic.{_≢_, _↔_, Iff·trans}
 use mathlib.Core.Bool.{true, false, _&&_, cond, and-false, and-true}
 use native.Mathlib.Omega.{arith}
 use lib.Dec.{eqb, ltb}
-use borrow.Author.Tests.{eqb-true, eqb-false, ltb-true, lt-ltb, le-ltb}
+use borrow.Author.Tests.{eqb-true, eqb-false, lt-ltb, le-ltb}
 use Rattle.meaning.specs.Sets.{_⊕_, Set, Slots}
 use Rattle.theory.specs.Truth.{on, off, test, clash, xor-self, xor-false}
 use Rattle.theory.specs.Parity.{dot, dot-none, dot-cong, dot-xor, dot-and}
@@ -13,6 +13,7 @@ use Rattle.meaning.specs.Slot.{LeastMember, Reduced, Stored}
 use Rattle.theory.specs.Slots.{nothing, found, least, lead, lead-none, lead-least, stored-dot, dot-stored, slot-none, slot-low}
 use Rattle.theory.specs.Reduce.{red, red-dot, red-avoid, red-within}
 use Rattle.theory.specs.SlotsOf.{same-slots}
+use Rattle.theory.specs.Cut.{cut, cut-within, cut-dot}
 
 -- ---- one row that is reduced already
 
@@ -95,18 +96,6 @@ module _ {n : ℕ} {S : Slots} (R : Reduced n S) {p : ℕ} {r : Set} (F : Fresh 
       after k e i l = elim (placed S p r i) [ own q h ↦ dot-cong n w _ r (λ f j. h f) ∙ e | other d h ↦ even i h e ∙ stored-dot n S w k i l ]
 
 -- ---- any row
-
--- The members below n.
-unfoldable pub cut : ℕ → Set → Set
-cut n a f = ltb f n && a f
-
-pub cut-within : (n : ℕ) (a : Set) (f : ℕ) → cut n a f ≡ true → f < n
-unfolding cut
-cut-within n a f e = elim (test (ltb f n)) [ on t ↦ ltb-true f n t | off t ↦ absurd (clash e (rw t)) ]
-
-pub cut-dot : (n : ℕ) (w a : Set) → dot n w (cut n a) ≡ dot n w a
-unfolding cut
-cut-dot n w a = dot-cong n w _ _ (λ f l. rw (lt-ltb f n l))
 
 -- What the slots leave of a row.
 unfoldable pub rest : ℕ → Slots → Set → Set

@@ -4,6 +4,7 @@ pub mod Flat
 pub mod Run
 pub mod Tells
 pub mod Parity
+pub mod Cut
 pub mod Slots
 pub mod Reduce
 pub mod SlotsOf
@@ -38,3 +39,4 @@ pub mod Determined
 pub mod BayMoves
 pub mod BayPairs
 pub mod BayTask
+pub mod Demands

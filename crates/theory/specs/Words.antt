@@ -3,13 +3,13 @@ use Prim.Native.Nat.{ℕ, zero, suc, _+_, _-_, _*_, _/_, _%_, _^_, _<_, _≤_}
 use mathlib.Core.Path.{_≡_, ap, sym, _∙_}
 use mathlib.Core.Logic.{_≢_}
 use mathlib.Core.Bool.{true, false, _&&_, cond}
-use mathlib.Core.List.{List}
+use mathlib.Core.List.{List, _++_}
 use native.Mathlib.Omega.{arith}
 use native.Mathlib.Nat.{add-mul-div-right, add-mul-mod-self-right, div-eq-of-lt, add-div-right, add-zero, pow-succ', lt-of-lt-of-le, mod-eq-of-lt, mul-assoc}
 use lib.Dec.{ltb}
 use lib.Arith.{mod-mul}
 use lib.Pow.{pow-pos, pow-mono, pow-add}
-use lib.ListN.{length, getD, List·getD-eq-default}
+use lib.ListN.{length, getD, List·getD-eq-default, List·getD-append}
 use lib.Seq.{ext-getD}
 use borrow.Author.Tests.{eqb-true, eqb-false, ltb-true, ltb-false, lt-ltb, le-ltb}
 use Rattle.meaning.specs.Sets.{Set, wholeNumber}
@@ -128,3 +128,11 @@ packed-same n a b e f l = member a ∙ ap (λ l. has l f) e ∙ sym (member b)
   where
     member : (c : Set) → c f ≡ has (packed n c) f
     member c = sym (has-packed n c f ∙ rw (lt-ltb f n l))
+
+-- What follows a list of words does not change what the list has.
+pub has-front : (l r : List ℕ) (f : ℕ) → f < length l * wordBits → has (l ++ r) f ≡ has l f
+unfolding has
+has-front l r f h = rw (List·getD-append l r 0 (f / wordBits) (omega arith))
+
+pub packed-front : (n : ℕ) (a : Set) (r : List ℕ) (f : ℕ) → f < n → has (packed n a ++ r) f ≡ a f
+packed-front n a r f h = has-front (packed n a) r f (omega (arith, length-packed n a)) ∙ packed-holds n a f (λ k. absurd (omega arith))

@@ -1,6 +1,6 @@
 -- Numbers of a file, over how many groups a number may have: what is written is read back, what is read is in its range, and it is written as
 -- the bytes that it was read from.
-use Prim.Native.Nat.{ℕ, zero, suc, _+_, _*_, _/_, _%_, _^_, _<_, _≤_}
+use Prim.Native.Nat.{ℕ, zero, suc, _+_, _-_, _*_, _/_, _%_, _^_, _<_, _≤_}
 use mathlib.Core.Path.{_≡_, refl, sym, ap, ap₂, _∙_, subst}
 use mathlib.Core.List.{List, [], _∷_, _++_}
 use native.Mathlib.Omega.{arith}
@@ -168,7 +168,7 @@ groups-give bytes (suc k) first = record {
 
 pub number-back : (n : ℕ) → n < numberEnd → (after : List ℕ) → Reads number n (numberBytes n) after
 unfolding number numberBytes
-number-back n h after = record { reads = λ before. groups-back 1 n h (length before) after .reads before }
+number-back n h after = record { reads = λ before. groups-back (mostGroups - 1) n h (length before) after .reads before }
 
 pub number-bytes : (n : ℕ) → Bytes (numberBytes n)
 unfolding numberBytes
@@ -176,7 +176,7 @@ number-bytes n = group-bytes mostGroups n
 
 pub number-bytes-length : (n : ℕ) → (1 ≤ length (numberBytes n)) × (length (numberBytes n) ≤ mostGroups)
 unfolding numberBytes
-number-bytes-length n = (group-bytes-filled 1 n, group-bytes-few mostGroups n)
+number-bytes-length n = (group-bytes-filled (mostGroups - 1) n, group-bytes-few mostGroups n)
 
 pub number-gives : (bytes : List ℕ) → Gives bytes number (Grouped bytes mostGroups)
 unfolding number

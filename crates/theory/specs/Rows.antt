@@ -13,7 +13,7 @@ use lib.ListN.{length, set, length-set}
 use lib.Seq.{getD-set-same, getD-set-other}
 use lib.Dec.{eqb}
 use borrow.Author.Tests.{eqb-true, eqb-false, ne-eqb, not-true, not-false}
-use Rattle.meaning.specs.Sets.{_⊕_, Set, some, flat, table}
+use Rattle.meaning.specs.Sets.{_⊕_, Set, allOf, some, flat, table}
 use Rattle.meaning.specs.Task.{Operator, State, Entries, names, applies, applied, value, size}
 use Rattle.meaning.specs.Feature.{features, single, both, trueIn, parity}
 use Rattle.meaning.specs.Pair.{possible, clashing, stuck, idle}
@@ -23,6 +23,7 @@ use Rattle.theory.specs.Search.{all-cong, and-left, and-right, or-none-r
 use Rattle.theory.specs.Flat.{in-when, when-in, in-flat, flat-in, length-table, getD-table}
 use Rattle.theory.specs.Parity.{par, dot, par-cong, par-one, par-xor, dot-xor}
 use Rattle.theory.specs.Slots.{nothing, found, least, lead, lead-least}
+use Rattle.theory.specs.Tells.{Tells, tells-map, tells-all, tells-false}
 use Rattle.theory.specs.Group.{two}
 use Rattle.theory.specs.Splits.{score-cong, part, fixed, splits}
 use Rattle.theory.specs.Numbering.{both-mirror}
@@ -130,6 +131,10 @@ module _ (sizes : List ℕ) (pairs : Set) (o : Operator) where
   unfolding baseValue
   base-named i q = rw q
 
+  pub base-unnamed : (u : ℕ) → names o u ≡ false → baseValue sizes pairs o u ≡ lead (size sizes u) (possible sizes pairs o u)
+  unfolding baseValue
+  base-unnamed u q = rw q
+
   -- A considered state stays so with another possible value of an unnamed variable.
   pub considered-set : (s : List ℕ) (u y : ℕ) → Considered sizes pairs o s → names o u ≡ false → y < size sizes u → possible sizes pairs o u y ≡ true → Considered sizes pairs o (set s u y)
   unfolding applies
@@ -144,20 +149,22 @@ module _ (sizes : List ℕ) (pairs : Set) (o : Operator) where
 
   module _ (h : Entries sizes 0 o) (busy : idle sizes pairs o ≡ false) where
     -- An unnamed variable has a possible value.
-    some-possible : (u : ℕ) → u < length sizes → names o u ≡ false → some (size sizes u) (possible sizes pairs o u) ≡ true
+    pub some-possible : (u : ℕ) → u < length sizes → names o u ≡ false → some (size sizes u) (possible sizes pairs o u) ≡ true
     unfolding idle stuck
     some-possible u l q = let e = some-none (length sizes) _ (or-none-right (clashing sizes pairs o) _ busy) u l in not-false _ (rw q at e)
 
-    base-other : (u : ℕ) → u < length sizes → names o u ≡ false → (baseValue sizes pairs o u < size sizes u) × (possible sizes pairs o u (baseValue sizes pairs o u) ≡ true)
-    unfolding baseValue
-    base-other u l q = rw q (lead-some _ _ (some-possible u l q))
+    pub base-other : (u : ℕ) → u < length sizes → names o u ≡ false → (baseValue sizes pairs o u < size sizes u) × (possible sizes pairs o u (baseValue sizes pairs o u) ≡ true)
+    base-other u l q = rw (base-unnamed u q) (lead-some _ _ (some-possible u l q))
+
+    pub base-range : (i : ℕ) → i < length sizes → baseValue sizes pairs o i < size sizes i
+    base-range i l = elim (test (names o i)) [ on q ↦ rw (base-named i q) (before-range sizes 0 o i h q) | off q ↦ base-other i l q .0 ]
 
     pub base-considered : Considered sizes pairs o (base sizes pairs o)
     unfolding base
     base-considered = record {
       is-state = record {
         full = length-table (length sizes) _;
-        values = λ i l. rw (base-value i l) (elim (test (names o i)) [ on q ↦ rw (base-named i q) (before-range sizes 0 o i h q) | off q ↦ base-other i l q .0 ]);
+        values = λ i l. rw (base-value i l) (base-range i l);
       };
       has-before = value-applies sizes 0 o _ h (λ i q. base-value i (names-range sizes 0 o i h q) ∙ base-named i q);
       elsewhere = λ u l q. rw (base-value u l) (base-other u l q .1);
@@ -190,8 +197,7 @@ module _ (sizes : List ℕ) (pairs : Set) (o : Operator) where
       even-keeps even s c = kept-even sizes o w s .1 (change-splits sizes o h w s (c .is-state) (c .has-before) ∙ ap (λ b. fixedPart sizes o w ⊕ b) (par-cong (length sizes) _ _ alike)
           ∙ sym (change-splits sizes o h w _ (base-considered .is-state) (base-considered .has-before)) ∙ even .at-base)
         where
-          alike : (u : ℕ) → u < length sizes
-              → unnamedPart sizes o w s u ≡ unnamedPart sizes o w (base sizes pairs o) u
+          alike : (u : ℕ) → u < length sizes → unnamedPart sizes o w s u ≡ unnamedPart sizes o w (base sizes pairs o) u
           alike u l = elim (test (names o u)) [
             | on q ↦ rw q refl
             | off q ↦ rw (q, base-value u l) (elim (test (eqb (value s u) (baseValue sizes pairs o u))) [
@@ -206,7 +212,7 @@ module _ (sizes : List ℕ) (pairs : Set) (o : Operator) where
 
   -- ---- the rows as a list
 
-  rows-even : (w : Set) → Even sizes pairs o w ↔ ((r : Set) → In r (busyRows sizes pairs o) → dot (features sizes) w r ≡ false)
+  pub rows-even : (w : Set) → Even sizes pairs o w ↔ ((r : Set) → In r (busyRows sizes pairs o) → dot (features sizes) w r ≡ false)
   unfolding busyRows
   rows-even w = (
     forth,
@@ -246,3 +252,11 @@ meets-rows sizes pairs (o ∷ os) h w = step (allows-rows sizes pairs o (h o (he
         | inr k ↦ rest .1 (λ r i. all r (append-right (rowsOf sizes pairs o) i)) x k
       ],
     )
+
+-- The test whether weights meet an operator's condition: no row is met oddly.
+unfoldable pub allowed : List ℕ → Set → Set → Operator → Bool
+allowed sizes pairs w o = allOf (λ r. not (dot (features sizes) w r)) (rowsOf sizes pairs o)
+
+pub tells-allows : (sizes : List ℕ) (pairs w : Set) (o : Operator) → Entries sizes 0 o → Tells (allowed sizes pairs w o) (Allows sizes pairs w o)
+unfolding allowed
+tells-allows sizes pairs w o h = tells-map (allows-rows sizes pairs o h w .1) (allows-rows sizes pairs o h w .0) (tells-all _ (λ r. dot (features sizes) w r ≡ false) _ (λ r m. tells-false _))

@@ -51,7 +51,10 @@ module _ (sizes : List ℕ) (pairs : Set) where
 
       not-stuck : stuck sizes pairs o ≡ false
       unfolding stuck
-      not-stuck = some-not _ _ (λ u l. elim (test (names o u)) [ on q ↦ rw q refl | off q ↦ rw (q, some-at (size sizes u) (possible sizes pairs o u) (value s u) (t .values u l) (others-possible u l q)) refl ])
+      not-stuck = some-not _ _ (λ u l. elim (test (names o u)) [
+        | on q ↦ rw q refl
+        | off q ↦ rw (q, some-at (size sizes u) (possible sizes pairs o u) (value s u) (t .values u l) (others-possible u l q)) refl
+      ])
 
       pub not-idle : idle sizes pairs o ≡ false
       unfolding idle

@@ -2,8 +2,8 @@
 use Prim.Native.Nat.{ℕ, zero, suc, _<_, _≤_}
 use mathlib.Core.Path.{_≡_, refl, ap, ap₂, sym, _∙_, fun-ext}
 use mathlib.Core.Logic.{inl, inr}
-use mathlib.Core.Bool.{Bool, false}
-use mathlib.Core.List.{List, [], _∷_, _++_, List·Memᴰ as In, List·Memᴰ·head as here, List·Memᴰ·tail as there, List·Memᴰ·append-cases as append-cases}
+use mathlib.Core.Bool.{Bool, true, false, _&&_, cond}
+use mathlib.Core.List.{List, [], _∷_, _++_, flatMap, List·Memᴰ as In, List·Memᴰ·head as here, List·Memᴰ·tail as there, List·Memᴰ·append-cases as append-cases}
 use native.Mathlib.Omega.{arith}
 use lib.Dec.{eqb, ltb}
 use borrow.Author.Tests.{ltb-true, ltb-false, ne-eqb}
@@ -12,6 +12,7 @@ use Rattle.theory.specs.Truth.{on, off, test, xor-assoc, xor-false}
 use Rattle.theory.specs.Flat.{in-two, flat-in}
 use Rattle.theory.specs.Parity.{par, par-cong, par-xor, dot, dot-xor, dot-one, dot-none, dot-comm}
 
+-- The sum of a test's values over a list: whether an odd number of elements pass.
 unfoldable pub xorOf : {A : Type 0} → (A → Bool) → List A → Bool
 xorOf p [] = false
 xorOf p (a ∷ l) = p a ⊕ xorOf p l
@@ -21,32 +22,57 @@ unfoldable pub toggles : List ℕ → Set
 toggles l f = xorOf (eqb f) l
 
 module _ {A : Type 0} where
-  pub sum-same : (p q : A → Bool) (l : List A) → ((a : A) → In a l → p a ≡ q a) → xorOf p l ≡ xorOf q l
+  pub xor-same : (p q : A → Bool) (l : List A) → ((a : A) → In a l → p a ≡ q a) → xorOf p l ≡ xorOf q l
   unfolding xorOf
-  sum-same p q [] h = refl
-  sum-same p q (x ∷ xs) h = ap₂ _⊕_ (h x (here refl)) (sum-same p q xs (λ a m. h a (there m)))
+  xor-same p q [] h = refl
+  xor-same p q (x ∷ xs) h = ap₂ _⊕_ (h x (here refl)) (xor-same p q xs (λ a m. h a (there m)))
 
-  pub sum-none : (p : A → Bool) (l : List A) → ((a : A) → In a l → p a ≡ false) → xorOf p l ≡ false
+  pub xor-none : (p : A → Bool) (l : List A) → ((a : A) → In a l → p a ≡ false) → xorOf p l ≡ false
   unfolding xorOf
-  sum-none p [] h = refl
-  sum-none p (x ∷ xs) h = ap₂ _⊕_ (h x (here refl)) (sum-none p xs (λ a m. h a (there m)))
+  xor-none p [] h = refl
+  xor-none p (x ∷ xs) h = ap₂ _⊕_ (h x (here refl)) (xor-none p xs (λ a m. h a (there m)))
 
-  pub sum-two : (p : A → Bool) (a b : A) → xorOf p (a ∷ b ∷ []) ≡ p a ⊕ p b
+  pub xor-two : (p : A → Bool) (a b : A) → xorOf p (a ∷ b ∷ []) ≡ p a ⊕ p b
   unfolding xorOf
-  sum-two p a b = ap (_⊕_ (p a)) (xor-false (p b))
+  xor-two p a b = ap (_⊕_ (p a)) (xor-false (p b))
 
-  pub sum-join : (p : A → Bool) (l m : List A) → xorOf p (l ++ m) ≡ xorOf p l ⊕ xorOf p m
+  pub xor-join : (p : A → Bool) (l m : List A) → xorOf p (l ++ m) ≡ xorOf p l ⊕ xorOf p m
   unfolding xorOf
-  sum-join p [] m = refl
-  sum-join p (x ∷ xs) m = ap (_⊕_ (p x)) (sum-join p xs m) ∙ sym (xor-assoc (p x) (xorOf p xs) (xorOf p m))
+  xor-join p [] m = refl
+  xor-join p (x ∷ xs) m = ap (_⊕_ (p x)) (xor-join p xs m) ∙ sym (xor-assoc (p x) (xorOf p xs) (xorOf p m))
 
-  pub sum-flat : (p : A → Bool) (n : ℕ) (g : ℕ → List A) → xorOf p (flat n g) ≡ par n (λ i. xorOf p (g i))
+  pub xor-flat : (p : A → Bool) (n : ℕ) (g : ℕ → List A) → xorOf p (flat n g) ≡ par n (λ i. xorOf p (g i))
   unfolding flat par xorOf
-  sum-flat p zero g = refl
-  sum-flat p (suc n) g = sum-join p (flat n g) (g n) ∙ ap (λ b. b ⊕ xorOf p (g n)) (sum-flat p n g)
+  xor-flat p zero g = refl
+  xor-flat p (suc n) g = xor-join p (flat n g) (g n) ∙ ap (λ b. b ⊕ xorOf p (g n)) (xor-flat p n g)
 
-  pub sum-both : (p : A → Bool) (n : ℕ) (g h : ℕ → List A) → xorOf p (flat n (λ i. g i ++ h i)) ≡ xorOf p (flat n g) ⊕ xorOf p (flat n h)
-  sum-both p n g h = sum-flat p n _ ∙ par-cong n _ _ (λ i l. sum-join p (g i) (h i)) ∙ par-xor n _ _ ∙ sym (ap₂ _⊕_ (sum-flat p n g) (sum-flat p n h))
+  pub xor-both : (p : A → Bool) (n : ℕ) (g h : ℕ → List A) → xorOf p (flat n (λ i. g i ++ h i)) ≡ xorOf p (flat n g) ⊕ xorOf p (flat n h)
+  xor-both p n g h = xor-flat p n _ ∙ par-cong n _ _ (λ i l. xor-join p (g i) (h i)) ∙ par-xor n _ _ ∙ sym (ap₂ _⊕_ (xor-flat p n g) (xor-flat p n h))
+
+  pub xor-map : {B : Type 0} (p : A → Bool) (g : B → List A) (l : List B) → xorOf p (flatMap g l) ≡ xorOf (λ b. xorOf p (g b)) l
+  unfolding xorOf flatMap
+  xor-map p g [] = refl
+  xor-map p g (x ∷ xs) = xor-join p (g x) (flatMap g xs) ∙ ap (_⊕_ (xorOf p (g x))) (xor-map p g xs)
+
+  -- An element that is there only on a condition.
+  pub xor-when : (p : A → Bool) (b : Bool) (a : A) → xorOf p (cond b (a ∷ []) []) ≡ (b && p a)
+  unfolding xorOf
+  xor-when p true a = xor-false (p a)
+  xor-when p false a = refl
+
+-- ---- toggling
+
+pub toggles-one : (m f : ℕ) → toggles (m ∷ []) f ≡ eqb f m
+unfolding toggles xorOf
+toggles-one m f = xor-false (eqb f m)
+
+pub toggles-join : (l m : List ℕ) (f : ℕ) → toggles (l ++ m) f ≡ toggles l f ⊕ toggles m f
+unfolding toggles
+toggles-join l m f = xor-join (eqb f) l m
+
+pub toggles-flat : (n : ℕ) (g : ℕ → List ℕ) (f : ℕ) → toggles (flat n g) f ≡ par n (λ i. toggles (g i) f)
+unfolding toggles
+toggles-flat n g f = xor-flat (eqb f) n g
 
 -- All numbers of a list are below n.
 abbrev pub Below : ℕ → List ℕ → Type 0
@@ -60,6 +86,10 @@ below-join n l m p q k i = elim (append-cases l i) [ inl j ↦ p k j | inr j ↦
 
 pub below-flat : (n c : ℕ) (g : ℕ → List ℕ) → ((i : ℕ) → i < c → Below n (g i)) → Below n (flat c g)
 below-flat n c g h m k = let (i, l, j) = flat-in c g m k in h i l m j
+
+pub toggles-past : (n : ℕ) (l : List ℕ) (f : ℕ) → Below n l → n ≤ f → toggles l f ≡ false
+unfolding toggles
+toggles-past n l f below h = xor-none (eqb f) l (λ m k. ne-eqb f m (λ z. omega (arith, below m k)))
 
 -- What weights share with a toggled set, number by number of the list.
 pub dot-toggles : (n : ℕ) (w : Set) (l : List ℕ) → Below n l → dot n w (toggles l) ≡ xorOf w l
@@ -76,8 +106,7 @@ same-dots n a b h f l = sym (read a) ∙ h (λ g. eqb g f) ∙ read b
 
 -- A set with nothing from n on, with which all weights share what they sum up to over a list below n, is made by toggling that list.
 pub toggled : (n : ℕ) (a : Set) (l : List ℕ) → ((f : ℕ) → n ≤ f → a f ≡ false) → Below n l → ((w : Set) → dot n w a ≡ xorOf w l) → a ≡ toggles l
-unfolding toggles
 toggled n a l past below h = fun-ext (λ f. elim (test (ltb f n)) [
   | on e ↦ same-dots n a (toggles l) (λ w. h w ∙ sym (dot-toggles n w l below)) f (ltb-true f n e)
-  | off e ↦ past f (ltb-false f n e) ∙ sym (sum-none (eqb f) l (λ m k. ne-eqb f m (λ z. omega (arith, below m k, ltb-false f n e))))
+  | off e ↦ past f (ltb-false f n e) ∙ sym (toggles-past n l f below (ltb-false f n e))
 ])

@@ -23,10 +23,12 @@ use Rattle.theory.specs.Splits.{beside, part, fixed₁, fixed₂, fixed}
 use Rattle.theory.specs.Numbering.{atoms-room, single-below, both-below}
 use Rattle.theory.specs.Meets.{par-sum, par-tri}
 use Rattle.theory.specs.Operators.{beforeOf, afterOf, names-in, entry-of, in-fine, field-at, state-applied}
-use Rattle.theory.specs.Rows.{change, sidePart, unnamedPart, fixedPart, baseValue, base, apart, wanted, wanted-parts, base-value, base-considered, considered-set, change-splits, diff-part}
+use Rattle.theory.specs.GridRule.{kindsOf, gridSum, grid-pair}
+use Rattle.theory.specs.Rows.{change, sidePart, unnamedPart, fixedPart, baseValue, base, apart, wanted}
+use Rattle.theory.specs.Rows.{wanted-parts, base-value, base-range, base-considered, considered-set, change-splits, diff-part}
 use Rattle.theory.specs.TrueList.{trueList, run-true, listed-true}
 use Rattle.theory.specs.Run.{run-in}
-use Rattle.theory.specs.Toggles.{xorOf, toggles, sum-two, sum-both, sum-join, sum-flat, toggled, Below, below-two, below-join, below-flat}
+use Rattle.theory.specs.Toggles.{xorOf, toggles, xor-two, xor-both, xor-join, xor-flat, toggled, Below, below-two, below-join, below-flat}
 
 -- The entry at a place of an operator.
 abbrev pub entryAt : Operator → ℕ → Entry
@@ -57,6 +59,15 @@ module _ (sizes : List ℕ) where
   unfoldable pub apartFeatures : Set → Operator → ℕ → ℕ → List ℕ
   apartFeatures pairs o u y = flat (length o) (λ k. turned (both sizes u y) (entryAt o k) ++ turned (both sizes u (baseValue sizes pairs o u)) (entryAt o k))
 
+  -- These pairs of features are what the grid gives, for two entries and for an entry beside an unnamed variable, which keeps its value.
+  pub turned-grid : (w : Set) (e e' : Entry) → xorOf w (turnedBoth e e')
+      ≡ gridSum (λ x y. w (both sizes (e .variable) x (e' .variable) y)) (kindsOf (e .before) (e .after)) (kindsOf (e' .before) (e' .after))
+  turned-grid w e e' = xor-two w _ _ ∙ sym (grid-pair _ (e .before) (e .after) (e' .before) (e' .after))
+
+  pub side-grid : (w : Set) (u y : ℕ) (e : Entry) → xorOf w (turned (both sizes u y) e)
+      ≡ gridSum (λ x z. w (both sizes u x (e .variable) z)) (kindsOf y y) (kindsOf (e .before) (e .after))
+  side-grid w u y e = xor-two w _ _ ∙ sym (grid-pair _ y y (e .before) (e .after))
+
 -- ---- sums over places
 
 -- A sum over the numbers that rising places name is a sum over the places.
@@ -80,7 +91,7 @@ by-places n m place named h rises inside held reached =
     ]
 
 module _ (sizes : List ℕ) where
-  places-rise : (c : ℕ) (o : Operator) → Entries sizes c o → (k l : ℕ) → k < l → l < length o → entryAt o k .variable < entryAt o l .variable
+  pub places-rise : (c : ℕ) (o : Operator) → Entries sizes c o → (k l : ℕ) → k < l → l < length o → entryAt o k .variable < entryAt o l .variable
   places-rise c [] h k l q r = absurd (omega arith)
   places-rise c (e ∷ es) h zero zero q r = absurd (omega arith)
   places-rise c (e ∷ es) h zero (suc l) q r = in-fine sizes (suc (e .variable)) es _ (getD-in es l _ (omega arith)) (h .4) .0
@@ -88,17 +99,18 @@ module _ (sizes : List ℕ) where
   places-rise c (e ∷ es) h (suc k) (suc l) q r = places-rise (suc (e .variable)) es (h .4) k l (omega arith) (omega arith)
 
   module _ (o : Operator) (h : Entries sizes 0 o) where
-    at-place : (k : ℕ) → k < length o → In (entryAt o k) o
+    pub at-place : (k : ℕ) → k < length o → In (entryAt o k) o
     at-place k l = getD-in o k _ l
 
-    place-of : (i : ℕ) → names o i ≡ true → (k : ℕ) × (k < length o) × (entryAt o k .variable ≡ i)
+    pub place-of : (i : ℕ) → names o i ≡ true → (k : ℕ) × (k < length o) × (entryAt o k .variable ≡ i)
     place-of i q = let (e, m, z) = entry-of o i q in let (k, l, p) = in-getD o e (record { variable = 0; before = 0; after = 0 }) m in (k, l, ap (λ x. x .variable) p ∙ z)
 
     pub by-entries : (g : Set) → par (length sizes) (λ i. cond (names o i) (g i) false) ≡ par (length o) (λ k. g (entryAt o k .variable))
-    by-entries g = by-places _ _ (λ k. entryAt o k .variable) (names o) g (places-rise 0 o h) (λ k l. in-fine sizes 0 o _ (at-place k l) h .1) (λ k l. names-in o _ (at-place k l)) (λ i l q. place-of i q)
+    by-entries g = by-places _ _ (λ k. entryAt o k .variable) (names o) g (places-rise 0 o h)
+        (λ k l. in-fine sizes 0 o _ (at-place k l) h .1) (λ k l. names-in o _ (at-place k l)) (λ i l q. place-of i q)
 
     -- The entries before a place are those of the smaller named variables.
-    by-earlier : (l : ℕ) → l < length o → (g : Set) → par (entryAt o l .variable) (λ i. cond (names o i) (g i) false) ≡ par l (λ k. g (entryAt o k .variable))
+    pub by-earlier : (l : ℕ) → l < length o → (g : Set) → par (entryAt o l .variable) (λ i. cond (names o i) (g i) false) ≡ par l (λ k. g (entryAt o k .variable))
     by-earlier l r g = by-places _ _ (λ k. entryAt o k .variable) (names o) g (λ k j p q. places-rise 0 o h k j p (omega arith)) (λ k p. places-rise 0 o h k l p r)
         (λ k p. names-in o _ (at-place k (omega arith))) (λ i p q. let (k, j, z) = place-of i q in (k, earlier k j (rw z p), z))
       where
@@ -111,17 +123,17 @@ module _ (sizes : List ℕ) where
 
     -- ---- the parts as walks
 
-    before-place : (k : ℕ) → k < length o → beforeOf o (entryAt o k .variable) ≡ entryAt o k .before
+    pub before-place : (k : ℕ) → k < length o → beforeOf o (entryAt o k .variable) ≡ entryAt o k .before
     before-place k l = field-at sizes _ 0 o _ (at-place k l) h
 
-    after-place : (k : ℕ) → k < length o → afterOf o (entryAt o k .variable) ≡ entryAt o k .after
+    pub after-place : (k : ℕ) → k < length o → afterOf o (entryAt o k .variable) ≡ entryAt o k .after
     after-place k l = field-at sizes _ 0 o _ (at-place k l) h
 
     pub walk-sum : (w : Set) (feature : ℕ → ℕ → ℕ)
         → sum two (length sizes) (λ i. cond (names o i) (w (feature i (afterOf o i)) ⊕ w (feature i (beforeOf o i))) false) ≡ xorOf w (walk feature o)
     unfolding walk
     walk-sum w feature = sym (par-sum _ _) ∙ by-entries (λ i. w (feature i (afterOf o i)) ⊕ w (feature i (beforeOf o i)))
-        ∙ par-cong (length o) _ _ (λ k l. rw (after-place k l, before-place k l) (sym (sum-two w _ _))) ∙ sym (sum-flat w (length o) _)
+        ∙ par-cong (length o) _ _ (λ k l. rw (after-place k l, before-place k l) (sym (xor-two w _ _))) ∙ sym (xor-flat w (length o) _)
 
     pub part-entries : (w : Set) (u y : ℕ) → sidePart sizes o w u y ≡ xorOf w (walk (both sizes u y) o)
     unfolding part beside
@@ -130,13 +142,13 @@ module _ (sizes : List ℕ) where
     pub fixed-entries : (w : Set) → fixedPart sizes o w ≡ xorOf w (walk (single sizes) o) ⊕ xorOf w (doublesOf sizes o)
     unfolding fixed fixed₁ fixed₂ doublesOf
     fixed-entries w = ap₂ _⊕_ (walk-sum w (single sizes)) (sym (par-tri _ _) ∙ par-cong (length sizes) _ _ (λ j l. outward j) ∙ by-entries (λ j. par j (λ i. cond (names o i) (gain i j) false))
-        ∙ par-cong (length o) _ _ (λ l r. by-earlier l r (λ i. gain i (entryAt o l .variable)) ∙ par-cong l _ _ (λ k q. at-places k l q r) ∙ sym (sum-flat w l _)) ∙ sym (sum-flat w (length o) _))
+        ∙ par-cong (length o) _ _ (λ l r. by-earlier l r (λ i. gain i (entryAt o l .variable)) ∙ par-cong l _ _ (λ k q. at-places k l q r) ∙ sym (xor-flat w l _)) ∙ sym (xor-flat w (length o) _))
       where
         gain : ℕ → ℕ → Bool
         gain i j = w (both sizes i (afterOf o i) j (afterOf o j)) ⊕ w (both sizes i (beforeOf o i) j (beforeOf o j))
 
         at-places : (k l : ℕ) → k < l → l < length o → gain (entryAt o k .variable) (entryAt o l .variable) ≡ xorOf w (turnedBoth sizes (entryAt o k) (entryAt o l))
-        at-places k l q r = rw (after-place k (omega arith), before-place k (omega arith), after-place l r, before-place l r) (sym (sum-two w _ _))
+        at-places k l q r = rw (after-place k (omega arith), before-place k (omega arith), after-place l r, before-place l r) (sym (xor-two w _ _))
 
         outward : (j : ℕ) → par j (λ i. cond (names o i) (cond (names o j) (gain i j) false) false) ≡ cond (names o j) (par j (λ i. cond (names o i) (gain i j) false)) false
         outward j = elim (test (names o j)) [
@@ -147,20 +159,17 @@ module _ (sizes : List ℕ) where
 -- ---- the rows are toggled sets
 
 -- No feature past the last is true, and none changes.
-true-past : (sizes : List ℕ) (s : List ℕ) (f : ℕ) → State sizes s → features sizes ≤ f → trueIn sizes (value s) f ≡ false
+pub true-past : (sizes : List ℕ) (s : List ℕ) (f : ℕ) → State sizes s → features sizes ≤ f → trueIn sizes (value s) f ≡ false
 true-past sizes s f t l = sym (listed-true sizes (value s) f) ∙ elim (test (listed (trueList sizes (value s)) f)) [
   | on e ↦ absurd (omega (arith, run-in 0 (features sizes) _ f (run-true sizes (value s) (t .values)) (listed-in _ f e)))
   | off e ↦ e
 ]
 
-change-past : (sizes : List ℕ) (o : Operator) (s : List ℕ) (f : ℕ) → Entries sizes 0 o → State sizes s → features sizes ≤ f → change sizes o s f ≡ false
+pub change-past : (sizes : List ℕ) (o : Operator) (s : List ℕ) (f : ℕ) → Entries sizes 0 o → State sizes s → features sizes ≤ f → change sizes o s f ≡ false
 unfolding change
 change-past sizes o s f h t l = rw (true-past sizes (applied o s) f (state-applied sizes 0 o s h t) l, true-past sizes s f t l) refl
 
 module _ (sizes : List ℕ) (pairs : Set) (o : Operator) (h : Entries sizes 0 o) (busy : idle sizes pairs o ≡ false) where
-  pub base-range : (u : ℕ) → u < length sizes → baseValue sizes pairs o u < size sizes u
-  base-range u l = rw (base-value sizes pairs o u l) at (base-considered sizes pairs o h busy .is-state .values u l)
-
   side-below : (u y k : ℕ) → names o u ≡ false → y < size sizes u → k < length o → Below (features sizes) (turned (both sizes u y) (entryAt o k))
   side-below u y k q l j = let m = at-place sizes o h k j in let r = in-fine sizes 0 o _ m h in
       let d : u ≢ entryAt o k .variable = λ z. clash (names-in o _ m) (ap (names o) (sym z) ∙ q) in
@@ -168,39 +177,42 @@ module _ (sizes : List ℕ) (pairs : Set) (o : Operator) (h : Entries sizes 0 o)
 
   pub base-below : Below (features sizes) (baseFeatures sizes pairs o)
   unfolding baseFeatures walk doublesOf
-  base-below = below-join _ (walk (single sizes) o) _ (below-flat _ _ _ own) (below-join _ (doublesOf sizes o) _ (below-flat _ _ _ (λ l r. below-flat _ _ _ (λ k q. pair k l q r))) (below-flat _ _ _ side))
+  base-below = below-join _ (walk (single sizes) o) _ (below-flat _ _ _ own)
+      (below-join _ (doublesOf sizes o) _ (below-flat _ _ _ (λ l r. below-flat _ _ _ (λ k q. pair k l q r))) (below-flat _ _ _ side))
     where
       own : (k : ℕ) → k < length o → Below (features sizes) (turned (single sizes) (entryAt o k))
       own k l = let r = in-fine sizes 0 o _ (at-place sizes o h k l) h in
           below-two _ _ _ (omega (arith, atoms-room sizes, single-below sizes _ _ (r .3))) (omega (arith, atoms-room sizes, single-below sizes _ _ (r .2)))
 
       pair : (k l : ℕ) → k < l → l < length o → Below (features sizes) (turnedBoth sizes (entryAt o k) (entryAt o l))
-      pair k l q r = let a = in-fine sizes 0 o _ (at-place sizes o h k (omega arith)) h in let b = in-fine sizes 0 o _ (at-place sizes o h l r) h in let d = ne-of-lt (places-rise sizes 0 o h k l q r) in
+      pair k l q r = let a = in-fine sizes 0 o _ (at-place sizes o h k (omega arith)) h in let b = in-fine sizes 0 o _ (at-place sizes o h l r) h in
+          let d = ne-of-lt (places-rise sizes 0 o h k l q r) in
           below-two _ _ _ (both-below sizes _ _ _ _ d (a .3) (b .3)) (both-below sizes _ _ _ _ d (a .2) (b .2))
 
       side : (u : ℕ) → u < length sizes → Below (features sizes) (cond (names o u) [] (walk (both sizes u (baseValue sizes pairs o u)) o))
       side u l = elim (test (names o u)) [
         | on q ↦ rw q (λ m i. absurd (not-nil i))
-        | off q ↦ rw q (below-flat _ _ _ (λ k j. side-below u _ k q (base-range u l) j))
+        | off q ↦ rw q (below-flat _ _ _ (λ k j. side-below u _ k q (base-range sizes pairs o h busy u l) j))
       ]
 
   pub apart-below : (u y : ℕ) → u < length sizes → y < size sizes u → names o u ≡ false → Below (features sizes) (apartFeatures sizes pairs o u y)
   unfolding apartFeatures
-  apart-below u y l k q = below-flat _ _ _ (λ j r. below-join _ (turned (both sizes u y) (entryAt o j)) _ (side-below u y j q k r) (side-below u _ j q (base-range u l) r))
+  apart-below u y l k q = below-flat _ _ _ (λ j r. below-join _ (turned (both sizes u y) (entryAt o j)) _ (side-below u y j q k r) (side-below u _ j q (base-range sizes pairs o h busy u l) r))
 
-  base-sum : (w : Set) → dot (features sizes) w (change sizes o (base sizes pairs o)) ≡ xorOf w (baseFeatures sizes pairs o)
+  pub base-sum : (w : Set) → dot (features sizes) w (change sizes o (base sizes pairs o)) ≡ xorOf w (baseFeatures sizes pairs o)
   unfolding baseFeatures xorOf
   base-sum w = change-splits sizes o h w _ (base-considered sizes pairs o h busy .is-state) (base-considered sizes pairs o h busy .has-before)
-      ∙ ap₂ _⊕_ (fixed-entries sizes o h w) (par-cong (length sizes) _ _ side ∙ sym (sum-flat w (length sizes) _)) ∙ xor-assoc (xorOf w (walk (single sizes) o)) (xorOf w (doublesOf sizes o)) _
-      ∙ sym (sum-join w (walk (single sizes) o) _ ∙ ap (λ b. xorOf w (walk (single sizes) o) ⊕ b) (sum-join w (doublesOf sizes o) _))
+      ∙ ap₂ _⊕_ (fixed-entries sizes o h w) (par-cong (length sizes) _ _ side ∙ sym (xor-flat w (length sizes) _)) ∙ xor-assoc (xorOf w (walk (single sizes) o)) (xorOf w (doublesOf sizes o)) _
+      ∙ sym (xor-join w (walk (single sizes) o) _ ∙ ap (λ b. xorOf w (walk (single sizes) o) ⊕ b) (xor-join w (doublesOf sizes o) _))
     where
       side : (u : ℕ) → u < length sizes → unnamedPart sizes o w (base sizes pairs o) u ≡ xorOf w (cond (names o u) [] (walk (both sizes u (baseValue sizes pairs o u)) o))
       side u l = elim (test (names o u)) [ on q ↦ rw q refl | off q ↦ rw (q, base-value sizes pairs o u l) (part-entries sizes o h w u _) ]
 
-  apart-sum : (w : Set) (u y : ℕ) → u < length sizes → y < size sizes u → wanted sizes pairs o u y ≡ true → dot (features sizes) w (apart sizes pairs o u y) ≡ xorOf w (apartFeatures sizes pairs o u y)
+  pub apart-sum : (w : Set) (u y : ℕ) → u < length sizes → y < size sizes u → wanted sizes pairs o u y ≡ true
+      → dot (features sizes) w (apart sizes pairs o u y) ≡ xorOf w (apartFeatures sizes pairs o u y)
   unfolding apartFeatures walk
   apart-sum w u y l k e = let (q, p, d) = wanted-parts sizes pairs o u y e in
-      diff-part sizes pairs o h busy w u y l k q p ∙ ap₂ _⊕_ (part-entries sizes o h w u y) (part-entries sizes o h w u _) ∙ sym (sum-both w (length o) _ _)
+      diff-part sizes pairs o h busy w u y l k q p ∙ ap₂ _⊕_ (part-entries sizes o h w u y) (part-entries sizes o h w u _) ∙ sym (xor-both w (length o) _ _)
 
   pub base-toggles : change sizes o (base sizes pairs o) ≡ toggles (baseFeatures sizes pairs o)
   base-toggles = toggled (features sizes) _ _ (λ f l. change-past sizes o _ f h (base-considered sizes pairs o h busy .is-state) l) base-below base-sum
@@ -208,4 +220,5 @@ module _ (sizes : List ℕ) (pairs : Set) (o : Operator) (h : Entries sizes 0 o)
   pub apart-toggles : (u y : ℕ) → u < length sizes → y < size sizes u → wanted sizes pairs o u y ≡ true → apart sizes pairs o u y ≡ toggles (apartFeatures sizes pairs o u y)
   unfolding apart
   apart-toggles u y l k e = let (q, p, d) = wanted-parts sizes pairs o u y e in let c = base-considered sizes pairs o h busy in
-      toggled (features sizes) _ _ (λ f j. ap₂ _⊕_ (change-past sizes o _ f h (considered-set sizes pairs o _ u y c q k p .is-state) j) (change-past sizes o _ f h (c .is-state) j)) (apart-below u y l k q) (λ w. apart-sum w u y l k e)
+      toggled (features sizes) _ _ (λ f j. ap₂ _⊕_ (change-past sizes o _ f h (considered-set sizes pairs o _ u y c q k p .is-state) j) (change-past sizes o _ f h (c .is-state) j))
+      (apart-below u y l k q) (λ w. apart-sum w u y l k e)

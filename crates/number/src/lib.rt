@@ -1,0 +1,126 @@
+// The numbers of a file, read and written, and the reasons for a refusal.
+ghost use mathlib.Core.Path.{_≡_};
+ghost use mathlib.Core.List.{_++_};
+ghost use Prim.Native.Nat.{_+_, _<_, _≤_};
+ghost use lib.ListN.{length, take, drop};
+ghost use Rattle.meaning.specs.Limits.{mostGroups, numberEnd};
+ghost use Rattle.meaning.specs.Number.{refusal as refusalNumber, groups, number, numberBytes};
+ghost use Rattle.number.specs.Answers.{reasonOf, numberOf};
+
+// Why a call refuses.
+pub enum Reason {
+    Ends,
+    Padded,
+    Endless,
+    Limit,
+    Range,
+    Unordered,
+    LeftOver,
+    Held,
+    Unclosed,
+    Small,
+    Malformed,
+    Mislabelled,
+}
+
+// What stands where a number is due: its value and the place after it; or a reason, and the place of the first byte of the number at fault.
+pub enum Number {
+    Got(usize, usize),
+    Fault(Reason, usize),
+}
+
+// What a reader of more than a number answers: the place after what it read; or the first fault.
+pub enum Step {
+    Next(usize),
+    Fault(Reason, usize),
+}
+
+// How many values a group has, and the least byte that says that one group follows.
+const GROUP: usize = 128;
+
+// How many groups a number has at most.
+const MOST_GROUPS: usize = 2;
+
+// The paper's number for a reason.
+pub fn refusal(reason: Reason) -> u64
+    ensures { λ r. ⌜ r ≡ refusalNumber (reasonOf reason) ⌝ }
+{
+    match reason {
+        Reason::Ends => 1,
+        Reason::Padded => 1,
+        Reason::Endless => 1,
+        Reason::Limit => 2,
+        Reason::Range => 3,
+        Reason::Unordered => 4,
+        Reason::LeftOver => 5,
+        Reason::Held => 6,
+        Reason::Unclosed => 7,
+        Reason::Small => 8,
+        Reason::Malformed => 9,
+        Reason::Mislabelled => 10,
+    }
+}
+
+// At most so many groups from a place on, of the number that begins at `first`.
+fn groups_at(most: usize, first: usize, bytes: &[u8], place: usize) -> Number
+    requires { ⌜ most ≤ mostGroups ⌝ }
+    ensures { λ r. ⌜ numberOf r ≡ groups most first (now (bytes .entry)) place ⌝ }
+{
+    if most == 0 {
+        return Number::Fault(Reason::Endless, first);
+    }
+    if bytes.len() <= place {
+        return Number::Fault(Reason::Ends, first);
+    }
+    let byte = bytes[place] as usize;
+    if byte < GROUP {
+        return Number::Got(byte, place + 1);
+    }
+    match groups_at(most - 1, first, bytes, place + 1) {
+        Number::Got(high, next) => {
+            if high == 0 {
+                return Number::Fault(Reason::Padded, first);
+            }
+            Number::Got(byte % GROUP + GROUP * high, next)
+        }
+        Number::Fault(reason, fault) => Number::Fault(reason, fault),
+    }
+}
+
+// The number at a place.
+pub fn number_at(bytes: &[u8], at: usize) -> Number
+    ensures { λ r. ⌜ numberOf r ≡ number (now (bytes .entry)) at ⌝ }
+{
+    groups_at(MOST_GROUPS, at, bytes, at)
+}
+
+// How many bytes a number has in a file.
+pub fn width(n: usize) -> usize
+    requires { ⌜ n < numberEnd ⌝ }
+    ensures { λ r. ⌜ r ≡ length (numberBytes n) ⌝ }
+{
+    let mut left = n;
+    let mut count: usize = 1;
+    while GROUP <= left {
+        left = left / GROUP;
+        count += 1;
+    }
+    count
+}
+
+// Writes a number from a place on, low group first, and answers the place after it.
+pub fn write_number(room: &mut [u8], at: usize, n: usize) -> usize
+    requires { ⌜ (n < numberEnd) × (at + length (numberBytes n) ≤ length (now room)) ⌝ }
+    ensures after { λ r. ⌜ r ≡ at + length (numberBytes n) ⌝ }
+    ensures written { λ r. ⌜ now (room .exit) ≡ take at (now (room .entry)) ++ (numberBytes n ++ drop r (now (room .entry))) ⌝ }
+{
+    let mut left = n;
+    let mut next = at;
+    while GROUP <= left {
+        room[next] = (GROUP + left % GROUP) as u8;
+        left = left / GROUP;
+        next += 1;
+    }
+    room[next] = left as u8;
+    next + 1
+}

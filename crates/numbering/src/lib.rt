@@ -1,0 +1,121 @@
+// The numbers of features: how many there are, and the number of each.
+ghost use mathlib.Core.Path.{_≡_};
+ghost use mathlib.Core.Logic.{_≢_};
+ghost use Prim.Native.Nat.{_<_, _≤_};
+ghost use lib.ListN.{length, take};
+ghost use Rattle.meaning.specs.Task.{size};
+ghost use Rattle.meaning.specs.Feature.{sumOf, atoms, features, single, pairStart, double, both};
+ghost use Rattle.numbering.specs.Sizes.{SmallSizes};
+ghost use Rattle.numbering.specs.Starts.{startingNumbers};
+
+// "v 1 to 64": the length of a table with a place for each variable.
+const MOST_VARIABLES: usize = 64;
+
+// The size of variable i.
+pub fn size(sizes: &[u64], i: usize) -> usize
+    requires { ⌜ i < length (now sizes) ⌝ }
+    ensures { λ r. ⌜ r ≡ size (now (sizes .entry)) i ⌝ }
+{
+    sizes[i] as usize
+}
+
+// How many atoms the first n variables have: the number of variable n's first atom.
+fn atoms_before(sizes: &[u64], n: usize) -> usize
+    requires { ⌜ SmallSizes (now sizes) × (n ≤ length (now sizes)) ⌝ }
+    ensures { λ r. ⌜ r ≡ sumOf (take n (now (sizes .entry))) ⌝ }
+{
+    let mut sum = 0;
+    let mut i = 0;
+    while i < n {
+        sum += size(sizes, i);
+        i += 1;
+    }
+    sum
+}
+
+// How many single atoms there are: A.
+pub fn atoms(sizes: &[u64]) -> usize
+    requires { ⌜ SmallSizes (now sizes) ⌝ }
+    ensures { λ r. ⌜ r ≡ atoms (now (sizes .entry)) ⌝ }
+{
+    atoms_before(sizes, sizes.len())
+}
+
+// How many features there are: N. Each variable adds its atoms, and its pairs with the atoms before them.
+pub fn features(sizes: &[u64]) -> usize
+    requires { ⌜ SmallSizes (now sizes) ⌝ }
+    ensures { λ r. ⌜ r ≡ features (now (sizes .entry)) ⌝ }
+{
+    let mut atoms = 0;
+    let mut pairs = 0;
+    let mut j = 0;
+    while j < sizes.len() {
+        let d = size(sizes, j);
+        pairs += atoms * d;
+        atoms += d;
+        j += 1;
+    }
+    atoms + pairs
+}
+
+// The number of the atom that gives variable i the value x.
+pub fn single(sizes: &[u64], i: usize, x: usize) -> usize
+    requires { ⌜ SmallSizes (now sizes) × (i < length (now sizes)) × (x < size (now sizes) i) ⌝ }
+    ensures { λ r. ⌜ r ≡ single (now (sizes .entry)) i x ⌝ }
+{
+    atoms_before(sizes, i) + x
+}
+
+// The number of each variable's first atom.
+fn starting_numbers(sizes: &[u64]) -> [usize; MOST_VARIABLES]
+    requires { ⌜ SmallSizes (now sizes) ⌝ }
+    ensures { λ r. ⌜ r ≡ startingNumbers (now (sizes .entry)) ⌝ }
+{
+    let mut starts = [0usize; MOST_VARIABLES];
+    let mut start = 0;
+    let mut i = 0;
+    while i < sizes.len() {
+        starts[i] = start;
+        start += size(sizes, i);
+        i += 1;
+    }
+    starts
+}
+
+// How many two-variable features stand before those of the variables i < j.
+fn pair_start(sizes: &[u64], i: usize, j: usize) -> usize
+    requires { ⌜ SmallSizes (now sizes) × (i < j) × (j < length (now sizes)) ⌝ }
+    ensures { λ r. ⌜ r ≡ pairStart (now (sizes .entry)) i j ⌝ }
+{
+    let starts = starting_numbers(sizes);
+    let all = atoms(sizes);
+    let mut sum = 0;
+    let mut k = 0;
+    while k < i {
+        let d = size(sizes, k);
+        sum += d * (all - (starts[k] + d));
+        k += 1;
+    }
+    let d = size(sizes, i);
+    sum + d * (starts[j] - (starts[i] + d))
+}
+
+// The number of the feature of value x of variable i and value y of variable j, i < j.
+fn double(sizes: &[u64], i: usize, x: usize, j: usize, y: usize) -> usize
+    requires { ⌜ SmallSizes (now sizes) × (i < j) × (j < length (now sizes)) × (x < size (now sizes) i) × (y < size (now sizes) j) ⌝ }
+    ensures { λ r. ⌜ r ≡ double (now (sizes .entry)) i x j y ⌝ }
+{
+    atoms(sizes) + (pair_start(sizes, i, j) + (x * size(sizes, j) + y))
+}
+
+// The number of that feature with its two atoms either way round.
+pub fn both(sizes: &[u64], i: usize, x: usize, j: usize, y: usize) -> usize
+    requires { ⌜ SmallSizes (now sizes) × (i ≢ j) × (i < length (now sizes)) × (j < length (now sizes)) × (x < size (now sizes) i) × (y < size (now sizes) j) ⌝ }
+    ensures { λ r. ⌜ r ≡ both (now (sizes .entry)) i x j y ⌝ }
+{
+    if i < j {
+        double(sizes, i, x, j, y)
+    } else {
+        double(sizes, j, y, i, x)
+    }
+}

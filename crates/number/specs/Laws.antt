@@ -45,7 +45,7 @@ module _ (first : ℕ) (bytes : List ℕ) (place : ℕ) where
 
   -- What so many groups hold at most.
   pub groups-below : (k n next : ℕ) → k ≤ mostGroups → groups k first bytes place ≡ got n next → n < numberEnd
-  groups-below k n next h e = lt-of-lt-of-le (groups-give bytes k first place n next e .known .below) (pow-le-pow-right (omega arith) h)
+  groups-below k n next h e = lt-of-lt-of-le (groups-give bytes k first .gives place n next e .known .below) (pow-le-pow-right (omega arith) h)
 
 -- ---- writing
 

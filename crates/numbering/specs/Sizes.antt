@@ -1,6 +1,6 @@
 -- Sizes within the limits of variables and of sizes, whatever N is: the counts of their features are small. Sizes within every limit
 -- have features whose numbers are below N, and N is small.
-use Prim.Native.Nat.{ℕ, zero, suc, _+_, _*_, _<_, _≤_}
+use Prim.Native.Nat.{ℕ, suc, _+_, _*_, _<_, _≤_}
 use mathlib.Core.Logic.{_≢_}
 use mathlib.Core.List.{List, [], _∷_}
 use native.Mathlib.Omega.{arith}

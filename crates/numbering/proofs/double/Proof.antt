@@ -5,7 +5,7 @@ use native.Mathlib.Omega.{arith}
 use borrow.Author.Needs.{needs}
 use Rattle.meaning.specs.Feature.{double}
 use Rattle.numbering.specs.Sizes.{mostAtoms, mostPairs}
-use Rattle.numbering.specs.Starts.{numbered}
+use Rattle.numbering.specs.Blocks.{numbered}
 use Rattle.numbering.proofs.double.Statement.{statement}
 use Rattle.numbering.proofs.double.Tie as tie
 

@@ -6,7 +6,8 @@ use native.Mathlib.Omega.{arith}
 use lib.ListN.{length, getD}
 use Rattle.meaning.specs.Feature.{pairStart}
 use Rattle.numbering.specs.Sums.{all-atoms}
-use Rattle.numbering.specs.Starts.{Block, block, row-first, row-next, starting-number}
+use Rattle.numbering.specs.Starts.{starting-number}
+use Rattle.numbering.specs.Blocks.{Block, block, row-first, row-next}
 use Rattle.numbering.proofs.pair_start.Statement.{statement}
 use Rattle.numbering.proofs.pair_start.Tie as tie
 
@@ -18,8 +19,10 @@ abbrev μ-loop : tie.MeasureT-loop
 
 -- What a turn adds: the product of variable k's size with all atoms after its own.
 turn : (c : tie.After-size Inv-loop μ-loop)
-    → let start = c .before .before .before .before .before .before in let at = c .before .before .loop in
-    Block (start .args .sizes .now) (at .k) (length (start .args .sizes .now)) (c .size .result) (getD (c .before .before .before .before .starting-numbers .result) (at .k) 0) (c .before .before .before .atoms .result) (at .sum)
+    → let sizes = c .before .before .before .before .before .before .args .sizes .now in
+    let starts = c .before .before .before .before .starting-numbers .result in
+    let at = c .before .before .loop in
+    Block sizes (at .k) (length sizes) (c .size .result) (getD starts (at .k) 0) (c .before .before .before .atoms .result) (at .sum)
 turn c =
     let start = c .before .before .before .before .before .before in
     let at = c .before .before .loop in
@@ -30,8 +33,9 @@ turn c =
 
 -- What the last product adds: variable i's size times the atoms between its own and variable j's.
 last : (c : tie.After-size2 Inv-loop μ-loop)
-    → let start = c .before .before .before .before .before .before in let starts = c .before .before .before .before .starting-numbers .result in
-    Block (start .args .sizes .now) (start .args .i) (start .args .j) (c .size2 .result) (getD starts (start .args .i) 0) (getD starts (start .args .j) 0) (c .before .before .loop .sum)
+    → let a = c .before .before .before .before .before .before .args in
+    let starts = c .before .before .before .before .starting-numbers .result in
+    Block (a .sizes .now) (a .i) (a .j) (c .size2 .result) (getD starts (a .i) 0) (getD starts (a .j) 0) (c .before .before .loop .sum)
 last c =
     let start = c .before .before .before .before .before .before in
     let table = c .before .before .before .before .starting-numbers .ensures in

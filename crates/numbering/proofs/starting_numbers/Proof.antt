@@ -38,7 +38,9 @@ loop-less : tie.Need-loop-less Inv-loop μ-loop
 loop-less c = omega arith
 
 loop-again : tie.Need-loop-again Inv-loop μ-loop
-loop-again c = (omega arith, atoms-turn _ _ _ _ (c .before .before .before .before .pre) (c .size .ensures) (c .before .before .loop .inv .1) .0, starts-turn _ _ _ _ _ (c .before .before .loop .inv .1) (c .before .before .loop .inv .2))
+loop-again c =
+    let at = c .before .before .loop .inv in
+    (omega arith, atoms-turn _ _ _ _ (c .before .before .before .before .pre) (c .size .ensures) (at .1) .0, starts-turn _ _ _ _ _ (at .1) (at .2))
 
 returns : tie.Need-returns Inv-loop μ-loop
 unfolding startingNumbers

@@ -20,6 +20,7 @@ pub mod Meets
 pub mod Operators
 pub mod GridRule
 pub mod Toggles
+pub mod Possible
 pub mod Rows
 pub mod Walk
 pub mod Sound

@@ -129,10 +129,10 @@ packed-same n a b e f l = member a ∙ ap (λ l. has l f) e ∙ sym (member b)
     member : (c : Set) → c f ≡ has (packed n c) f
     member c = sym (has-packed n c f ∙ rw (lt-ltb f n l))
 
--- What follows a list of words does not change what the list has.
-pub has-front : (l r : List ℕ) (f : ℕ) → f < length l * wordBits → has (l ++ r) f ≡ has l f
-unfolding has
-has-front l r f h = rw (List·getD-append l r 0 (f / wordBits) (omega arith))
-
+-- The words of a set, whatever follows them, have the set's members below n.
 pub packed-front : (n : ℕ) (a : Set) (r : List ℕ) (f : ℕ) → f < n → has (packed n a ++ r) f ≡ a f
-packed-front n a r f h = has-front (packed n a) r f (omega (arith, length-packed n a)) ∙ packed-holds n a f (λ k. absurd (omega arith))
+unfolding has
+packed-front n a r f h = front (omega (arith, length-packed n a)) ∙ packed-holds n a f (λ k. absurd (omega arith))
+  where
+    front : f / wordBits < length (packed n a) → has (packed n a ++ r) f ≡ has (packed n a) f
+    front k = rw (has, List·getD-append (packed n a) r 0 (f / wordBits) k)

@@ -1,15 +1,14 @@
 -- What toggling a feature and adding words do to a list of words, and what the list holds afterwards.
-use Prim.Native.Nat.{ℕ, zero, suc, _+_, _*_, _/_, _%_, _^_, _<_, _≤_}
-use mathlib.Core.Path.{_≡_, refl, ap, sym, _∙_}
+use Prim.Native.Nat.{ℕ, zero, suc, _*_, _/_, _%_, _^_, _<_}
+use mathlib.Core.Path.{_≡_, refl, ap, _∙_}
 use mathlib.Core.Logic.{_≢_}
-use mathlib.Core.List.{List, [], _∷_, _++_}
+use mathlib.Core.List.{List, [], _∷_}
 use native.Mathlib.Omega.{arith}
-use native.Mathlib.Nat.{add-zero}
 use lib.Dec.{eqb}
 use lib.Pow.{pow-lt}
-use lib.ListN.{length, getD, set, take, drop, length-set}
+use lib.ListN.{length, getD, set, length-set}
 use lib.Seq.{getD-set-same, getD-set-other}
-use lib.Bits.{bitXor, xor-lt, xor-zero-r}
+use lib.Bits.{bitXor, xor-lt}
 use borrow.Author.Tests.{eq-eqb, ne-eqb, eqb-true, eqb-false}
 use Rattle.meaning.specs.Sets.{_⊕_}
 use Rattle.meaning.specs.Limits.{wordBits}
@@ -65,7 +64,8 @@ has-toggled l f g h = elim (test (eqb (g / 64) (f / 64))) [
     ]
 
     here : g / 64 ≡ f / 64 → bit (getD (toggled l f) (g / 64) 0) (g % 64) ≡ eqb g f ⊕ bit (getD l (g / 64) 0) (g % 64)
-    here q = rw (q, toggled-word l f (omega arith), ← bits q, ← bit-power (f % 64) (g % 64)) (bit-xor (getD l (f / 64) 0) (2 ^ (f % 64)) (g % 64) ∙ xor-comm (bit (getD l (f / 64) 0) (g % 64)) (bit (2 ^ (f % 64)) (g % 64)))
+    here q = rw (q, toggled-word l f (omega arith), ← bits q, ← bit-power (f % 64) (g % 64))
+        (bit-xor (getD l (f / 64) 0) (2 ^ (f % 64)) (g % 64) ∙ xor-comm (bit (getD l (f / 64) 0) (g % 64)) (bit (2 ^ (f % 64)) (g % 64)))
 
 -- ---- words added
 

@@ -15,7 +15,7 @@ use Rattle.meaning.specs.Sets.{Set}
 use Rattle.meaning.specs.Limits.{wordBits}
 use Rattle.meaning.specs.Workspace.{bit, has}
 use Rattle.meaning.specs.Slot.{LeastMember}
-use Rattle.theory.specs.Truth.{Test, on, off, test, less, same, more, order, clash}
+use Rattle.theory.specs.Truth.{on, off, test, less, same, more, order, clash}
 use Rattle.theory.specs.Words.{bit-past, has-at}
 use Rattle.theory.specs.Slots.{lead, lead-none, lead-least}
 use Rattle.words.specs.Bits.{bit-none, bit-shift, trailing-below, trailing-at, trailing-within}
@@ -87,7 +87,8 @@ rest-bits l start k h = let p : (start + k) / 64 ≡ start / 64 = omega arith in
 
 pub next-rest : (l : List ℕ) (start : ℕ) → start / wordBits < length l → getD l (start / wordBits) 0 < 2 ^ wordBits → restOf l start ≢ 0
     → Next (has l) (wordBits * length l) start (start + trailingZeros wordBits (restOf l start))
-next-rest l start h b d = lowest (has l) (64 * length l) start start (64 - start % 64) (restOf l start) (omega arith) (λ f j k. absurd (omega arith)) (omega arith) (omega arith) small d (rest-bits l start)
+next-rest l start h b d = lowest (has l) (64 * length l) start start (64 - start % 64) (restOf l start)
+    (omega arith) (λ f j k. absurd (omega arith)) (omega arith) (omega arith) small d (rest-bits l start)
   where
     small : restOf l start < 2 ^ (64 - start % 64)
     small = let e : 64 - start % 64 + start % 64 ≡ 64 = omega arith in shr-lt (64 - start % 64) (start % 64) (rw e b)

@@ -1,16 +1,15 @@
 -- What a part of a list of words holds, and what joined lists hold.
-use Prim.Native.Nat.{ℕ, zero, suc, _+_, _-_, _*_, _/_, _%_, _^_, _<_, _≤_, min}
-use mathlib.Core.Path.{_≡_, refl, ap, sym, _∙_}
-use mathlib.Core.Bool.{true, false, _&&_}
-use mathlib.Core.List.{List, [], _∷_, _++_, append-nil}
+use Prim.Native.Nat.{ℕ, _+_, _-_, _*_, _/_, _%_, _^_, _<_, _≤_, min}
+use mathlib.Core.Path.{_≡_}
+use mathlib.Core.Bool.{false, _&&_}
+use mathlib.Core.List.{List, _++_}
 use native.Mathlib.Omega.{arith}
-use native.Mathlib.Numerals.{add-one}
 use lib.Dec.{ltb}
-use lib.ListN.{length, getD, set, take, drop, replicate, length-take, length-drop, length-append, length-replicate, getD-replicate, drop-of-length-le, List·getD-eq-default, List·getD-append}
-use lib.Seq.{getD-take, getD-drop, getD-append-add, take-all}
-use borrow.Author.Tests.{ltb-true, ltb-false, lt-ltb, le-ltb}
+use lib.ListN.{length, getD, take, drop, replicate, length-take, length-drop, length-append, length-replicate, getD-replicate, List·getD-eq-default, List·getD-append}
+use lib.Seq.{getD-take, getD-drop, getD-append-add}
+use borrow.Author.Tests.{ltb-true, ltb-false}
 use Rattle.meaning.specs.Limits.{wordBits}
-use Rattle.meaning.specs.Workspace.{bit, has}
+use Rattle.meaning.specs.Workspace.{has}
 use Rattle.theory.specs.Truth.{on, off, test}
 use Rattle.theory.specs.Words.{Words}
 use Rattle.words.specs.Bits.{bit-none}

@@ -1,6 +1,6 @@
 -- `words::add`: the loop writes `summed` from the front (`Written`); each word that it reads is still that of before.
 use Prim.Native.Nat.{_-_}
-use mathlib.Core.Path.{refl, sym}
+use mathlib.Core.Path.{_≡_, refl, sym}
 use native.Mathlib.Omega.{arith}
 use lib.ListN.{length}
 use Rattle.words.specs.Change.{summed, length-summed, getD-summed}
@@ -42,8 +42,12 @@ loop-less : tie.Need-loop-less Inv-loop μ-loop
 loop-less c = omega arith
 
 loop-again : tie.Need-loop-again Inv-loop μ-loop
-loop-again c = let l = c .before .before .before .before .args .into .now in let s = c .before .before .before .before .args .from .now in let i = c .before .before .before .loop .i in let m = c .before .before .before .loop .into in
-    written-next l (summed l s) i m _ (sym (length-summed l s)) (c .before .before .before .loop .inv) (omega arith) (rw (written-word l (summed l s) i m (sym (length-summed l s)) (c .before .before .before .loop .inv)) (sym (getD-summed l s i (c .before .before .before .before .pre))))
+loop-again c =
+    let l = c .before .before .before .before .args .into .now in
+    let s = c .before .before .before .before .args .from .now in
+    let e : length l ≡ length (summed l s) = sym (length-summed l s) in
+    let here = written-word l (summed l s) _ _ e (c .before .before .before .loop .inv) in
+    written-next l (summed l s) _ _ _ e (c .before .before .before .loop .inv) (omega arith) (rw here (sym (getD-summed l s _ (c .before .before .before .before .pre))))
 
 same-length : tie.Need-same-length Inv-loop μ-loop
 same-length c = c .before .loop .inv .1

@@ -2,8 +2,7 @@
 use Prim.Native.Nat.{_-_}
 use mathlib.Core.Path.{refl, sym}
 use native.Mathlib.Omega.{arith}
-use lib.ListN.{length, replicate, length-replicate}
-use lib.ListN.{getD-replicate}
+use lib.ListN.{length, replicate, length-replicate, getD-replicate}
 use Rattle.words.specs.Written.{Written, written-next, written-done}
 use Rattle.words.proofs.clear.Statement.{statement}
 use Rattle.words.proofs.clear.Tie as tie
@@ -30,7 +29,8 @@ loop-less : tie.Need-loop-less Inv-loop μ-loop
 loop-less c = omega arith
 
 loop-again : tie.Need-loop-again Inv-loop μ-loop
-loop-again c = written-next _ _ _ _ _ (sym (length-replicate _ _)) (c .before .loop .inv) (omega arith) (sym (getD-replicate (length (c .before .before .args .words .now)) (c .before .loop .i) 0 0 (omega arith)))
+loop-again c = let n = length (c .before .before .args .words .now) in
+    written-next _ _ _ _ _ (sym (length-replicate n 0)) (c .before .loop .inv) (omega arith) (sym (getD-replicate n (c .before .loop .i) 0 0 (omega arith)))
 
 same-length : tie.Need-same-length Inv-loop μ-loop
 same-length c = c .before .loop .inv .1

@@ -30,7 +30,10 @@ cast-result : tie.Need-cast-result Inv-loop μ-loop
 cast-result c = omega (arith, trailing-le 64 (restOf (c .before .before .before .args .words .now) (c .before .before .before .args .start)))
 
 returns-2 : tie.Need-returns-2 Inv-loop μ-loop
-returns-2 c = next-rest (c .before .before .before .args .words .now) (c .before .before .before .args .start) (omega arith) (c .before .shared-slice-known .given (c .before .before .before .args .start / 64) .fits) (c .if2 .taken)
+returns-2 c =
+    let words = c .before .before .before .args .words .now in
+    let start = c .before .before .before .args .start in
+    next-rest words start (omega arith) (c .before .shared-slice-known .given (start / 64) .fits) (c .if2 .taken)
 
 add-result : tie.Need-add-result Inv-loop μ-loop
 add-result c = omega (arith, returns-2 c .within)
@@ -54,7 +57,11 @@ cast-result-2 : tie.Need-cast-result-2 Inv-loop μ-loop
 cast-result-2 c = omega (arith, trailing-le 64 (getD (c .before .before .before .before .before .before .before .args .words .now) (c .before .before .before .loop .i) 0))
 
 returns-3 : tie.Need-returns-3 Inv-loop μ-loop
-returns-3 c = next-word (c .before .before .before .before .before .before .before .args .words .now) (c .before .before .before .before .before .before .before .args .start) (c .before .before .before .loop .i) (c .before .before .before .loop .inv .1) (omega arith) (c .before .before .before .loop .inv .2) (c .before .shared-slice-known2 .given (c .before .before .before .loop .i) .fits) (c .if3 .taken)
+returns-3 c =
+    let words = c .before .before .before .before .before .before .before .args .words .now in
+    let i = c .before .before .before .loop .i in
+    let inv = c .before .before .before .loop .inv in
+    next-word words _ i (inv .1) (omega arith) (inv .2) (c .before .shared-slice-known2 .given i .fits) (c .if3 .taken)
 
 add-result-2 : tie.Need-add-result-2 Inv-loop μ-loop
 add-result-2 c = omega (arith, returns-3 c .within)

@@ -36,7 +36,11 @@ loop-less : tie.Need-loop-less Inv-loop μ-loop
 loop-less c = omega arith
 
 loop-again : tie.Need-loop-again Inv-loop μ-loop
-loop-again c = (omega arith, xor-lt 64 _ _ (c .before .before .before .loop .inv .1) (and-lt 64 _ _ (c .before .shared-slice-known .given (c .before .before .before .loop .i) .fits) (c .shared-slice-known2 .given (c .before .before .before .loop .i) .fits)), parity-next _ _ _ _ (c .before .before .before .loop .inv .2))
+loop-again c =
+    let i = c .before .before .before .loop .i in
+    let inv = c .before .before .before .loop .inv in
+    let small = and-lt 64 _ _ (c .before .shared-slice-known .given i .fits) (c .shared-slice-known2 .given i .fits) in
+    (omega arith, xor-lt 64 _ _ (inv .1) small, parity-next _ _ _ _ (inv .2))
 
 returns : tie.Need-returns Inv-loop μ-loop
 returns c = let e : c .before .loop .i ≡ length (c .before .before .args .a .now) = omega arith in rw (← e) (parity-done _ _ _ _ (c .before .loop .inv .1) (c .before .loop .inv .2))

@@ -5,6 +5,7 @@ ghost use Prim.Native.Nat.{_+_, _<_, _≤_};
 ghost use lib.ListN.{length, take, drop};
 ghost use Rattle.meaning.specs.Limits.{mostGroups, numberEnd};
 ghost use Rattle.meaning.specs.Number.{refusal as refusalNumber, groups, number, numberBytes};
+ghost use Rattle.meaning.specs.File.{inside, item, rising};
 ghost use Rattle.number.specs.Answers.{reasonOf, numberOf};
 
 // Why a call refuses.
@@ -92,6 +93,39 @@ pub fn number_at(bytes: &[u8], at: usize) -> Number
     ensures { λ r. ⌜ numberOf r ≡ number (now (bytes .entry)) at ⌝ }
 {
     groups_at(MOST_GROUPS, at, bytes, at)
+}
+
+// A number that has to be `low` or more and below `high`; the reason is for one that is not.
+pub fn item_at(bytes: &[u8], at: usize, low: usize, high: usize, reason: Reason) -> Number
+    ensures { λ r. ⌜ numberOf r ≡ item (inside low high) (reasonOf reason) (now (bytes .entry)) at ⌝ }
+{
+    match number_at(bytes, at) {
+        Number::Got(n, next) => {
+            if n < low {
+                return Number::Fault(reason, at);
+            }
+            if n < high {
+                return Number::Got(n, next);
+            }
+            Number::Fault(reason, at)
+        }
+        Number::Fault(found, place) => Number::Fault(found, place),
+    }
+}
+
+// A number in its range that has to be `least` or more: range before order.
+pub fn rising_at(bytes: &[u8], at: usize, low: usize, high: usize, least: usize) -> Number
+    ensures { λ r. ⌜ numberOf r ≡ rising low high least (now (bytes .entry)) at ⌝ }
+{
+    match item_at(bytes, at, low, high, Reason::Range) {
+        Number::Got(n, next) => {
+            if n < least {
+                return Number::Fault(Reason::Unordered, at);
+            }
+            Number::Got(n, next)
+        }
+        Number::Fault(found, place) => Number::Fault(found, place),
+    }
 }
 
 // How many bytes a number has in a file.

@@ -1,0 +1,68 @@
+-- `write_weights` refuses what is judged faulty and what has no room, and otherwise writes the list at the front.
+use mathlib.Core.List.{_++_}
+use mathlib.Core.Path.{_≡_, sym, ap, ap₂, _∙_}
+use native.Mathlib.Omega.{arith}
+use lib.ListN.{length, drop}
+use borrow.Author.Needs.{needs}
+use Rattle.meaning.specs.Number.{numberBytes}
+use Rattle.meaning.specs.File.{counted}
+use Rattle.meaning.specs.Answer.{fine}
+use Rattle.writer.specs.declared.Written.the-variants.{Done}
+use Rattle.writer.specs.Weights.{judgedOf, outcomeOf, weightsJudged}
+use Rattle.writer.specs.Judging.{weights-refused, fine-countable, weights-small, weights-done}
+use Rattle.writer.proofs.write_weights.Statement.{statement}
+use Rattle.writer.proofs.write_weights.Tie as tie
+
+judge-requires : tie.Need-judge-requires
+judge-requires c κs = search needs
+
+enum-known-reason : tie.Need-enum-known-reason
+enum-known-reason c = search needs
+
+enum-told : tie.Need-enum-told
+enum-told c = search needs
+
+-- In the arm for a list with no fault.
+accepted : (c : tie.After-enum-told) → weightsJudged 0 (c .before .before .before .before .before .args .weights .now) ≡ fine
+accepted c = sym (c .before .before .judge .ensures) ∙ ap judgedOf (c .enum-told .given .1)
+
+list-width-requires : tie.Need-list-width-requires
+list-width-requires c κs = fine-countable _ (accepted c)
+
+returns : tie.Need-returns
+returns c = sym (weights-small _ (c .before .before .before .before .before .before .before .args .room .now) (accepted (c .before .before)) (omega arith))
+
+write-list-requires : tie.Need-write-list-requires
+write-list-requires c κs = (fine-countable _ (accepted (c .before .before .before)), omega arith)
+
+returns-2 : tie.Need-returns-2
+returns-2 c =
+    let a = c .before .before .before .before .before .before .args in
+    sym (weights-refused (a .weights .now) (a .room .now) _ (sym (c .before .before .before .judge .ensures) ∙ ap judgedOf (c .before .reason .given .1)))
+
+same-length : tie.Need-same-length
+same-length c = search needs
+
+returns-3 : tie.Need-returns-3
+returns-3 c =
+    let a = c .before .before .before .before .before .before .before .before .before .before .before .args in
+    let room = a .room .now in
+    let file = counted numberBytes (a .weights .now) in
+    let written = c .before .before .write-list .ensures in
+    let after : c .before .before .write-list .result ≡ length file = omega (arith, written .0) in
+    ap₂ (λ n l. outcomeOf (Done n) l) after (written .1 ∙ ap (λ n. file ++ drop n room) after)
+    ∙ sym (weights-done (a .weights .now) room (accepted (c .before .before .before .before .before .before)) (omega arith))
+
+pub write-weights-spec : {M : Type 1} → statement M
+write-weights-spec =
+    tie.close
+    (tie.spec
+    judge-requires
+    enum-known-reason
+    enum-told
+    list-width-requires
+    returns
+    write-list-requires
+    returns-2
+    same-length
+    returns-3)

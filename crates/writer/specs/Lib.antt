@@ -1,0 +1,5 @@
+pub mod Parts
+pub mod Weights
+pub mod Widths
+pub mod Remains
+pub mod Judging

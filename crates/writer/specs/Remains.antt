@@ -1,0 +1,50 @@
+-- How a room is filled part after part: what remains to be written, from the start to the end.
+use Prim.Native.Nat.{ℕ, suc, _+_, _≤_}
+use mathlib.Core.Path.{_≡_, refl, sym, ap, ap₂, _∙_}
+use mathlib.Core.List.{List, [], _∷_, _++_}
+use native.Mathlib.Omega.{arith}
+use native.Mathlib.Nat.{add-zero}
+use lib.ListN.{length, set, take, drop}
+use lib.Seq.{sets, length-sets}
+use Rattle.number.specs.Laws.{sets-all}
+use Rattle.writer.specs.Widths.{part-length}
+
+sets-append : (room : List ℕ) (at : ℕ) (l m : List ℕ) → sets room at (l ++ m) ≡ sets (sets room at l) (at + length l) m
+sets-append room at [] m = ap (λ k. sets room k m) (sym (add-zero at))
+sets-append room at (b ∷ l) m = sets-append (set room at b) (suc at) l m ∙ ap (λ k. sets (sets (set room at b) (suc at) l) k m) (omega arith)
+
+-- Of what is due from a place on, the rest is still to be written: from the next place on it fits, and gives the same room.
+pub record Remains (room₀ : List ℕ) (at : ℕ) (due room : List ℕ) (next : ℕ) (rest : List ℕ) : Type 0 where
+  pub kept : length room ≡ length room₀
+  pub fits : next + length rest ≤ length room
+  pub place : at + length due ≡ next + length rest
+  pub same : sets room₀ at due ≡ sets room next rest
+
+pub remains-all : (room : List ℕ) (at : ℕ) (due : List ℕ) → at + length due ≤ length room → Remains room at due room at due
+remains-all room at due h = record { kept = refl; fits = h; place = refl; same = refl }
+
+module _ {room₀ : List ℕ} {at : ℕ} {due room : List ℕ} {next : ℕ} {rest : List ℕ} (r : Remains room₀ at due room next rest) where
+  -- The next part has room.
+  pub part-fits : (part others : List ℕ) → rest ≡ part ++ others → next + length part ≤ length room
+  part-fits part others e = omega (arith, r .fits, part-length part others e)
+
+  -- And when it is written, the others remain.
+  pub remains-after : (part others room' : List ℕ) (after : ℕ) → rest ≡ part ++ others → after ≡ next + length part
+      → room' ≡ take next room ++ (part ++ drop after room) → Remains room₀ at due room' after others
+  remains-after part others room' after e p w =
+      let fit = part-fits part others e in
+      let written : room' ≡ sets room next part = w ∙ sym (sets-all room next after part p (omega arith)) in
+      let size : length room' ≡ length room = ap length written ∙ length-sets room next part in
+      let count : length rest ≡ length part + length others = part-length part others e in
+      record {
+        kept = size ∙ r .kept;
+        fits = omega (arith, r .fits);
+        place = omega (arith, r .place);
+        same = r .same ∙ ap (sets room next) e ∙ sets-append room next part others ∙ ap₂ (λ l k. sets l k others) (sym written) (sym p);
+      }
+
+  -- Where nothing remains, all that is due stands in the room.
+  pub remains-none : rest ≡ [] → (next ≡ at + length due) × (room ≡ take at room₀ ++ (due ++ drop next room₀))
+  remains-none e =
+      let last : next ≡ at + length due = omega (arith, r .place, ap length e) in
+      (last, sym (sym (sets-all room₀ at next due last (omega (arith, r .fits, r .kept))) ∙ r .same ∙ ap (sets room next) e))

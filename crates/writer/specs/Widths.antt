@@ -1,0 +1,92 @@
+-- The parts of a file, one after another, and how many bytes they have.
+use Prim.Native.Nat.{ℕ, _+_, _*_, _<_, _≤_}
+use mathlib.Core.Path.{_≡_, sym, ap, _∙_}
+use mathlib.Core.List.{List, [], _∷_, _++_}
+use native.Mathlib.Omega.{arith}
+use native.Mathlib.Nat.{mul-suc}
+use native.Mathlib.Numerals.{add-one}
+use lib.ListN.{length, getD, drop, length-append, drop-of-length-le}
+use lib.Seq.{drop-cons}
+use Rattle.meaning.specs.Limits.{mostGroups, numberEnd}
+use Rattle.meaning.specs.Number.{numberBytes}
+use Rattle.meaning.specs.Task.{Entry}
+use Rattle.meaning.specs.File.{bytesOf, counted, entryBytes, operatorBytes}
+use Rattle.meaning.specs.Answer.{operatorIn}
+use Rattle.theory.specs.Flat.{length-table, getD-table}
+use Rattle.theory.specs.NumberBack.{number-bytes-length}
+use Rattle.writer.specs.Parts.{Triples, entryAt, entriesIn}
+
+pub part-length : {l : List ℕ} (part others : List ℕ) → l ≡ part ++ others → length l ≡ length part + length others
+part-length part others e = ap length e ∙ length-append part others
+
+module _ {A : Type 0} (write : A → List ℕ) where
+  pub bytes-more : (l : List A) (i : ℕ) (d : A) → i < length l → bytesOf write (drop i l) ≡ write (getD l i d) ++ bytesOf write (drop (i + 1) l)
+  unfolding bytesOf
+  bytes-more l i d h = ap (bytesOf write) (drop-cons l i d h) ∙ ap (λ k. write (getD l i d) ++ bytesOf write (drop k l)) (sym (add-one i))
+
+  pub width-more : (l : List A) (i : ℕ) (d : A) → i < length l
+      → length (bytesOf write (drop i l)) ≡ length (write (getD l i d)) + length (bytesOf write (drop (i + 1) l))
+  width-more l i d h = part-length (write (getD l i d)) (bytesOf write (drop (i + 1) l)) (bytes-more l i d h)
+
+  pub bytes-none : (l : List A) (i : ℕ) → length l ≤ i → bytesOf write (drop i l) ≡ []
+  unfolding bytesOf
+  bytes-none l i h = ap (bytesOf write) (drop-of-length-le l h)
+
+  -- Things of at most k bytes each.
+  pub bytes-few : (k : ℕ) → ((a : A) → length (write a) ≤ k) → (l : List A) → length (bytesOf write l) ≤ k * length l
+  unfolding bytesOf
+  bytes-few k h [] = omega arith
+  bytes-few k h (a ∷ l) = omega (arith, length-append (write a) (bytesOf write l), h a, bytes-few k h l, mul-suc k (length l))
+
+  pub counted-length : (l : List A) → length (counted write l) ≡ length (numberBytes (length l)) + length (bytesOf write l)
+  unfolding counted
+  counted-length l = length-append (numberBytes (length l)) (bytesOf write l)
+
+pub numbers-few : (l : List ℕ) → length (bytesOf numberBytes l) ≤ mostGroups * length l
+numbers-few = bytes-few numberBytes mostGroups (λ n. number-bytes-length n .1)
+
+pub entry-length : (e : Entry) → length (entryBytes e) ≡ length (numberBytes (e .variable)) + length (numberBytes (e .before)) + length (numberBytes (e .after))
+unfolding entryBytes
+entry-length e =
+    let values = numberBytes (e .before) ++ numberBytes (e .after) in
+    omega (arith, length-append (numberBytes (e .variable)) values, length-append (numberBytes (e .before)) (numberBytes (e .after)))
+
+pub entries-few : (o : List Entry) → length (bytesOf entryBytes o) ≤ 3 * mostGroups * length o
+entries-few = bytes-few entryBytes (3 * mostGroups) few
+  where
+    few : (e : Entry) → length (entryBytes e) ≤ 3 * mostGroups
+    few e = omega (arith, entry-length e, number-bytes-length (e .variable), number-bytes-length (e .before), number-bytes-length (e .after))
+
+module _ (variables befores afters : List ℕ) where
+  pub entries-length : length (entriesIn variables befores afters) ≡ length variables
+  unfolding operatorIn
+  entries-length = length-table (length variables) _
+
+  pub operator-split : operatorBytes (entriesIn variables befores afters) ≡ numberBytes (length variables) ++ bytesOf entryBytes (entriesIn variables befores afters)
+  unfolding operatorBytes counted
+  operator-split = ap (λ n. numberBytes n ++ bytesOf entryBytes (entriesIn variables befores afters)) entries-length
+
+  pub operator-length : length (operatorBytes (entriesIn variables befores afters))
+      ≡ length (numberBytes (length variables)) + length (bytesOf entryBytes (entriesIn variables befores afters))
+  operator-length = part-length (numberBytes (length variables)) (bytesOf entryBytes (entriesIn variables befores afters)) operator-split
+
+  pub operator-few : length (operatorBytes (entriesIn variables befores afters)) ≤ mostGroups + 3 * mostGroups * length variables
+  operator-few = omega (arith, operator-length, entries-length, number-bytes-length (length variables), entries-few (entriesIn variables befores afters))
+
+  module _ (i : ℕ) (h : i < length variables) where
+    -- The entry at an index is made of numbers of a file.
+    pub triple-at : Triples variables befores afters → (getD variables i 0 < numberEnd) × (getD befores i 0 < numberEnd) × (getD afters i 0 < numberEnd)
+    triple-at (few, b, a, bs, us) = (few .1 i h, bs i (omega arith), us i (omega arith))
+
+    pub entries-more : bytesOf entryBytes (drop i (entriesIn variables befores afters))
+        ≡ entryBytes (entryAt variables befores afters i) ++ bytesOf entryBytes (drop (i + 1) (entriesIn variables befores afters))
+    unfolding operatorIn
+    entries-more =
+        let o = entriesIn variables befores afters in
+        let e = entryAt variables befores afters i in
+        bytes-more entryBytes o i e (omega (arith, entries-length))
+        ∙ ap (λ a. entryBytes a ++ bytesOf entryBytes (drop (i + 1) o)) (getD-table (length variables) (entryAt variables befores afters) i e h)
+
+    pub entry-width-more : length (bytesOf entryBytes (drop i (entriesIn variables befores afters)))
+        ≡ length (entryBytes (entryAt variables befores afters i)) + length (bytesOf entryBytes (drop (i + 1) (entriesIn variables befores afters)))
+    entry-width-more = part-length (entryBytes (entryAt variables befores afters i)) (bytesOf entryBytes (drop (i + 1) (entriesIn variables befores afters))) entries-more

@@ -1,0 +1,163 @@
+// The parts of task files and weight files, written into lent bytes: how many bytes a part has, and the part written at a place.
+ghost use mathlib.Core.Path.{_≡_};
+ghost use mathlib.Core.List.{_++_};
+ghost use Prim.Native.Nat.{_+_, _<_, _≤_};
+ghost use lib.ListN.{length, take, drop};
+ghost use Rattle.meaning.specs.Limits.{numberEnd};
+ghost use Rattle.meaning.specs.Number.{numberBytes};
+ghost use Rattle.meaning.specs.File.{bytesOf, counted, entryBytes, operatorBytes};
+ghost use Rattle.writer.specs.Parts.{Numbers, Countable, Triples, entryOf, entriesIn};
+ghost use Rattle.writer.specs.Weights.{judgedOf, outcomeOf, weightsJudged, weightsWritten};
+use number::Reason;
+
+// What is wrong with a list of features: the first fault, or nothing.
+enum Judged {
+    Fine,
+    Faulty(Reason),
+}
+
+// What a call that writes a file answers: the file's length; or the reason of a refusal.
+pub enum Written {
+    Done(usize),
+    Refused(Reason),
+}
+
+// The first number that is no feature of any task.
+const MOST_FEATURES: u64 = 4096;
+
+// How many bytes a list of numbers has, without its count.
+pub fn numbers_width(values: &[u64]) -> usize
+    requires { ⌜ Numbers (now values) ⌝ }
+    ensures { λ r. ⌜ r ≡ length (bytesOf numberBytes (now (values .entry))) ⌝ }
+{
+    let mut sum = 0;
+    let mut i = 0;
+    while i < values.len() {
+        sum += number::width(values[i] as usize);
+        i += 1;
+    }
+    sum
+}
+
+// How many bytes a list of numbers has, with its count.
+pub fn list_width(values: &[u64]) -> usize
+    requires { ⌜ Countable (now values) ⌝ }
+    ensures { λ r. ⌜ r ≡ length (counted numberBytes (now (values .entry))) ⌝ }
+{
+    number::width(values.len()) + numbers_width(values)
+}
+
+// How many bytes an entry has.
+fn entry_width(variable: usize, before: usize, after: usize) -> usize
+    requires { ⌜ (variable < numberEnd) × (before < numberEnd) × (after < numberEnd) ⌝ }
+    ensures { λ r. ⌜ r ≡ length (entryBytes (entryOf variable before after)) ⌝ }
+{
+    number::width(variable) + number::width(before) + number::width(after)
+}
+
+// How many bytes an operator has.
+pub fn operator_width(variables: &[usize], befores: &[usize], afters: &[usize]) -> usize
+    requires { ⌜ Triples (now variables) (now befores) (now afters) ⌝ }
+    ensures { λ r. ⌜ r ≡ length (operatorBytes (entriesIn (now (variables .entry)) (now (befores .entry)) (now (afters .entry)))) ⌝ }
+{
+    let mut sum = number::width(variables.len());
+    let mut i = 0;
+    while i < variables.len() {
+        sum += entry_width(variables[i], befores[i], afters[i]);
+        i += 1;
+    }
+    sum
+}
+
+// Writes a list of numbers from a place on, without its count, and answers the place after it.
+pub fn write_numbers(room: &mut [u8], at: usize, values: &[u64]) -> usize
+    requires { ⌜ Numbers (now values) × (at + length (bytesOf numberBytes (now values)) ≤ length (now room)) ⌝ }
+    ensures after { λ r. ⌜ r ≡ at + length (bytesOf numberBytes (now (values .entry))) ⌝ }
+    ensures written { λ r. ⌜ now (room .exit) ≡ take at (now (room .entry)) ++ (bytesOf numberBytes (now (values .entry)) ++ drop r (now (room .entry))) ⌝ }
+{
+    let mut next = at;
+    let mut i = 0;
+    while i < values.len() {
+        next = number::write_number(room, next, values[i] as usize);
+        i += 1;
+    }
+    next
+}
+
+// Writes a list of numbers with its count from a place on, and answers the place after it.
+pub fn write_list(room: &mut [u8], at: usize, values: &[u64]) -> usize
+    requires { ⌜ Countable (now values) × (at + length (counted numberBytes (now values)) ≤ length (now room)) ⌝ }
+    ensures after { λ r. ⌜ r ≡ at + length (counted numberBytes (now (values .entry))) ⌝ }
+    ensures written { λ r. ⌜ now (room .exit) ≡ take at (now (room .entry)) ++ (counted numberBytes (now (values .entry)) ++ drop r (now (room .entry))) ⌝ }
+{
+    let next = number::write_number(room, at, values.len());
+    write_numbers(room, next, values)
+}
+
+// Writes an entry from a place on, and answers the place after it.
+fn write_entry(room: &mut [u8], at: usize, variable: usize, before: usize, after: usize) -> usize
+    requires { ⌜ (variable < numberEnd) × (before < numberEnd) × (after < numberEnd) × (at + length (entryBytes (entryOf variable before after)) ≤ length (now room)) ⌝ }
+    ensures after { λ r. ⌜ r ≡ at + length (entryBytes (entryOf variable before after)) ⌝ }
+    ensures written { λ r. ⌜ now (room .exit) ≡ take at (now (room .entry)) ++ (entryBytes (entryOf variable before after) ++ drop r (now (room .entry))) ⌝ }
+{
+    let second = number::write_number(room, at, variable);
+    let third = number::write_number(room, second, before);
+    number::write_number(room, third, after)
+}
+
+// Writes an operator from a place on, and answers the place after it.
+pub fn write_operator(
+    room: &mut [u8],
+    at: usize,
+    variables: &[usize],
+    befores: &[usize],
+    afters: &[usize],
+) -> usize
+    requires { ⌜ Triples (now variables) (now befores) (now afters) × (at + length (operatorBytes (entriesIn (now variables) (now befores) (now afters))) ≤ length (now room)) ⌝ }
+    ensures after { λ r. ⌜ r ≡ at + length (operatorBytes (entriesIn (now (variables .entry)) (now (befores .entry)) (now (afters .entry)))) ⌝ }
+    ensures written { λ r. ⌜ now (room .exit)
+        ≡ take at (now (room .entry)) ++ (operatorBytes (entriesIn (now (variables .entry)) (now (befores .entry)) (now (afters .entry))) ++ drop r (now (room .entry))) ⌝ }
+{
+    let mut next = number::write_number(room, at, variables.len());
+    let mut i = 0;
+    while i < variables.len() {
+        next = write_entry(room, next, variables[i], befores[i], afters[i]);
+        i += 1;
+    }
+    next
+}
+
+// Judges a list of features in list order: each feature's range, then its order.
+fn judge(weights: &[u64]) -> Judged
+    ensures { λ r. ⌜ judgedOf r ≡ weightsJudged 0 (now (weights .entry)) ⌝ }
+{
+    let mut least: u64 = 0;
+    let mut i = 0;
+    while i < weights.len() {
+        let feature = weights[i];
+        if MOST_FEATURES <= feature {
+            return Judged::Faulty(Reason::Range);
+        }
+        if feature < least {
+            return Judged::Faulty(Reason::Unordered);
+        }
+        least = feature + 1;
+        i += 1;
+    }
+    Judged::Fine
+}
+
+// Writes a weight file: features that are in range and increase, and that have room.
+pub fn write_weights(weights: &[u64], room: &mut [u8]) -> Written
+    ensures { λ r. ⌜ outcomeOf r (now (room .exit)) ≡ weightsWritten (now (weights .entry)) (now (room .entry)) ⌝ }
+{
+    match judge(weights) {
+        Judged::Faulty(reason) => Written::Refused(reason),
+        Judged::Fine => {
+            if room.len() < list_width(weights) {
+                return Written::Refused(Reason::Small);
+            }
+            Written::Done(write_list(room, 0, weights))
+        }
+    }
+}

@@ -9,16 +9,17 @@ use lib.Seq.{drop-cons, take-at}
 use lib.Dec.{leb, ltb}
 use borrow.Author.Tests.{ltb-true, ltb-false, leb-true, lt-ltb, le-ltb, lt-leb, le-leb}
 use Rattle.meaning.specs.Limits.{mostFeatures}
-use Rattle.meaning.specs.Number.{Reason, Range, Unordered, Small, refusal, got, numberBytes}
+use Rattle.meaning.specs.Number.{Reason, Range, Unordered, Small, refusal, got}
 use Rattle.meaning.specs.Task.{Run}
-use Rattle.meaning.specs.File.{counted, weightBytes, judgedWeights}
-use Rattle.meaning.specs.Answer.{Judged, fine, faulty, need, done, refused, refuses, writes, delivered}
+use Rattle.meaning.specs.File.{weightBytes, judgedWeights}
+use Rattle.meaning.specs.Answer.{Judged, fine, faulty, need, done, refused, refuses, delivered}
 use Rattle.theory.specs.Flat.{getD-in}
 use Rattle.theory.specs.Truth.{on, off, test}
 use Rattle.theory.specs.ReadBack.{weights-back}
 use Rattle.theory.specs.Operands.{need-fine}
 use Rattle.theory.specs.Run.{run-none, run-more, run-first, run-rest, run-length, run-in}
 use Rattle.writer.specs.Parts.{Countable}
+use Rattle.writer.specs.Remains.{delivered-small, delivered-whole}
 use Rattle.writer.specs.Weights.{weightsJudged, weightsWritten}
 
 -- ---- a list is judged in the steps of the code
@@ -73,24 +74,17 @@ pub weights-refused : (weights room : List ℕ) (reason : Reason) → weightsJud
 unfolding weightsWritten
 weights-refused weights room reason e = rw e
 
-module _ (weights room : List ℕ) (e : weightsJudged 0 weights ≡ fine) where
-  pub weights-small : length room < length (counted numberBytes weights) → weightsWritten weights room ≡ refuses Small room
-  unfolding weightsWritten weightBytes
-  weights-small h = rw (e, lt-ltb (length room) (length (counted numberBytes weights)) h)
-
-  pub weights-done : length (counted numberBytes weights) ≤ length room
-      → weightsWritten weights room ≡ writes (length (counted numberBytes weights)) (counted numberBytes weights) room
-  unfolding weightsWritten weightBytes
-  weights-done h = rw (e, le-ltb (length room) (length (counted numberBytes weights)) h)
+pub weights-delivered : (weights room : List ℕ) → weightsJudged 0 weights ≡ fine → weightsWritten weights room ≡ delivered (weightBytes weights) room
+unfolding weightsWritten
+weights-delivered weights room e = rw e
 
 -- A weight file that was written is read back as its list, from the first bytes of the room.
 pub written-back : (weights room : List ℕ) (n : ℕ) → weightsWritten weights room .answer ≡ done n
     → Run 0 weights mostFeatures × (judgedWeights mostFeatures (take n (weightsWritten weights room .lent)) ≡ got weights n)
-unfolding weightBytes
 written-back weights room n d = by (weightsJudged 0 weights) refl
   where
     file : List ℕ
-    file = counted numberBytes weights
+    file = weightBytes weights
 
     not-refused : (reason : Reason) → weightsWritten weights room ≡ refuses reason room → ⊥
     not-refused reason e = let p : refused (refusal reason) ≡ done n = sym (ap (λ o. o .answer) e) ∙ d in let z : _≡_ {A = ℕ} 0 1 = cc in omega arith
@@ -99,15 +93,10 @@ written-back weights room n d = by (weightsJudged 0 weights) refl
         → Run 0 weights mostFeatures × (judgedWeights mostFeatures (take n (weightsWritten weights room .lent)) ≡ got weights n)
     by (faulty reason) e = absurd (not-refused reason (weights-refused weights room reason e))
     by fine e = elim (test (ltb (length room) (length file))) [
-      | on s ↦ absurd (not-refused Small (weights-small weights room e (ltb-true (length room) (length file) s)))
+      | on s ↦ absurd (not-refused Small (weights-delivered weights room e ∙ delivered-small file room (ltb-true (length room) (length file) s)))
       | off s ↦
           let r = fine-run 0 weights (omega arith) e in
-          let w = weights-done weights room e (ltb-false (length room) (length file) s) in
+          let w = weights-delivered weights room e ∙ delivered-whole file room (ltb-false (length room) (length file) s) in
           let q : n ≡ length file = let p : done (length file) ≡ done n = sym (ap (λ o. o .answer) w) ∙ d in cc in
           (r, rw (w, q, take-at file (drop (length file) room) (length file) refl) (weights-back mostFeatures weights (omega arith) r))
     ]
-
--- A run is delivered.
-pub weights-delivered : (weights room : List ℕ) → Run 0 weights mostFeatures → weightsWritten weights room ≡ delivered (weightBytes weights) room
-unfolding weightsWritten
-weights-delivered weights room r = rw (run-fine 0 weights r)

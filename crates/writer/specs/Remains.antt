@@ -1,12 +1,17 @@
--- How a room is filled part after part: what remains to be written, from the start to the end.
-use Prim.Native.Nat.{ℕ, suc, _+_, _≤_}
+-- How a room is filled part after part: what remains to be written, from the start to the end, and when a whole file is delivered.
+use Prim.Native.Nat.{ℕ, suc, _+_, _<_, _≤_}
 use mathlib.Core.Path.{_≡_, refl, sym, ap, ap₂, _∙_}
 use mathlib.Core.List.{List, [], _∷_, _++_}
 use native.Mathlib.Omega.{arith}
 use native.Mathlib.Nat.{add-zero}
 use lib.ListN.{length, set, take, drop}
 use lib.Seq.{sets, length-sets}
+use borrow.Author.Tests.{lt-ltb, le-ltb}
+use Rattle.meaning.specs.Number.{Small}
+use Rattle.meaning.specs.Answer.{refuses, writes, delivered}
 use Rattle.number.specs.Laws.{sets-all}
+use Rattle.writer.specs.declared.Written.the-variants.{Done}
+use Rattle.writer.specs.Weights.{outcomeOf}
 use Rattle.writer.specs.Widths.{part-length}
 
 sets-append : (room : List ℕ) (at : ℕ) (l m : List ℕ) → sets room at (l ++ m) ≡ sets (sets room at l) (at + length l) m
@@ -48,3 +53,19 @@ module _ {room₀ : List ℕ} {at : ℕ} {due room : List ℕ} {next : ℕ} {res
   remains-none e =
       let last : next ≡ at + length due = omega (arith, r .place, ap length e) in
       (last, sym (sym (sets-all room₀ at next due last (omega (arith, r .fits, r .kept))) ∙ r .same ∙ ap (sets room next) e))
+
+-- ---- a whole file
+
+module _ (file room : List ℕ) where
+  pub delivered-small : length room < length file → delivered file room ≡ refuses Small room
+  delivered-small h = rw (lt-ltb (length room) (length file) h)
+
+  pub delivered-whole : length file ≤ length room → delivered file room ≡ writes (length file) file room
+  delivered-whole h = rw (le-ltb (length room) (length file) h)
+
+  -- A file that was written from the front of a room on is delivered.
+  pub delivered-done : (room' : List ℕ) (n : ℕ) → length file ≤ length room → n ≡ 0 + length file → room' ≡ take 0 room ++ (file ++ drop n room)
+      → outcomeOf (Done n) room' ≡ delivered file room
+  delivered-done room' n h p w =
+      let q : n ≡ length file = omega arith in
+      ap₂ (λ k l. outcomeOf (Done k) l) q (w ∙ ap (λ k. file ++ drop k room) q) ∙ sym (delivered-whole h)

@@ -1,15 +1,13 @@
 -- `write_weights` refuses what is judged faulty and what has no room, and otherwise writes the list at the front.
-use mathlib.Core.List.{_++_}
-use mathlib.Core.Path.{_≡_, sym, ap, ap₂, _∙_}
+use mathlib.Core.Path.{_≡_, sym, ap, _∙_}
 use native.Mathlib.Omega.{arith}
-use lib.ListN.{length, drop}
 use borrow.Author.Needs.{needs}
 use Rattle.meaning.specs.Number.{numberBytes}
-use Rattle.meaning.specs.File.{counted}
+use Rattle.meaning.specs.File.{counted, weightBytes}
 use Rattle.meaning.specs.Answer.{fine}
-use Rattle.writer.specs.declared.Written.the-variants.{Done}
-use Rattle.writer.specs.Weights.{judgedOf, outcomeOf, weightsJudged}
-use Rattle.writer.specs.Judging.{weights-refused, fine-countable, weights-small, weights-done}
+use Rattle.writer.specs.Weights.{judgedOf, weightsJudged}
+use Rattle.writer.specs.Remains.{delivered-small, delivered-done}
+use Rattle.writer.specs.Judging.{weights-refused, weights-delivered, fine-countable}
 use Rattle.writer.proofs.write_weights.Statement.{statement}
 use Rattle.writer.proofs.write_weights.Tie as tie
 
@@ -30,7 +28,10 @@ list-width-requires : tie.Need-list-width-requires
 list-width-requires c κs = fine-countable _ (accepted c)
 
 returns : tie.Need-returns
-returns c = sym (weights-small _ (c .before .before .before .before .before .before .before .args .room .now) (accepted (c .before .before)) (omega arith))
+unfolding weightBytes
+returns c =
+    let a = c .before .before .before .before .before .before .before .args in
+    sym (weights-delivered _ (a .room .now) (accepted (c .before .before)) ∙ delivered-small (counted numberBytes (a .weights .now)) (a .room .now) (omega arith))
 
 write-list-requires : tie.Need-write-list-requires
 write-list-requires c κs = (fine-countable _ (accepted (c .before .before .before)), omega arith)
@@ -44,14 +45,12 @@ same-length : tie.Need-same-length
 same-length c = search needs
 
 returns-3 : tie.Need-returns-3
+unfolding weightBytes
 returns-3 c =
     let a = c .before .before .before .before .before .before .before .before .before .before .before .args in
-    let room = a .room .now in
-    let file = counted numberBytes (a .weights .now) in
     let written = c .before .before .write-list .ensures in
-    let after : c .before .before .write-list .result ≡ length file = omega (arith, written .0) in
-    ap₂ (λ n l. outcomeOf (Done n) l) after (written .1 ∙ ap (λ n. file ++ drop n room) after)
-    ∙ sym (weights-done (a .weights .now) room (accepted (c .before .before .before .before .before .before)) (omega arith))
+    delivered-done (counted numberBytes (a .weights .now)) (a .room .now) _ _ (omega arith) (written .0) (written .1)
+    ∙ sym (weights-delivered _ (a .room .now) (accepted (c .before .before .before .before .before .before)))
 
 pub write-weights-spec : {M : Type 1} → statement M
 write-weights-spec =

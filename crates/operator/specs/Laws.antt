@@ -19,13 +19,15 @@ use Rattle.operator.specs.Records.{entryIn, heldIn}
 -- ---- the arrays of a record
 
 module _ (count : ℕ) (vs xs ys : List ℕ) where
-  pub length-held : length (heldIn count vs xs ys) ≡ count
+  pub held-table : heldIn count vs xs ys ≡ table count (λ k. entryIn (getD vs k 0) (getD xs k 0) (getD ys k 0))
   unfolding operatorIn
-  length-held = length-table count _
+  held-table = refl
+
+  pub length-held : length (heldIn count vs xs ys) ≡ count
+  length-held = ap length held-table ∙ length-table count _
 
   pub entry-held : (k : ℕ) → k < count → entryAt (heldIn count vs xs ys) k ≡ entryIn (getD vs k 0) (getD xs k 0) (getD ys k 0)
-  unfolding operatorIn
-  entry-held k h = getD-table count _ k _ h
+  entry-held k h = ap (λ o. entryAt o k) held-table ∙ getD-table count _ k _ h
 
 table-last : {A : Type 0} (n : ℕ) (f : ℕ → A) → table (suc n) f ≡ table n f ++ (f n ∷ [])
 unfolding table

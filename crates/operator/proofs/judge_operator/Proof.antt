@@ -29,7 +29,9 @@ counted c = let a = c .before .before .before .before .args in simp (le-leb 1 _ 
 
 -- What is found of an entry decides, or the entries after it do.
 turn : (c : tie.After-judge-entry Inv-loop μ-loop) (found : Judgement) → c .judge-entry .result ≡ found
-    → let sizes = c .before .before .before .before .before .before .before .before .before .args .sizes .now in let o = c .before .before .before .before .before .before .before .before .before .args .t1 in let k = c .before .before .before .before .before .loop .k in
+    → let sizes = c .before .before .before .before .before .before .before .before .before .args .sizes .now in
+    let o = c .before .before .before .before .before .before .before .before .before .args .t1 in
+    let k = c .before .before .before .before .before .loop .k in
     entriesJudged sizes 0 (operatorIn (recordOf o)) fine
     ≡ unless (judgementOf found) (entriesJudged sizes (getD (o .variables) k 0 + 1) (drop (k + 1) (operatorIn (recordOf o))) fine)
 turn c found e =
@@ -42,7 +44,8 @@ turn c found e =
     ∙ ap (λ j. unless j later) (sym (c .judge-entry .ensures) ∙ ap judgementOf e)
 
 -- An entry that is found fine has a variable.
-below : (c : tie.After-enum-told Inv-loop μ-loop) → let a = c .before .before .before .before .before .before .before .before .before .before .before .args in getD (a .t1 .variables) (c .before .before .before .before .before .before .before .loop .k) 0 < length (a .sizes .now)
+below : (c : tie.After-enum-told Inv-loop μ-loop) → let a = c .before .before .before .before .before .before .before .before .before .before .before .args in
+    getD (a .t1 .variables) (c .before .before .before .before .before .before .before .loop .k) 0 < length (a .sizes .now)
 below c = entries-fine _ _ _ _ (sym (c .before .before .judge-entry .ensures) ∙ ap judgementOf (c .enum-told .given .1)) .0 .1
 
 returns : tie.Need-returns Inv-loop μ-loop

@@ -30,7 +30,8 @@ abbrev μ-loop : tie.MeasureT-loop
 μ-loop bytes at sizes count operator₀ next₀ least₀ k₀ operator next least k = count - k
 
 -- The entry that was read, and that its variable is one.
-entry : (c : tie.After-variable Inv-loop μ-loop) → let a = c .before .before .before .before .before .before .before .before .args in let l = c .before .before .before .before .loop in let known = c .variable .given .0 in
+entry : (c : tie.After-variable Inv-loop μ-loop) → let a = c .before .before .before .before .before .before .before .before .args in let l = c .before .before .before .before .loop in
+    let known = c .variable .given .0 in
     entriesOf (a .sizes .now) 1 (l .least) (a .bytes .now) (l .next) ≡ got (entryIn (known .0) (known .1 .0) (known .1 .1 .0) ∷ []) (known .1 .1 .1 .0)
 entry c = sym (c .before .before .read-entry .ensures) ∙ ap entryReadOf (c .variable .given .1)
 

@@ -21,7 +21,8 @@ below : (c : tie.After-variable) → c .variable .given .0 .0 < length (c .befor
 below c = rising-said _ _ _ _ .gives _ _ _ (variable c) .known .1
 
 -- The before value that was read.
-before : (c : tie.After-before2) → let a = c .before .before .before .before .before .before .before .before .before .before .args in let first = c .before .before .before .before .before .variable .given .0 in let known = c .before2 .given .0 in
+before : (c : tie.After-before2) → let a = c .before .before .before .before .before .before .before .before .before .before .args in
+    let first = c .before .before .before .before .before .variable .given .0 in let known = c .before2 .given .0 in
     item (inside 0 (size (a .sizes .now) (first .0))) Range (a .bytes .now) (first .1 .0) ≡ got (known .0) (known .1 .0)
 before c = sym (c .before .before .item-at .ensures) ∙ ap numberOf (c .before2 .given .1)
 
@@ -60,11 +61,15 @@ enum-known-reason-3 c = search needs
 
 returns : tie.Need-returns
 unfolding entriesOf
-returns c = let third = sym (c .before .before .before .item-at2 .ensures) ∙ ap numberOf (c .before .after .given .1) in simp (variable (c .before .before .before .before .before .before .before .before .before .before), before (c .before .before .before .before .before), third)
+returns c =
+    let third = sym (c .before .before .before .item-at2 .ensures) ∙ ap numberOf (c .before .after .given .1) in
+    simp (variable (c .before .before .before .before .before .before .before .before .before .before), before (c .before .before .before .before .before), third)
 
 returns-2 : tie.Need-returns-2
 unfolding entriesOf
-returns-2 c = let third = sym (c .before .before .before .item-at2 .ensures) ∙ ap numberOf (c .before .reason .given .1) in simp (variable (c .before .before .before .before .before .before .before .before .before .before), before (c .before .before .before .before .before), third)
+returns-2 c =
+    let third = sym (c .before .before .before .item-at2 .ensures) ∙ ap numberOf (c .before .reason .given .1) in
+    simp (variable (c .before .before .before .before .before .before .before .before .before .before), before (c .before .before .before .before .before), third)
 
 returns-3 : tie.Need-returns-3
 unfolding entriesOf

@@ -30,7 +30,8 @@ enum-known-count c = search needs
 read : (c : tie.After-item-at) → let a = c .before .before .before .args in numberOf (c .item-at .result) ≡ countAt (a .sizes .now) (a .bytes .now) (a .at)
 read c = let a = c .before .before .before .args in c .item-at .ensures ∙ ap (λ n. item (inside 1 n) Range (a .bytes .now) (a .at)) (add-one (length (a .sizes .now)))
 
-count : (c : tie.After-count) → let a = c .before .before .before .before .before .args in let known = c .count .given .0 in countAt (a .sizes .now) (a .bytes .now) (a .at) ≡ got (known .0) (known .1 .0)
+count : (c : tie.After-count) → let a = c .before .before .before .before .before .args in let known = c .count .given .0 in
+    countAt (a .sizes .now) (a .bytes .now) (a .at) ≡ got (known .0) (known .1 .0)
 count c = sym (read (c .before .before)) ∙ ap numberOf (c .count .given .1)
 
 read-entries-requires : tie.Need-read-entries-requires

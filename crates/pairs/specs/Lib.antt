@@ -1,0 +1,4 @@
+pub mod Places
+pub mod Ready
+pub mod Judge
+pub mod Fill

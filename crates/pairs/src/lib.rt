@@ -1,0 +1,294 @@
+// Listed pairs: whether atoms are paired, which atoms an operator leaves possible, whether it is idle or the list closed under it, whether a state holds a pair.
+ghost use mathlib.Core.Path.{_≡_};
+ghost use mathlib.Core.Logic.{_≢_};
+ghost use mathlib.Core.Bool.{not, _&&_};
+ghost use mathlib.Core.List.{List};
+ghost use Prim.Native.Nat.{ℕ, _*_, _<_, _≤_};
+ghost use lib.ListN.{length};
+ghost use Rattle.meaning.specs.Limits.{wordBits};
+ghost use Rattle.meaning.specs.Sets.{some};
+ghost use Rattle.meaning.specs.Task.{State, names, size, value};
+ghost use Rattle.meaning.specs.Feature.{atoms, single};
+ghost use Rattle.meaning.specs.Workspace.{has};
+ghost use Rattle.meaning.specs.File.{InLimits};
+ghost use Rattle.meaning.specs.Pair.{paired, idle, closed, holds};
+ghost use Rattle.theory.specs.Possible.{entriesIn};
+ghost use Rattle.pairs.specs.Ready.{Listed, Atoms, Ready, Apart, Place, HoldsPossible};
+ghost use Rattle.pairs.specs.Judge.{pairedWithin, clashingIn, valued, unclosedAt};
+ghost use Rattle.pairs.specs.Fill.{freeAtoms, Added, Lacks};
+
+// The first place of a variable; the number of places where it stands nowhere.
+fn place(variables: &[usize], u: usize) -> usize
+    ensures { λ r. ⌜ Place (now (variables .entry)) u r ⌝ }
+{
+    let mut k = 0;
+    while k < variables.len() {
+        if variables[k] == u {
+            return k;
+        }
+        k += 1;
+    }
+    k
+}
+
+// Whether an operator with these variables names variable u.
+pub fn names(variables: &[usize], u: usize) -> bool
+    ensures { λ r. ⌜ ((befores afters : List ℕ) → r ≡ names (entriesIn (now (variables .entry)) befores afters) u) ⌝ }
+{
+    place(variables, u) < variables.len()
+}
+
+// Whether the feature of two atoms is listed.
+pub fn is_paired(sizes: &[u64], pairs: &[u64], i: usize, x: usize, j: usize, y: usize) -> bool
+    requires { ⌜ Listed (now sizes) (now pairs) × (i ≢ j) × (i < length (now sizes)) × (j < length (now sizes)) × (x < size (now sizes) i) × (y < size (now sizes) j) ⌝ }
+    ensures { λ r. ⌜ r ≡ paired (now (sizes .entry)) (has (now (pairs .entry))) i x j y ⌝ }
+{
+    words::has(pairs, numbering::both(sizes, i, x, j, y))
+}
+
+// Whether one of the first n atoms is paired with the atom of value y of another variable u.
+fn is_paired_within(
+    sizes: &[u64],
+    pairs: &[u64],
+    variables: &[usize],
+    values: &[usize],
+    n: usize,
+    u: usize,
+    y: usize,
+) -> bool
+    requires { ⌜ Listed (now sizes) (now pairs) × Atoms (now sizes) (now variables) (now values) × (n ≤ length (now variables)) × Apart (now variables) n u
+        × (u < length (now sizes)) × (y < size (now sizes) u) ⌝ }
+    ensures { λ r. ⌜ r ≡ pairedWithin (now (sizes .entry)) (has (now (pairs .entry))) (now (variables .entry)) (now (values .entry)) n u y ⌝ }
+{
+    let mut k = 0;
+    while k < n {
+        if is_paired(sizes, pairs, variables[k], values[k], u, y) {
+            return true;
+        }
+        k += 1;
+    }
+    false
+}
+
+// Puts in the atoms of an unnamed variable that are paired with no before atom.
+fn fill_variable(
+    sizes: &[u64],
+    pairs: &[u64],
+    variables: &[usize],
+    befores: &[usize],
+    u: usize,
+    possible: &mut [u64],
+)
+    requires { ⌜ Listed (now sizes) (now pairs) × Atoms (now sizes) (now variables) (now befores) × Apart (now variables) (length (now variables)) u
+        × (u < length (now sizes)) × (atoms (now sizes) ≤ wordBits * length (now possible)) × Lacks (now sizes) u (now possible) ⌝ }
+    ensures { λ r. ⌜ Added (now (possible .entry))
+        (freeAtoms (now (sizes .entry)) (has (now (pairs .entry))) (now (variables .entry)) (now (befores .entry)) u (size (now (sizes .entry)) u))
+        (now (possible .exit)) ⌝ }
+{
+    let start = numbering::single(sizes, u, 0);
+    let d = numbering::size(sizes, u);
+    let mut y = 0;
+    while y < d {
+        if !is_paired_within(sizes, pairs, variables, befores, variables.len(), u, y) {
+            words::toggle(possible, start + y);
+        }
+        y += 1;
+    }
+}
+
+// Makes the words the table of the atoms that the operator leaves possible.
+pub fn fill_possible(
+    sizes: &[u64],
+    pairs: &[u64],
+    variables: &[usize],
+    befores: &[usize],
+    afters: &[usize],
+    possible: &mut [u64],
+)
+    requires { ⌜ Ready (now sizes) (now pairs) (now variables) (now befores) (now afters) × (atoms (now sizes) ≤ wordBits * length (now possible)) ⌝ }
+    ensures { λ r. ⌜ (length (now (possible .exit)) ≡ length (now (possible .entry)))
+        × HoldsPossible (now (sizes .entry)) (has (now (pairs .entry))) (entriesIn (now (variables .entry)) (now (befores .entry)) (now (afters .entry)))
+        (now (possible .exit)) ⌝ }
+{
+    words::clear(possible);
+    let mut u = 0;
+    while u < sizes.len() {
+        if !names(variables, u) {
+            fill_variable(sizes, pairs, variables, befores, u, possible);
+        }
+        u += 1;
+    }
+}
+
+// Whether two atoms are paired.
+fn is_clashing(sizes: &[u64], pairs: &[u64], variables: &[usize], values: &[usize]) -> bool
+    requires { ⌜ Listed (now sizes) (now pairs) × Atoms (now sizes) (now variables) (now values) ⌝ }
+    ensures { λ r. ⌜ r ≡ clashingIn (now (sizes .entry)) (has (now (pairs .entry))) (now (variables .entry)) (now (values .entry)) ⌝ }
+{
+    let mut l = 0;
+    while l < variables.len() {
+        if is_paired_within(sizes, pairs, variables, values, l, variables[l], values[l]) {
+            return true;
+        }
+        l += 1;
+    }
+    false
+}
+
+// Whether the table has an atom of variable u.
+fn has_value(sizes: &[u64], possible: &[u64], u: usize) -> bool
+    requires { ⌜ InLimits (now sizes) × (u < length (now sizes)) × (atoms (now sizes) ≤ wordBits * length (now possible)) ⌝ }
+    ensures { λ r. ⌜ r ≡ valued (now (sizes .entry)) (now (possible .entry)) u ⌝ }
+{
+    let start = numbering::single(sizes, u, 0);
+    let d = numbering::size(sizes, u);
+    let mut y = 0;
+    while y < d {
+        if words::has(possible, start + y) {
+            return true;
+        }
+        y += 1;
+    }
+    false
+}
+
+// Whether the table has no atom of some unnamed variable.
+fn is_stuck(sizes: &[u64], variables: &[usize], possible: &[u64]) -> bool
+    requires { ⌜ InLimits (now sizes) × (atoms (now sizes) ≤ wordBits * length (now possible)) ⌝ }
+    ensures { λ r. ⌜ ((befores afters : List ℕ) → r ≡ some (length (now (sizes .entry)))
+        (λ u. not (names (entriesIn (now (variables .entry)) befores afters) u) && not (valued (now (sizes .entry)) (now (possible .entry)) u))) ⌝ }
+{
+    let mut u = 0;
+    while u < sizes.len() {
+        if !names(variables, u) && !has_value(sizes, possible, u) {
+            return true;
+        }
+        u += 1;
+    }
+    false
+}
+
+// Whether the operator is idle.
+pub fn is_idle(
+    sizes: &[u64],
+    pairs: &[u64],
+    variables: &[usize],
+    befores: &[usize],
+    afters: &[usize],
+    possible: &[u64],
+) -> bool
+    requires { ⌜ Ready (now sizes) (now pairs) (now variables) (now befores) (now afters)
+        × HoldsPossible (now sizes) (has (now pairs)) (entriesIn (now variables) (now befores) (now afters)) (now possible) ⌝ }
+    ensures { λ r. ⌜ r ≡ idle (now (sizes .entry)) (has (now (pairs .entry))) (entriesIn (now (variables .entry)) (now (befores .entry)) (now (afters .entry))) ⌝ }
+{
+    if is_clashing(sizes, pairs, variables, befores) {
+        return true;
+    }
+    is_stuck(sizes, variables, possible)
+}
+
+// Whether a possible value of an unnamed variable u is paired with an after atom.
+fn is_uncovered_at(
+    sizes: &[u64],
+    pairs: &[u64],
+    variables: &[usize],
+    afters: &[usize],
+    possible: &[u64],
+    u: usize,
+) -> bool
+    requires { ⌜ Listed (now sizes) (now pairs) × Atoms (now sizes) (now variables) (now afters) × Apart (now variables) (length (now variables)) u
+        × (u < length (now sizes)) × (atoms (now sizes) ≤ wordBits * length (now possible)) ⌝ }
+    ensures { λ r. ⌜ r ≡ some (size (now (sizes .entry)) u) (λ y. has (now (possible .entry)) (single (now (sizes .entry)) u y)
+        && pairedWithin (now (sizes .entry)) (has (now (pairs .entry))) (now (variables .entry)) (now (afters .entry)) (length (now (variables .entry))) u y) ⌝ }
+{
+    let start = numbering::single(sizes, u, 0);
+    let d = numbering::size(sizes, u);
+    let mut y = 0;
+    while y < d {
+        if words::has(possible, start + y)
+            && is_paired_within(sizes, pairs, variables, afters, variables.len(), u, y)
+        {
+            return true;
+        }
+        y += 1;
+    }
+    false
+}
+
+// Whether variable u has anything against closure.
+pub fn is_unclosed_at(
+    sizes: &[u64],
+    pairs: &[u64],
+    variables: &[usize],
+    befores: &[usize],
+    afters: &[usize],
+    possible: &[u64],
+    u: usize,
+) -> bool
+    requires { ⌜ Ready (now sizes) (now pairs) (now variables) (now befores) (now afters)
+        × HoldsPossible (now sizes) (has (now pairs)) (entriesIn (now variables) (now befores) (now afters)) (now possible) × (u < length (now sizes)) ⌝ }
+    ensures { λ r. ⌜ r ≡ unclosedAt (now (sizes .entry)) (has (now (pairs .entry))) (entriesIn (now (variables .entry)) (now (befores .entry)) (now (afters .entry))) u ⌝ }
+{
+    let k = place(variables, u);
+    if k < variables.len() {
+        return is_paired_within(sizes, pairs, variables, afters, k, u, afters[k]);
+    }
+    is_uncovered_at(sizes, pairs, variables, afters, possible, u)
+}
+
+// Whether the list is closed under the operator.
+pub fn is_closed(
+    sizes: &[u64],
+    pairs: &[u64],
+    variables: &[usize],
+    befores: &[usize],
+    afters: &[usize],
+    possible: &[u64],
+) -> bool
+    requires { ⌜ Ready (now sizes) (now pairs) (now variables) (now befores) (now afters)
+        × HoldsPossible (now sizes) (has (now pairs)) (entriesIn (now variables) (now befores) (now afters)) (now possible) ⌝ }
+    ensures { λ r. ⌜ r ≡ closed (now (sizes .entry)) (has (now (pairs .entry))) (entriesIn (now (variables .entry)) (now (befores .entry)) (now (afters .entry))) ⌝ }
+{
+    if is_idle(sizes, pairs, variables, befores, afters, possible) {
+        return true;
+    }
+    let mut u = 0;
+    while u < sizes.len() {
+        if is_unclosed_at(sizes, pairs, variables, befores, afters, possible, u) {
+            return false;
+        }
+        u += 1;
+    }
+    true
+}
+
+// Whether the value of variable j is paired with that of an earlier variable.
+fn holds_at(sizes: &[u64], pairs: &[u64], state: &[u64], j: usize) -> bool
+    requires { ⌜ Listed (now sizes) (now pairs) × State (now sizes) (now state) × (j < length (now sizes)) ⌝ }
+    ensures { λ r. ⌜ r ≡ some j (λ i. paired (now (sizes .entry)) (has (now (pairs .entry))) i (value (now (state .entry)) i) j (value (now (state .entry)) j)) ⌝ }
+{
+    let y = state[j] as usize;
+    let mut i = 0;
+    while i < j {
+        if is_paired(sizes, pairs, i, state[i] as usize, j, y) {
+            return true;
+        }
+        i += 1;
+    }
+    false
+}
+
+// Whether a state holds a listed pair.
+pub fn holds(sizes: &[u64], pairs: &[u64], state: &[u64]) -> bool
+    requires { ⌜ Listed (now sizes) (now pairs) × State (now sizes) (now state) ⌝ }
+    ensures { λ r. ⌜ r ≡ holds (now (sizes .entry)) (has (now (pairs .entry))) (now (state .entry)) ⌝ }
+{
+    let mut j = 0;
+    while j < sizes.len() {
+        if holds_at(sizes, pairs, state, j) {
+            return true;
+        }
+        j += 1;
+    }
+    false
+}

@@ -1,0 +1,7 @@
+pub mod Answer
+pub mod Lists
+pub mod Features
+pub mod Header
+pub mod Front
+pub mod States
+pub mod Pairs

@@ -1,0 +1,119 @@
+-- The lists of a file as the code reads them: what is still to be read, after each turn, goes into the words as they are then.
+use Prim.Native.Nat.{ℕ, zero, suc, _+_, _-_, _<_, _≤_}
+use mathlib.Core.Path.{_≡_, refl, sym, ap, _∙_}
+use mathlib.Core.List.{List, [], _∷_}
+use native.Mathlib.Omega.{arith}
+use native.Mathlib.Numerals.{add-one}
+use lib.ListN.{length, getD, set, take, drop, length-drop, drop-of-length-le}
+use lib.Seq.{sets, drop-cons, getD-set-other, getD-take, getD-drop, length-take-le}
+use Rattle.meaning.specs.Limits.{leastSize, mostSize}
+use Rattle.meaning.specs.Task.{size}
+use Rattle.meaning.specs.Number as meaning
+use Rattle.meaning.specs.Number.{Limit, Range, got, fault}
+use Rattle.meaning.specs.File.{Parser, inside, item, rising, sizesOf, valuesOf, featuresOf}
+use Rattle.meaning.specs.Workspace.{sizesAt, startAt}
+use Rattle.theory.specs.Parts.{values-said, rising-said}
+use Rattle.theory.specs.Contents.{sizesIn}
+use Rattle.number.specs.Laws.{sets-all}
+use Rattle.number.specs.declared.Step.{Step}
+use Rattle.words.specs.Change.{toggled}
+use Rattle.reader.specs.Answer.{written, ReadsInto, reads-same, placed, listOf, first-read, first-fault}
+
+-- ---- sizes
+
+-- One size.
+abbrev pub sizeAt : Parser ℕ
+sizeAt = item (inside leastSize (suc mostSize)) Limit
+
+module _ (v i : ℕ) (bytes : List ℕ) (place : ℕ) (words : List ℕ) (to : ℕ) where
+  pub sizes-more : (d next : ℕ) → i < v → sizeAt bytes place ≡ got d next
+      → placed (sizesOf (v - i) bytes place) (sets words (to + i)) ≡ placed (sizesOf (v - (i + 1)) bytes next) (sets (set words (to + i) d) (to + (i + 1)))
+  unfolding sizesOf
+  sizes-more d next h e = let q : v - i ≡ suc (v - (i + 1)) = omega arith in let k : to + (i + 1) ≡ suc (to + i) = omega arith in
+      rw (q, k) (first-read sizeAt (λ _. sizesOf (v - (i + 1))) bytes place (sets words (to + i)) d next e)
+
+  pub sizes-fault : (reason : meaning.Reason) (there : ℕ) → i < v → sizeAt bytes place ≡ fault reason there
+      → placed (sizesOf (v - i) bytes place) (sets words (to + i)) ≡ fault reason there
+  unfolding sizesOf
+  sizes-fault reason there h e = let q : v - i ≡ suc (v - (i + 1)) = omega arith in rw q (first-fault sizeAt (λ _. sizesOf (v - (i + 1))) bytes place (sets words (to + i)) reason there e)
+
+  pub sizes-none : v ≤ i → placed (sizesOf (v - i) bytes place) (sets words (to + i)) ≡ got words place
+  unfolding sizesOf
+  sizes-none h = let q : v - i ≡ 0 = omega arith in rw q
+
+-- ---- values
+
+-- Words that are the same before a place.
+unfoldable pub Before : ℕ → List ℕ → List ℕ → Type 0
+Before to old new = (k : ℕ) → k < to → getD new k 0 ≡ getD old k 0
+
+pub before-none : (to : ℕ) (words : List ℕ) → Before to words words
+unfolding Before
+before-none to words k l = refl
+
+pub before-set : (to i x : ℕ) (old new : List ℕ) → Before to old new → Before to old (set new (to + i) x)
+unfolding Before
+before-set to i x old new same k l = getD-set-other new (to + i) k x 0 (omega arith) ∙ same k l
+
+-- One value, below the size that stands in the words.
+abbrev pub valueAt : List ℕ → ℕ → Parser ℕ
+valueAt words i = item (inside 0 (getD words (sizesAt + i) 0)) Range
+
+-- The sizes stand in words, and values are written behind them.
+module _ (old bytes : List ℕ) (to : ℕ) (behind : startAt (getD old 0 0) ≤ to) (within : to + getD old 0 0 ≤ length old) where
+  sizes-length : length (sizesIn old) ≡ getD old 0 0
+  unfolding sizesIn
+  sizes-length = length-take-le (getD old 0 0) (drop sizesAt old) (omega (arith, length-drop sizesAt old))
+
+  module _ (new : List ℕ) (i place : ℕ) (more : i < getD old 0 0) (same : Before to old new) where
+    -- Of the values that are still to be read, the first.
+    first-value : valuesOf (drop i (sizesIn old)) ≡ listOf (valueAt new i) (λ _. valuesOf (drop (i + 1) (sizesIn old)))
+    unfolding Before sizesIn valuesOf
+    first-value = rw (drop-cons (sizesIn old) i 0 (omega (arith, sizes-length)), add-one, same (sizesAt + i) (omega arith)) (
+        rw (getD-take (getD old 0 0) (drop sizesAt old) i 0 more, getD-drop sizesAt old i 0) refl)
+
+    pub values-more : (x next : ℕ) → valueAt new i bytes place ≡ got x next
+        → placed (valuesOf (drop i (sizesIn old)) bytes place) (sets new (to + i)) ≡ placed (valuesOf (drop (i + 1) (sizesIn old)) bytes next) (sets (set new (to + i) x) (to + (i + 1)))
+    values-more x next e = let k : to + (i + 1) ≡ suc (to + i) = omega arith in rw (first-value, k) (first-read (valueAt new i) (λ _. valuesOf (drop (i + 1) (sizesIn old))) bytes place (sets new (to + i)) x next e)
+
+    pub values-fault : (reason : meaning.Reason) (there : ℕ) → valueAt new i bytes place ≡ fault reason there
+        → placed (valuesOf (drop i (sizesIn old)) bytes place) (sets new (to + i)) ≡ fault reason there
+    values-fault reason there e = rw first-value (first-fault (valueAt new i) (λ _. valuesOf (drop (i + 1) (sizesIn old))) bytes place (sets new (to + i)) reason there e)
+
+  pub values-none : (new : List ℕ) (i place : ℕ) → getD old 0 0 ≤ i → placed (valuesOf (drop i (sizesIn old)) bytes place) (sets new (to + i)) ≡ got new place
+  unfolding valuesOf
+  values-none new i place h = let past : length (sizesIn old) ≤ i = omega (arith, sizes-length) in rw (drop-of-length-le (sizesIn old) past)
+
+  pub values-written : (place : ℕ) (answer : Step) (left : List ℕ)
+      → ReadsInto (valuesOf (sizesIn old) bytes place) (sets old to) answer left → ReadsInto (valuesOf (sizesIn old) bytes place) (written old to) answer left
+  values-written place answer left =
+      reads-same (valuesOf (sizesIn old) bytes place) (sets old to) (written old to) answer left
+      (λ xs next e. sets-all old to _ xs refl (omega (arith, sizes-length, values-said bytes (sizesIn old) .gives place xs next e .known .0 .full)))
+
+-- ---- features
+
+-- The words with each feature of a list toggled in turn.
+unfoldable pub toggledAll : List ℕ → List ℕ → List ℕ
+toggledAll words [] = words
+toggledAll words (f ∷ fs) = toggledAll (toggled words f) fs
+
+module _ (k i low high least : ℕ) (bytes : List ℕ) (place : ℕ) (words : List ℕ) where
+  pub features-more : (f next : ℕ) → i < k → rising low high least bytes place ≡ got f next
+      → placed (featuresOf (k - i) low high least bytes place) (toggledAll words) ≡ placed (featuresOf (k - (i + 1)) low high (f + 1) bytes next) (toggledAll (toggled words f))
+  unfolding featuresOf toggledAll
+  features-more f next h e = let q : k - i ≡ suc (k - (i + 1)) = omega arith in
+      rw (q, add-one f) (first-read (rising low high least) (λ f. featuresOf (k - (i + 1)) low high (suc f)) bytes place (toggledAll words) f next e)
+
+  pub features-fault : (reason : meaning.Reason) (there : ℕ) → i < k → rising low high least bytes place ≡ fault reason there
+      → placed (featuresOf (k - i) low high least bytes place) (toggledAll words) ≡ fault reason there
+  unfolding featuresOf
+  features-fault reason there h e = let q : k - i ≡ suc (k - (i + 1)) = omega arith in
+      rw q (first-fault (rising low high least) (λ f. featuresOf (k - (i + 1)) low high (suc f)) bytes place (toggledAll words) reason there e)
+
+  pub features-none : k ≤ i → placed (featuresOf (k - i) low high least bytes place) (toggledAll words) ≡ got words place
+  unfolding featuresOf toggledAll
+  features-none h = let q : k - i ≡ 0 = omega arith in rw q
+
+-- A feature that was read is in its range.
+pub feature-below : (low high least : ℕ) (bytes : List ℕ) (place f next : ℕ) → rising low high least bytes place ≡ got f next → f < high
+feature-below low high least bytes place f next e = rising-said bytes low high least .gives place f next e .known .1

@@ -1,19 +1,18 @@
 -- A list of features in words: features that increase, each toggled once in words that hold none, leave the words of their set.
-use Prim.Native.Nat.{ℕ, suc, _+_, _*_, _<_, _≤_}
-use mathlib.Core.Path.{_≡_, refl, sym, ap, _∙_}
-use mathlib.Core.Bool.{true, false, _&&_, _||_}
+use Prim.Native.Nat.{ℕ, suc, _*_, _<_, _≤_}
+use mathlib.Core.Path.{_≡_, refl, sym, _∙_}
 use mathlib.Core.List.{List, [], _∷_}
 use native.Mathlib.Omega.{arith}
 use lib.ListN.{length, replicate, length-replicate}
 use lib.Dec.{eqb, ltb}
-use borrow.Author.Tests.{eqb-true, ltb-true, ltb-false}
+use borrow.Author.Tests.{eqb-true, ltb-false}
 use Rattle.meaning.specs.Sets.{_⊕_, listed, anyOf}
 use Rattle.meaning.specs.Limits.{wordBits}
 use Rattle.meaning.specs.Task.{Run}
-use Rattle.meaning.specs.Number.{Reason, Read, got, fault, number}
+use Rattle.meaning.specs.Number.{Reason, got, fault, number}
 use Rattle.meaning.specs.File.{featuresOf, featureList}
 use Rattle.meaning.specs.Workspace.{wordsFor, has}
-use Rattle.theory.specs.Truth.{on, off, test, xor-assoc, xor-false}
+use Rattle.theory.specs.Truth.{on, off, test, xor-false}
 use Rattle.theory.specs.Run.{run-rest, run-length, run-outside}
 use Rattle.theory.specs.Words.{Words, packed-is}
 use Rattle.theory.specs.Parts.{feature-list-said}

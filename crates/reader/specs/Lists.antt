@@ -1,13 +1,12 @@
 -- The lists of a file as the code reads them: what is still to be read, after each turn, goes into the words as they are then.
-use Prim.Native.Nat.{ℕ, zero, suc, _+_, _-_, _<_, _≤_}
-use mathlib.Core.Path.{_≡_, refl, sym, ap, _∙_}
+use Prim.Native.Nat.{ℕ, suc, _+_, _-_, _<_, _≤_}
+use mathlib.Core.Path.{_≡_, refl, _∙_}
 use mathlib.Core.List.{List, [], _∷_}
 use native.Mathlib.Omega.{arith}
 use native.Mathlib.Numerals.{add-one}
-use lib.ListN.{length, getD, set, take, drop, length-drop, drop-of-length-le}
+use lib.ListN.{length, getD, set, drop, length-drop, drop-of-length-le}
 use lib.Seq.{sets, drop-cons, getD-set-other, getD-take, getD-drop, length-take-le}
 use Rattle.meaning.specs.Limits.{leastSize, mostSize}
-use Rattle.meaning.specs.Task.{size}
 use Rattle.meaning.specs.Number as meaning
 use Rattle.meaning.specs.Number.{Limit, Range, got, fault}
 use Rattle.meaning.specs.File.{Parser, inside, item, rising, sizesOf, valuesOf, featuresOf}

@@ -1,20 +1,21 @@
 -- The pairs as the code reads them, into the words behind sizes, start and goal; and then the whole front.
-use Prim.Native.Nat.{ℕ, zero, suc, _+_, _-_, _≤_}
+use Prim.Native.Nat.{ℕ, zero, suc, _+_, _-_, _<_, _≤_}
 use mathlib.Core.Path.{_≡_, refl, sym, ap, _∙_}
-use mathlib.Core.List.{List, [], _∷_, _++_, append-assoc}
+use mathlib.Core.List.{List, _∷_, _++_, append-assoc}
 use native.Mathlib.Omega.{arith}
 use native.Mathlib.Nat.{sub-zero, add-sub-cancel-left}
 use lib.ListN.{length, getD, take, drop, replicate, length-append}
-use lib.Seq.{take-at, drop-at, drop-drop}
-use Rattle.meaning.specs.Limits.{mostVariables, mostFeatures}
-use Rattle.meaning.specs.Task.{State}
+use lib.Seq.{drop-at, drop-drop}
+use Rattle.meaning.specs.Limits.{mostVariables, mostFeatures, numberEnd}
+use Rattle.meaning.specs.Sets.{listed}
+use Rattle.meaning.specs.Task.{State, Run}
 use Rattle.meaning.specs.Feature.{atoms, features}
 use Rattle.meaning.specs.Number as meaning
-use Rattle.meaning.specs.Number.{Read, got, fault, number}
+use Rattle.meaning.specs.Number.{got, fault, number}
 use Rattle.meaning.specs.File.{give, then, featureList, InLimits}
 use Rattle.meaning.specs.Workspace.{sizesAt, pairsAt, slotsAt, wordsFor}
 use Rattle.theory.specs.Spent.{Gives, gives-then, gives-map}
-use Rattle.theory.specs.Parts.{header-said, values-said}
+use Rattle.theory.specs.Parts.{number-said, header-said, values-said, feature-list-said}
 use Rattle.theory.specs.Numbering.{atoms-room}
 use Rattle.theory.specs.Words.{length-packed}
 use Rattle.theory.specs.Contents.{sizesIn}
@@ -78,6 +79,33 @@ unfolding statesOf
 states-said bytes = gives-then _ _ (header-said bytes) (λ sizes l h. gives-then _ _ (values-said bytes sizes) (λ start m g.
     gives-map (statesWith sizes start) _ (values-said bytes sizes) (λ goal k r. (h .0, g .0, r .0))))
 
+state-length : (states : States) → State (states .sizes) (states .start) → State (states .sizes) (states .goal) → length (stateWords states) ≡ pairsAt (length (states .sizes))
+unfolding stateWords
+state-length states start goal =
+    omega (arith, length-append (states .sizes) (states .start ++ states .goal), length-append (states .start) (states .goal), start .full, goal .full)
+
+-- What is known of a front.
+pub record Known (front : Front) : Type 0 where
+  pub limits : InLimits (front .states .sizes)
+  pub start : State (front .states .sizes) (front .states .start)
+  pub goal : State (front .states .sizes) (front .states .goal)
+  pub pairs : Run (atoms (front .states .sizes)) (front .pairs) (features (front .states .sizes))
+  pub count : front .count < numberEnd
+  pub long : length (frontWords front) ≡ slotsAt (length (front .states .sizes)) (features (front .states .sizes))
+
+pub front-known : (bytes : List ℕ) → Gives bytes frontOf (λ front l. Known front)
+unfolding frontOf frontWords
+front-known bytes = gives-then _ _ (states-said bytes) (λ states l h. let (limits, start, goal) = h in
+    gives-then _ _ (feature-list-said bytes (atoms (states .sizes)) (features (states .sizes)) (atoms-room (states .sizes))) (λ pairs m g.
+    gives-map (λ count. record { states = states; pairs = pairs; count = count }) _ (number-said bytes) (λ count k r. record {
+      limits = limits;
+      start = start;
+      goal = goal;
+      pairs = g .0;
+      count = r .0;
+      long = omega (arith, length-append (stateWords states) (featureWords (features (states .sizes)) pairs), state-length states start goal, length-packed (features (states .sizes)) (listed pairs));
+    })))
+
 -- After the goal; `left` are the words then.
 pub record AfterGoal (bytes words left : List ℕ) (next : ℕ) : Type 0 where
   pub states : States
@@ -120,7 +148,7 @@ module _ (bytes words : List ℕ) where
             states = states;
             read = r;
             limits = said .0;
-            long = omega (arith, length-append (states .sizes) (states .start ++ states .goal), length-append (states .start) (states .goal), said .1 .full, said .2 .full);
+            long = state-length states (said .1) (said .2);
             are = w;
             count = first .0;
             same = first .1;
@@ -174,5 +202,5 @@ module _ (bytes words : List ℕ) where
                 let front : frontOf bytes 0 ≡ got (record { states = known .states; pairs = pairs; count = operators }) last = front-rest ∙ rw (r, f) in
                 rw front (
                   rw (same, known .count, n-is) refl,
-                  w ∙ rw (known .count, known .are, n-is) (begun-more words (stateWords (known .states)) (featureWords (features (known .states .sizes)) pairs) _ (known .long))
+                  w ∙ rw (known .count, known .are, n-is) (begun-more words (stateWords (known .states)) (featureWords (features (known .states .sizes)) pairs) _ (known .long)),
                 )

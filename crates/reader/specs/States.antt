@@ -1,15 +1,14 @@
 -- Sizes, start and goal as the code reads them: what is known after each of the three.
-use Prim.Native.Nat.{ℕ, _+_, _≤_}
-use mathlib.Core.Path.{_≡_, refl, sym, ap, ap₂, _∙_}
-use mathlib.Core.List.{List, [], _∷_, _++_, append-assoc, append-nil}
+use Prim.Native.Nat.{ℕ}
+use mathlib.Core.Path.{_≡_, refl, sym, ap, _∙_}
+use mathlib.Core.List.{List, _++_, append-assoc}
 use native.Mathlib.Omega.{arith}
-use lib.ListN.{length, getD, take, drop, length-append}
-use lib.Seq.{take-at, drop-at, drop-drop, drop-append-add}
-use Rattle.meaning.specs.Limits.{mostVariables}
+use lib.ListN.{length, getD, drop, length-append}
+use lib.Seq.{take-at, drop-at, drop-drop}
 use Rattle.meaning.specs.Number as meaning
 use Rattle.meaning.specs.Number.{got, fault}
 use Rattle.meaning.specs.File.{give, then, header, valuesOf, InLimits}
-use Rattle.meaning.specs.Workspace.{sizesAt, startAt, goalAt, pairsAt}
+use Rattle.meaning.specs.Workspace.{startAt, goalAt}
 use Rattle.theory.specs.Parts.{header-said, values-said}
 use Rattle.theory.specs.Contents.{sizesIn}
 use Rattle.number.specs.declared.Step.{Step}

@@ -1,4 +1,5 @@
-use Prim.Native.Nat.{_+_, _-_, _≤_}
+-- `features_at` meets its contract: after each turn the features that are still to be read are toggled in the words, and leave what all features would.
+use Prim.Native.Nat.{_-_, _≤_}
 use mathlib.Core.Path.{_≡_, sym, ap, _∙_}
 use native.Mathlib.Omega.{arith}
 use native.Mathlib.Nat.{sub-zero}
@@ -10,66 +11,62 @@ use Rattle.reader.specs.Answer.{placed, placed-next, placed-fault}
 use Rattle.reader.specs.Lists.{toggledAll, features-more, features-fault, features-none, feature-below}
 use Rattle.reader.proofs.features_at.Statement.{statement}
 use Rattle.reader.proofs.features_at.Tie as tie
-use Rattle.reader.proofs.features_at.Reads as reads
-use Rattle.reader.proofs.features_at.Lts as lts
-use Rattle.number.proofs.rising_at.Reads as rising-at-reads
-use Rattle.words.proofs.toggle.Reads as toggle-reads
 
 abbrev Inv-loop : tie.InvT-loop
-Inv-loop bytes at low high words₀ count next₀ least₀ i₀ words next least i = (i ≤ count) × (length words ≡ length words₀) × (placed (featuresOf count low high 0 bytes at) (toggledAll words₀) ≡ placed (featuresOf (count - i) low high least bytes next) (toggledAll words))
+Inv-loop bytes at low high words₀ count next₀ least₀ i₀ words next least i = (i ≤ count) × (length words ≡ length words₀) ×
+    (placed (featuresOf count low high 0 bytes at) (toggledAll words₀) ≡ placed (featuresOf (count - i) low high least bytes next) (toggledAll words))
 
 abbrev μ-loop : tie.MeasureT-loop
 μ-loop bytes at low high words₀ count next₀ least₀ i₀ words next least i = count - i
 
--- src/lib.rt:84:5
 loop-holds : tie.Need-loop-holds Inv-loop μ-loop
 loop-holds c = (omega arith, omega arith, simp sub-zero)
 
--- src/lib.rt:85:15
 rising-at-requires : tie.Need-rising-at-requires Inv-loop μ-loop
 rising-at-requires c κs = search needs
 
--- src/lib.rt:86:25
 enum-known-feature : tie.Need-enum-known-feature Inv-loop μ-loop
 enum-known-feature c = search needs
 
--- src/lib.rt:87:17
 toggle-requires : tie.Need-toggle-requires Inv-loop μ-loop
 toggle-requires c κs = omega (arith, feature-below _ _ _ _ _ _ _ (sym (c .before .before .before .before .rising-at .ensures) ∙ ap numberOf (c .before .before .feature .given .1)))
 
--- src/lib.rt:88:25
 add-least : tie.Need-add-least Inv-loop μ-loop
-add-least c = omega (arith, feature-below _ _ _ _ _ _ _ (sym (c .before .before .before .before .before .before .before .rising-at .ensures) ∙ ap numberOf (c .before .before .before .before .before .feature .given .1)))
+add-least c = omega (
+  arith,
+  feature-below _ _ _ _ _ _ _ (sym (c .before .before .before .before .before .before .before .rising-at .ensures) ∙ ap numberOf
+      (c .before .before .before .before .before .feature .given .1)),
+)
 
--- src/lib.rt:91:27
 enum-known-reason : tie.Need-enum-known-reason Inv-loop μ-loop
 enum-known-reason c = search needs
 
--- src/lib.rt:92:17
 same-length : tie.Need-same-length Inv-loop μ-loop
 same-length c = omega arith
 
--- src/lib.rt:92:17
 returns : tie.Need-returns Inv-loop μ-loop
-returns c = placed-fault _ _ _ _ _ (c .before .before .before .before .before .loop .inv .2 ∙ features-fault _ _ _ _ _ _ _ _ _ _ (c .before .before .before .before .loop-test .taken) (sym (c .before .before .before .rising-at .ensures) ∙ ap numberOf (c .before .reason .given .1)))
+returns c = placed-fault _ _ _ _ _ (c .before .before .before .before .before .loop .inv .2 ∙ features-fault _ _ _ _ _ _ _ _ _ _ (c .before .before .before .before .loop-test .taken)
+    (sym (c .before .before .before .rising-at .ensures) ∙ ap numberOf (c .before .reason .given .1)))
 
--- src/lib.rt:95:9
 add-i : tie.Need-add-i Inv-loop μ-loop
 add-i c = omega arith
 
--- src/lib.rt:84:5
 loop-less : tie.Need-loop-less Inv-loop μ-loop
 loop-less c = omega arith
 
--- src/lib.rt:84:5
 loop-again : tie.Need-loop-again Inv-loop μ-loop
-loop-again c = (omega arith, omega arith, rw (c .before .before .toggle .ensures) (c .before .before .before .before .before .before .before .before .before .loop .inv .2 ∙ features-more _ _ _ _ _ _ _ _ _ _ (c .before .before .before .before .before .before .before .before .loop-test .taken) (sym (c .before .before .before .before .before .before .before .rising-at .ensures) ∙ ap numberOf (c .before .before .before .before .before .feature .given .1))))
+loop-again c = (
+  omega arith,
+  omega arith,
+  rw (c .before .before .toggle .ensures)
+      (c .before .before .before .before .before .before .before .before .before .loop .inv .2 ∙ features-more _ _ _ _ _ _ _ _ _ _
+      (c .before .before .before .before .before .before .before .before .loop-test .taken)
+      (sym (c .before .before .before .before .before .before .before .rising-at .ensures) ∙ ap numberOf (c .before .before .before .before .before .feature .given .1))),
+)
 
--- src/lib.rt:77:1
 same-length-2 : tie.Need-same-length-2 Inv-loop μ-loop
 same-length-2 c = omega arith
 
--- src/lib.rt:77:1
 returns-2 : tie.Need-returns-2 Inv-loop μ-loop
 returns-2 c = placed-next _ _ _ _ (c .before .loop .inv .2 ∙ features-none _ _ _ _ _ _ _ _ (c .loop-test .left))
 

@@ -1,3 +1,4 @@
+-- `read_features` meets its contract: features that increase are toggled once each in words that hold none.
 use Prim.Native.Nat.{ℕ}
 use mathlib.Core.Path.{sym, ap, _∙_}
 use native.Mathlib.Omega.{arith}
@@ -9,36 +10,33 @@ use Rattle.reader.specs.Features.{list-fault, list-read}
 use borrow.Author.Needs.{needs}
 use Rattle.reader.proofs.read_features.Statement.{statement}
 use Rattle.reader.proofs.read_features.Tie as tie
-use Rattle.reader.proofs.read_features.Reads as reads
-use Rattle.reader.proofs.read_features.Lts as lts
-use Rattle.number.proofs.number_at.Reads as number-at-reads
-use Rattle.reader.proofs.features_at.Reads as features-at-reads
 
--- src/lib.rt:106:11
 number-at-requires : tie.Need-number-at-requires
 number-at-requires c κs = search needs
 
--- src/lib.rt:107:21
 enum-known-count : tie.Need-enum-known-count
 enum-known-count c = search needs
 
--- src/lib.rt:107:37
 features-at-requires : tie.Need-features-at-requires
-features-at-requires c κs = omega (arith, ap length (c .before .before .before .before .before .before .before .pre .1), length-replicate {A = ℕ} (wordsFor (c .before .before .before .before .before .before .before .args .high)) 0)
+features-at-requires c κs = omega (
+  arith,
+  ap length (c .before .before .before .before .before .before .before .pre .1),
+  length-replicate {A = ℕ}
+      (wordsFor (c .before .before .before .before .before .before .before .args .high)) 0,
+)
 
--- src/lib.rt:108:23
 enum-known-reason : tie.Need-enum-known-reason
 enum-known-reason c = search needs
 
--- src/lib.rt:102:1
 same-length : tie.Need-same-length
 same-length c = search needs
 
--- src/lib.rt:102:1
 returns : tie.Need-returns
-returns c = list-read _ _ _ _ _ _ _ _ _ (c .before .before .before .before .before .before .before .before .before .before .pre .0) (c .before .before .before .before .before .before .before .before .before .before .pre .1) (sym (c .before .before .before .before .before .before .before .number-at .ensures) ∙ ap numberOf (c .before .before .before .before .before .count .given .1)) (c .before .before .features-at .ensures)
+returns c = list-read _ _ _ _ _ _ _ _ _ (c .before .before .before .before .before .before .before .before .before .before .pre .0)
+    (c .before .before .before .before .before .before .before .before .before .before .pre .1)
+    (sym (c .before .before .before .before .before .before .before .number-at .ensures) ∙ ap numberOf (c .before .before .before .before .before .count .given .1))
+    (c .before .before .features-at .ensures)
 
--- src/lib.rt:102:1
 returns-2 : tie.Need-returns-2
 returns-2 c = answer-fault _ _ _ _ _ (list-fault _ _ _ _ _ _ (sym (c .before .before .before .number-at .ensures) ∙ ap numberOf (c .before .reason .given .1)))
 

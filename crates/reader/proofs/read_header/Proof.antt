@@ -1,3 +1,4 @@
+-- `read_header` meets its contract: what is known after the goal; each answer is one law on the pairs and the count.
 use Prim.Native.Nat.{_≤_}
 use mathlib.Core.Path.{refl, sym, ap, _∙_}
 use native.Mathlib.Omega.{arith}
@@ -9,110 +10,95 @@ use Rattle.reader.specs.Pairs.{AfterGoal, states-unread, after-states, s
 use borrow.Author.Needs.{needs}
 use Rattle.reader.proofs.read_header.Statement.{statement}
 use Rattle.reader.proofs.read_header.Tie as tie
-use Rattle.reader.proofs.read_header.Reads as reads
-use Rattle.reader.proofs.read_header.Lts as lts
-use Rattle.number.proofs.number_at.Reads as number-at-reads
-use Rattle.numbering.proofs.features.Reads as features-reads
-use Rattle.reader.proofs.read_pairs.Reads as read-pairs-reads
-use Rattle.reader.proofs.read_states.Reads as read-states-reads
 
-known : (c : tie.After-next) → AfterGoal (c .before .before .before .before .before .before .before .before .args .bytes .now) (c .before .before .before .before .before .before .before .before .args .header .now) (c .before .before .before .before .read-states .last .1 .0) (c .next .given .0 .0)
+-- What is known after the goal.
+known : (c : tie.After-next) → let a = c .before .before .before .before .before .before .before .before .args in AfterGoal (a .bytes .now) (a .header .now)
+    (c .before .before .before .before .read-states .last .1 .0) (c .next .given .0 .0)
 known c = after-states _ _ _ _ _ (c .before .before .before .before .read-states .ensures) (c .next .given .1)
 
 few : (c : tie.After-next) → getD (c .before .before .before .before .read-states .last .1 .0) 0 0 ≤ mostVariables
 few c = rw (known c .count) (known c .limits .variables .1)
 
--- src/lib.rt:209:11
 read-states-requires : tie.Need-read-states-requires
 read-states-requires c κs = search needs
 
--- src/lib.rt:210:20
 enum-known-next : tie.Need-enum-known-next
 enum-known-next c = search needs
 
--- src/lib.rt:211:21
 slice-read-v : tie.Need-slice-read-v
 slice-read-v c = search needs
 
--- src/lib.rt:212:59
 add-features : tie.Need-add-features
 add-features c = omega (arith, few (c .before .before))
 
--- src/lib.rt:212:41
 sub-features : tie.Need-sub-features
 sub-features c = search needs
 
--- src/lib.rt:212:41
 part-features-start : tie.Need-part-features-start
 part-features-start c = search needs
 
--- src/lib.rt:212:41
 part-features-end : tie.Need-part-features-end
 part-features-end c = omega (arith, few (c .before .before .before))
 
--- src/lib.rt:212:17
 features-requires : tie.Need-features-requires
 features-requires c κs = states-small _ _ _ _ (known (c .before .before .before .before))
 
--- src/lib.rt:213:19
 read-pairs-requires : tie.Need-read-pairs-requires
-read-pairs-requires c κs = cleared _ _ _ _ (known (c .before .before .before .before .before .before)) _ (c .before .features .ensures) (c .before .before .before .before .before .before .before .before .before .before .before .before .before .before .pre .1) (c .before .before .before .before .before .before .before .before .before .before .before .before .before .before .pre .0) (omega arith)
+read-pairs-requires c κs = cleared _ _ _ _ (known (c .before .before .before .before .before .before)) _ (c .before .features .ensures)
+    (c .before .before .before .before .before .before .before .before .before .before .before .before .before .before .pre .1)
+    (c .before .before .before .before .before .before .before .before .before .before .before .before .before .before .pre .0) (omega arith)
 
--- src/lib.rt:214:28
 enum-known-after : tie.Need-enum-known-after
 enum-known-after c = search needs
 
--- src/lib.rt:214:44
 number-at-requires : tie.Need-number-at-requires
 number-at-requires c κs = search needs
 
--- src/lib.rt:215:33
 enum-known-operators : tie.Need-enum-known-operators
 enum-known-operators c = search needs
 
--- src/lib.rt:221:35
 enum-known-reason : tie.Need-enum-known-reason
 enum-known-reason c = search needs
 
--- src/lib.rt:223:29
 enum-known-reason-2 : tie.Need-enum-known-reason-2
 enum-known-reason-2 c = search needs
 
--- src/lib.rt:226:21
 enum-known-reason-3 : tie.Need-enum-known-reason-3
 enum-known-reason-3 c = search needs
 
--- src/lib.rt:205:1
 same-length : tie.Need-same-length
 same-length c = search needs
 
--- src/lib.rt:205:1
 returns : tie.Need-returns
-returns c = header-got _ _ _ _ (known (c .before .before .before .before .before .before .before .before .before .before .before .before .before .before .before .before)) _ (c .before .before .before .before .before .before .before .before .before .before .before .features .ensures) _ _ _ (c .before .before .before .before .before .before .before .before .before .read-pairs .ensures) (c .before .before .before .before .before .after .given .1) _ _ _ refl (sym (c .before .before .before .number-at .ensures) ∙ ap numberOf (c .before .operators .given .1))
+returns c = header-got _ _ _ _ (known (c .before .before .before .before .before .before .before .before .before .before .before .before .before .before .before .before)) _
+    (c .before .before .before .before .before .before .before .before .before .before .before .features .ensures) _ _ _
+    (c .before .before .before .before .before .before .before .before .before .read-pairs .ensures) (c .before .before .before .before .before .after .given .1) _ _ _ refl
+    (sym (c .before .before .before .number-at .ensures) ∙ ap numberOf (c .before .operators .given .1))
 
--- src/lib.rt:205:1
 same-length-2 : tie.Need-same-length-2
 same-length-2 c = search needs
 
--- src/lib.rt:205:1
 returns-2 : tie.Need-returns-2
-returns-2 c = header-fault _ _ _ _ _ (count-unread _ _ _ _ (known (c .before .before .before .before .before .before .before .before .before .before .before .before .before .before .before .before)) _ (c .before .before .before .before .before .before .before .before .before .before .before .features .ensures) _ _ _ (c .before .before .before .before .before .before .before .before .before .read-pairs .ensures) (c .before .before .before .before .before .after .given .1) _ _ (sym (c .before .before .before .number-at .ensures) ∙ ap numberOf (c .before .reason .given .1)))
+returns-2 c = header-fault _ _ _ _ _ (count-unread _ _ _ _ (known
+    (c .before .before .before .before .before .before .before .before .before .before .before .before .before .before .before .before)) _
+    (c .before .before .before .before .before .before .before .before .before .before .before .features .ensures) _ _ _
+    (c .before .before .before .before .before .before .before .before .before .read-pairs .ensures) (c .before .before .before .before .before .after .given .1) _ _
+    (sym (c .before .before .before .number-at .ensures) ∙ ap numberOf (c .before .reason .given .1)))
 
--- src/lib.rt:205:1
 same-length-3 : tie.Need-same-length-3
 same-length-3 c = search needs
 
--- src/lib.rt:205:1
 returns-3 : tie.Need-returns-3
-returns-3 c = header-fault _ _ _ _ _ (pairs-unread _ _ _ _ (known (c .before .before .before .before .before .before .before .before .before .before .before .before)) _ (c .before .before .before .before .before .before .before .features .ensures) _ _ (reads-fault _ _ _ _ _ _ (c .before .before .before .before .before .read-pairs .ensures) (c .before .reason2 .given .1)))
+returns-3 c = header-fault _ _ _ _ _ (pairs-unread _ _ _ _ (known (c .before .before .before .before .before .before .before .before .before .before .before .before)) _
+    (c .before .before .before .before .before .before .before .features .ensures) _ _
+    (reads-fault _ _ _ _ _ _ (c .before .before .before .before .before .read-pairs .ensures) (c .before .reason2 .given .1)))
 
--- src/lib.rt:205:1
 same-length-4 : tie.Need-same-length-4
 same-length-4 c = search needs
 
--- src/lib.rt:205:1
 returns-4 : tie.Need-returns-4
-returns-4 c = header-fault _ _ _ _ _ (states-unread _ (c .before .before .before .before .before .before .before .before .before .args .header .now) _ _ (reads-fault _ _ _ _ _ _ (c .before .before .before .before .before .read-states .ensures) (c .before .reason3 .given .1)))
+returns-4 c = header-fault _ _ _ _ _ (states-unread _ (c .before .before .before .before .before .before .before .before .before .args .header .now) _ _
+    (reads-fault _ _ _ _ _ _ (c .before .before .before .before .before .read-states .ensures) (c .before .reason3 .given .1)))
 
 pub read-header-spec : {M : Type 1} → statement M
 read-header-spec =

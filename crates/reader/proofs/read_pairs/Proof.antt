@@ -1,87 +1,70 @@
+-- `read_pairs` meets its contract: the features are read into a part of the words, which is put back.
 use Rattle.reader.specs.Pairs.{part-small, pairs-room, pairs-none, pairs-put}
 use borrow.Author.Needs.{needs}
 use Rattle.reader.proofs.read_pairs.Statement.{statement}
 use Rattle.reader.proofs.read_pairs.Tie as tie
-use Rattle.reader.proofs.read_pairs.Reads as reads
-use Rattle.reader.proofs.read_pairs.Lts as lts
-use Rattle.numbering.proofs.atoms.Reads as atoms-reads
-use Rattle.reader.proofs.read_features.Reads as read-features-reads
 
--- src/lib.rt:181:13
 slice-read-v : tie.Need-slice-read-v
 slice-read-v c = search needs
 
--- src/lib.rt:182:50
 add-atoms : tie.Need-add-atoms
 add-atoms c = search needs
 
--- src/lib.rt:182:32
 sub-atoms : tie.Need-sub-atoms
 sub-atoms c = search needs
 
--- src/lib.rt:182:32
 part-atoms-start : tie.Need-part-atoms-start
 part-atoms-start c = search needs
 
--- src/lib.rt:182:32
 part-atoms-end : tie.Need-part-atoms-end
 part-atoms-end c = search needs
 
--- src/lib.rt:182:9
 atoms-requires : tie.Need-atoms-requires
 atoms-requires c κs = part-small _ _ (c .before .before .before .before .before .pre)
 
--- src/lib.rt:183:17
 add-start : tie.Need-add-start
 add-start c = search needs
 
--- src/lib.rt:183:17
 add-start-2 : tie.Need-add-start-2
 add-start-2 c = search needs
 
--- src/lib.rt:183:17
 add-start-3 : tie.Need-add-start-3
 add-start-3 c = search needs
 
--- src/lib.rt:184:29
 sub-end : tie.Need-sub-end
 sub-end c = search needs
 
--- src/lib.rt:184:24
 add-end : tie.Need-add-end
 add-end c = search needs
 
--- src/lib.rt:184:15
 add-end-2 : tie.Need-add-end-2
 add-end-2 c = search needs
 
--- src/lib.rt:185:38
 mul-read-features : tie.Need-mul-read-features
 mul-read-features c = search needs
 
--- src/lib.rt:185:38
 sub-read-features : tie.Need-sub-read-features
 sub-read-features c = search needs
 
--- src/lib.rt:185:38
 part-read-features-start : tie.Need-part-read-features-start
 part-read-features-start c = search needs
 
--- src/lib.rt:185:38
 part-read-features-end : tie.Need-part-read-features-end
 part-read-features-end c = search needs
 
--- src/lib.rt:185:5
 read-features-requires : tie.Need-read-features-requires
-read-features-requires c κs = (pairs-room _ _ (c .before .before .before .before .before .before .before .pre) _ (c .before .atoms .ensures), pairs-none _ _ (c .before .before .before .before .before .before .before .pre))
+read-features-requires c κs = (
+  pairs-room _ _ (c .before .before .before .before .before .before .before .pre) _ (c .before .atoms .ensures),
+  pairs-none _ _
+      (c .before .before .before .before .before .before .before .pre),
+)
 
--- src/lib.rt:177:1
 same-length : tie.Need-same-length
 same-length c = search needs
 
--- src/lib.rt:177:1
 returns : tie.Need-returns
-returns c = pairs-put _ _ (c .before .before .before .before .before .before .before .before .before .before .pre) _ (c .before .before .before .before .atoms .ensures) _ _ _ _ (c .before .before .read-features .ensures)
+returns c = pairs-put _ _ (c .before .before .before .before .before .before .before .before .before .before .pre) _ (c .before .before .before .before .atoms .ensures) _ _ _ _
+    (c .before .before .read-features .ensures)
 
 pub read-pairs-spec : {M : Type 1} → statement M
 read-pairs-spec =

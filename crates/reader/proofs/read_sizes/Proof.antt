@@ -1,8 +1,9 @@
+-- `read_sizes` meets its contract: each answer is one law on v, the sizes and N, which is counted over the sizes in the words.
 use mathlib.Core.Path.{_≡_, sym, ap, _∙_}
 use native.Mathlib.Omega.{arith}
 use Prim.Native.Nat.{_≤_}
 use lib.ListN.{length, set, length-set}
-use Rattle.meaning.specs.Limits.{leastVariables, mostVariables}
+use Rattle.meaning.specs.Limits.{mostVariables}
 use Rattle.meaning.specs.Number.{got}
 use Rattle.number.specs.Answers.{numberOf}
 use Rattle.reader.specs.Answer.{answer-next, answer-fault, reads-fault}
@@ -10,98 +11,81 @@ use Rattle.reader.specs.Header.{countAt, count-fault, count-known, sizes
 use borrow.Author.Needs.{needs}
 use Rattle.reader.proofs.read_sizes.Statement.{statement}
 use Rattle.reader.proofs.read_sizes.Tie as tie
-use Rattle.reader.proofs.read_sizes.Reads as reads
-use Rattle.reader.proofs.read_sizes.Lts as lts
-use Rattle.number.proofs.item_at.Reads as item-at-reads
-use Rattle.numbering.proofs.features.Reads as features-reads
-use Rattle.reader.proofs.sizes_at.Reads as sizes-at-reads
 
+-- The count that was read.
 counted : (c : tie.After-v) → countAt (c .before .before .before .before .before .args .bytes .now) 0 ≡ got (c .v .given .0 .0) (c .v .given .0 .1 .0)
 counted c = sym (c .before .before .item-at .ensures) ∙ ap numberOf (c .v .given .1)
 
-room : (c : tie.After-v) → (c .v .given .0 .0 ≤ mostVariables) × (length (set (c .before .before .before .before .before .args .header .now) 0 (c .v .given .0 .0)) ≡ length (c .before .before .before .before .before .args .header .now))
+room : (c : tie.After-v) → let header = c .before .before .before .before .before .args .header .now in
+    (c .v .given .0 .0 ≤ mostVariables) × (length (set header 0 (c .v .given .0 .0)) ≡ length header)
 room c = (count-known _ _ _ (counted c) .1, length-set (c .before .before .before .before .before .args .header .now) 0 (c .v .given .0 .0))
 
-sized : (c : tie.After-after) → Sized (c .before .before .before .before .before .before .before .before .before .before .before .before .args .bytes .now) (c .before .before .before .before .before .before .before .before .before .before .before .before .args .header .now) (c .before .before .before .before .sizes-at .last .1 .1 .0) (c .before .before .before .before .before .before .before .v .given .0 .0) (c .after .given .0 .0)
-sized c = sizes-read _ _ _ _ _ _ _ (c .before .before .before .before .before .before .before .before .before .before .before .before .pre) (counted (c .before .before .before .before .before .before .before)) (c .before .before .before .before .sizes-at .ensures) (c .after .given .1)
+-- What is known before N is judged.
+sized : (c : tie.After-after) → let a = c .before .before .before .before .before .before .before .before .before .before .before .before .args in
+    Sized (a .bytes .now) (a .header .now) (c .before .before .before .before .sizes-at .last .1 .1 .0) (c .before .before .before .before .before .before .before .v .given .0 .0)
+    (c .after .given .0 .0)
+sized c = sizes-read _ _ _ _ _ _ _ (c .before .before .before .before .before .before .before .before .before .before .before .before .pre)
+    (counted (c .before .before .before .before .before .before .before)) (c .before .before .before .before .sizes-at .ensures) (c .after .given .1)
 
--- src/lib.rt:60:54
 add-item-at : tie.Need-add-item-at
 add-item-at c = search needs
 
--- src/lib.rt:60:11
 item-at-requires : tie.Need-item-at-requires
 item-at-requires c κs = search needs
 
--- src/lib.rt:61:21
 enum-known-v : tie.Need-enum-known-v
 enum-known-v c = search needs
 
--- src/lib.rt:62:13
 slice-write-header : tie.Need-slice-write-header
 slice-write-header c = search needs
 
--- src/lib.rt:63:19
 sizes-at-requires : tie.Need-sizes-at-requires
 sizes-at-requires c κs = omega (arith, room (c .before .before))
 
--- src/lib.rt:64:28
 enum-known-after : tie.Need-enum-known-after
 enum-known-after c = search needs
 
--- src/lib.rt:65:78
 add-features : tie.Need-add-features
 add-features c = omega (arith, room (c .before .before .before .before .before .before .before .before))
 
--- src/lib.rt:65:60
 sub-features : tie.Need-sub-features
 sub-features c = search needs
 
--- src/lib.rt:65:60
 part-features-start : tie.Need-part-features-start
 part-features-start c = search needs
 
--- src/lib.rt:65:60
 part-features-end : tie.Need-part-features-end
 part-features-end c = omega (arith, room (c .before .before .before .before .before .before .before .before .before))
 
--- src/lib.rt:65:40
 features-requires : tie.Need-features-requires
 features-requires c κs = sized (c .before .before .before) .small
 
--- src/lib.rt:66:25
 same-length : tie.Need-same-length
 same-length c = omega (arith, room (c .before .before .before .before .before .before .before .before .before .before .before .before))
 
--- src/lib.rt:66:25
 returns : tie.Need-returns
 returns c = answer-fault _ _ _ _ _ (sized (c .before .before .before .before .before) .many (omega (arith, c .before .features .ensures)))
 
--- src/lib.rt:70:29
 enum-known-reason : tie.Need-enum-known-reason
 enum-known-reason c = search needs
 
--- src/lib.rt:73:23
 enum-known-reason-2 : tie.Need-enum-known-reason-2
 enum-known-reason-2 c = search needs
 
--- src/lib.rt:56:1
 same-length-2 : tie.Need-same-length-2
 same-length-2 c = omega (arith, room (c .before .before .before .before .before .before .before .before .before .before .before .before))
 
--- src/lib.rt:56:1
 returns-2 : tie.Need-returns-2
-returns-2 c = answer-next _ _ (sized (c .before .before .before .before .before) .sizes) _ _ (sized (c .before .before .before .before .before) .few (omega (arith, c .before .features .ensures))) (sized (c .before .before .before .before .before) .are)
+returns-2 c = answer-next _ _ (sized (c .before .before .before .before .before) .sizes) _ _
+    (sized (c .before .before .before .before .before) .few (omega (arith, c .before .features .ensures))) (sized (c .before .before .before .before .before) .are)
 
--- src/lib.rt:56:1
 same-length-3 : tie.Need-same-length-3
 same-length-3 c = omega (arith, room (c .before .before .before .before .before .before .before .before))
 
--- src/lib.rt:56:1
 returns-3 : tie.Need-returns-3
-returns-3 c = answer-fault _ _ _ _ _ (sizes-faulted _ _ _ _ _ (counted (c .before .before .before .before .before .before .before .before)) (reads-fault _ _ _ _ _ _ (c .before .before .before .before .before .sizes-at .ensures) (c .before .reason .given .1)))
+returns-3 c = answer-fault _ _ _ _ _ (sizes-faulted _ _ _ _ _ (counted (c .before .before .before .before .before .before .before .before))
+    (reads-fault _ _ _ _ _ _ (c .before .before .before .before .before .sizes-at .ensures) (c .before .reason .given .1)))
 
--- src/lib.rt:56:1
 returns-4 : tie.Need-returns-4
 returns-4 c = answer-fault _ _ _ _ _ (count-fault _ _ _ (sym (c .before .before .before .item-at .ensures) ∙ ap numberOf (c .before .reason2 .given .1)))
 

@@ -1,5 +1,5 @@
+-- `read_states` meets its contract: what is known after the sizes and after the start, and then the goal is read.
 use Prim.Native.Nat.{_≤_}
-use mathlib.Core.Path.{_≡_}
 use native.Mathlib.Omega.{arith}
 use lib.ListN.{getD}
 use Rattle.meaning.specs.Limits.{mostVariables}
@@ -8,87 +8,73 @@ use Rattle.reader.specs.States.{AfterSizes, AfterStart, sizes-unread, af
 use borrow.Author.Needs.{needs}
 use Rattle.reader.proofs.read_states.Statement.{statement}
 use Rattle.reader.proofs.read_states.Tie as tie
-use Rattle.reader.proofs.read_states.Reads as reads
-use Rattle.reader.proofs.read_states.Lts as lts
-use Rattle.reader.proofs.read_sizes.Reads as read-sizes-reads
-use Rattle.reader.proofs.read_values.Reads as read-values-reads
 
-sized : (c : tie.After-next) → AfterSizes (c .before .before .before .before .before .before .before .before .args .bytes .now) (c .before .before .before .before .before .before .before .before .args .header .now) (c .before .before .before .before .read-sizes .last .1 .0) (c .next .given .0 .0)
+-- What is known after the sizes.
+sized : (c : tie.After-next) → let a = c .before .before .before .before .before .before .before .before .args in AfterSizes (a .bytes .now) (a .header .now)
+    (c .before .before .before .before .read-sizes .last .1 .0) (c .next .given .0 .0)
 sized c = after-sizes _ _ _ _ _ (c .before .before .before .before .read-sizes .ensures) (c .next .given .1)
 
 few : (c : tie.After-next) → getD (c .before .before .before .before .read-sizes .last .1 .0) 0 0 ≤ mostVariables
 few c = rw (sized c .count) (sized c .limits .variables .1)
 
-started : (c : tie.After-after) → AfterStart (c .before .before .before .before .before .before .before .before .before .before .before .before .before .before .before .before .args .bytes .now) (c .before .before .before .before .before .before .before .before .before .before .before .before .before .before .before .before .args .header .now) (c .before .before .before .before .read-values .last .1 .1 .0) (getD (c .before .before .before .before .before .before .before .before .before .before .before .before .read-sizes .last .1 .0) 0 0) (c .after .given .0 .0)
+-- What is known after the start.
+started : (c : tie.After-after) → let a = c .before .before .before .before .before .before .before .before .before .before .before .before .before .before .before .before .args in
+    AfterStart (a .bytes .now) (a .header .now) (c .before .before .before .before .read-values .last .1 .1 .0)
+    (getD (c .before .before .before .before .before .before .before .before .before .before .before .before .read-sizes .last .1 .0) 0 0) (c .after .given .0 .0)
 started c = after-start _ _ _ _ (sized (c .before .before .before .before .before .before .before .before)) _ _ _ (c .before .before .before .before .read-values .ensures) (c .after .given .1)
 
--- src/lib.rt:122:11
 read-sizes-requires : tie.Need-read-sizes-requires
 read-sizes-requires c κs = search needs
 
--- src/lib.rt:123:20
 enum-known-next : tie.Need-enum-known-next
 enum-known-next c = search needs
 
--- src/lib.rt:124:21
 slice-read-v : tie.Need-slice-read-v
 slice-read-v c = search needs
 
--- src/lib.rt:125:58
 add-read-values : tie.Need-add-read-values
 add-read-values c = omega (arith, few (c .before .before .before))
 
--- src/lib.rt:125:19
 read-values-requires : tie.Need-read-values-requires
 read-values-requires c κs = omega (arith, few (c .before .before .before))
 
--- src/lib.rt:126:28
 enum-known-after : tie.Need-enum-known-after
 enum-known-after c = search needs
 
--- src/lib.rt:126:78
 add-read-values-2 : tie.Need-add-read-values-2
 add-read-values-2 c = omega (arith, few (c .before .before .before .before .before .before .before .before .before .before))
 
--- src/lib.rt:126:78
 add-read-values-3 : tie.Need-add-read-values-3
 add-read-values-3 c = omega (arith, few (c .before .before .before .before .before .before .before .before .before .before))
 
--- src/lib.rt:126:38
 read-values-requires-2 : tie.Need-read-values-requires-2
 read-values-requires-2 c κs = omega (arith, few (c .before .before .before .before .before .before .before .before .before .before), started (c .before .before) .count)
 
--- src/lib.rt:127:29
 enum-known-reason : tie.Need-enum-known-reason
 enum-known-reason c = search needs
 
--- src/lib.rt:130:21
 enum-known-reason-2 : tie.Need-enum-known-reason-2
 enum-known-reason-2 c = search needs
 
--- src/lib.rt:118:1
 same-length : tie.Need-same-length
 same-length c = search needs
 
--- src/lib.rt:118:1
 returns : tie.Need-returns
 returns c = after-goal _ _ _ _ _ _ _ (started (c .before .before .before .before .before)) (c .before .before .read-values2 .ensures)
 
--- src/lib.rt:118:1
 same-length-2 : tie.Need-same-length-2
 same-length-2 c = search needs
 
--- src/lib.rt:118:1
 returns-2 : tie.Need-returns-2
-returns-2 c = answer-fault _ _ _ _ _ (start-unread _ _ _ _ (sized (c .before .before .before .before .before .before .before .before .before)) _ _ (reads-fault _ _ _ _ _ _ (c .before .before .before .before .before .read-values .ensures) (c .before .reason .given .1)))
+returns-2 c = answer-fault _ _ _ _ _ (start-unread _ _ _ _ (sized (c .before .before .before .before .before .before .before .before .before)) _ _
+    (reads-fault _ _ _ _ _ _ (c .before .before .before .before .before .read-values .ensures) (c .before .reason .given .1)))
 
--- src/lib.rt:118:1
 same-length-3 : tie.Need-same-length-3
 same-length-3 c = search needs
 
--- src/lib.rt:118:1
 returns-3 : tie.Need-returns-3
-returns-3 c = answer-fault _ _ _ _ _ (sizes-unread _ (c .before .before .before .before .before .before .before .before .before .args .header .now) _ _ (reads-fault _ _ _ _ _ _ (c .before .before .before .before .before .read-sizes .ensures) (c .before .reason2 .given .1)))
+returns-3 c = answer-fault _ _ _ _ _ (sizes-unread _ (c .before .before .before .before .before .before .before .before .before .args .header .now) _ _
+    (reads-fault _ _ _ _ _ _ (c .before .before .before .before .before .read-sizes .ensures) (c .before .reason2 .given .1)))
 
 pub read-states-spec : {M : Type 1} → statement M
 read-states-spec =

@@ -1,3 +1,5 @@
+-- `read_values` meets its contract: after each turn the values that are still to be read go behind those in the words, and leave what all values would.
+-- The words before `to`, and so the sizes, stay as they were.
 use mathlib.Core.Path.{_≡_, sym, ap, _∙_}
 use Prim.Native.Nat.{_+_, _-_, _≤_}
 use native.Mathlib.Omega.{arith}
@@ -12,94 +14,81 @@ use Rattle.reader.specs.Answer.{placed, placed-next, placed-fault}
 use Rattle.reader.specs.Lists.{Before, before-none, before-set, values-more, values-fault, values-none, values-written}
 use Rattle.reader.proofs.read_values.Statement.{statement}
 use Rattle.reader.proofs.read_values.Tie as tie
-use Rattle.reader.proofs.read_values.Reads as reads
-use Rattle.reader.proofs.read_values.Lts as lts
-use Rattle.number.proofs.item_at.Reads as item-at-reads
 
 abbrev Inv-loop : tie.InvT-loop
-Inv-loop bytes at header₀ to v next₀ i₀ header next i = (i ≤ v) × (length header ≡ length header₀) × Before to header₀ header × (placed (valuesOf (sizesIn header₀) bytes at) (sets header₀ to) ≡ placed (valuesOf (drop i (sizesIn header₀)) bytes next) (sets header (to + i)))
+Inv-loop bytes at header₀ to v next₀ i₀ header next i = (i ≤ v) × (length header ≡ length header₀) × Before to header₀ header ×
+    (placed (valuesOf (sizesIn header₀) bytes at) (sets header₀ to) ≡ placed (valuesOf (drop i (sizesIn header₀)) bytes next) (sets header (to + i)))
 
 abbrev μ-loop : tie.MeasureT-loop
 μ-loop bytes at header₀ to v next₀ i₀ header next i = v - i
 
--- src/lib.rt:57:13
 slice-read-v : tie.Need-slice-read-v Inv-loop μ-loop
 slice-read-v c = omega arith
 
--- src/lib.rt:60:5
 loop-holds : tie.Need-loop-holds Inv-loop μ-loop
 loop-holds c = (omega arith, omega arith, before-none _ _, simp add-zero)
 
--- src/lib.rt:61:27
 add-size : tie.Need-add-size Inv-loop μ-loop
 add-size c = omega arith
 
--- src/lib.rt:61:20
 mul-size : tie.Need-mul-size Inv-loop μ-loop
 mul-size c = omega arith
 
--- src/lib.rt:61:20
 slice-read-size : tie.Need-slice-read-size Inv-loop μ-loop
 slice-read-size c = omega arith
 
--- src/lib.rt:62:15
 item-at-requires : tie.Need-item-at-requires Inv-loop μ-loop
 item-at-requires c κs = search needs
 
--- src/lib.rt:63:25
 enum-known-value : tie.Need-enum-known-value Inv-loop μ-loop
 enum-known-value c = search needs
 
--- src/lib.rt:64:24
 add-header : tie.Need-add-header Inv-loop μ-loop
 add-header c = omega arith
 
--- src/lib.rt:64:17
 mul-header : tie.Need-mul-header Inv-loop μ-loop
 mul-header c = omega arith
 
--- src/lib.rt:64:17
 slice-write-header : tie.Need-slice-write-header Inv-loop μ-loop
 slice-write-header c = omega arith
 
--- src/lib.rt:67:27
 enum-known-reason : tie.Need-enum-known-reason Inv-loop μ-loop
 enum-known-reason c = search needs
 
--- src/lib.rt:68:17
 same-length : tie.Need-same-length Inv-loop μ-loop
 same-length c = omega arith
 
--- src/lib.rt:68:17
 returns : tie.Need-returns Inv-loop μ-loop
-returns c = values-written _ _ _ (c .before .before .before .before .before .before .before .before .before .before .pre .0) (c .before .before .before .before .before .before .before .before .before .before .pre .1) _ _ _ (placed-fault _ _ _ _ _ (c .before .before .before .before .before .before .loop .inv .3
-    ∙ values-fault _ _ _ (c .before .before .before .before .before .before .before .before .before .before .pre .0) (c .before .before .before .before .before .before .before .before .before .before .pre .1) _ _ _ (c .before .before .before .before .before .loop-test .taken) (c .before .before .before .before .before .before .loop .inv .2) _ _ (sym (c .before .before .before .item-at .ensures) ∙ ap numberOf (c .before .reason .given .1))))
+returns c = values-written _ _ _ (c .before .before .before .before .before .before .before .before .before .before .pre .0)
+    (c .before .before .before .before .before .before .before .before .before .before .pre .1) _ _ _ (placed-fault _ _ _ _ _ (c .before .before .before .before .before .before .loop .inv .3
+    ∙ values-fault _ _ _ (c .before .before .before .before .before .before .before .before .before .before .pre .0)
+    (c .before .before .before .before .before .before .before .before .before .before .pre .1) _ _ _ (c .before .before .before .before .before .loop-test .taken)
+    (c .before .before .before .before .before .before .loop .inv .2) _ _ (sym (c .before .before .before .item-at .ensures) ∙ ap numberOf (c .before .reason .given .1))))
 
--- src/lib.rt:71:9
 add-i : tie.Need-add-i Inv-loop μ-loop
 add-i c = omega arith
 
--- src/lib.rt:60:5
 loop-less : tie.Need-loop-less Inv-loop μ-loop
 loop-less c = omega arith
 
--- src/lib.rt:60:5
 loop-again : tie.Need-loop-again Inv-loop μ-loop
 loop-again c = (
   omega arith,
   simp length-set (c .before .before .before .before .before .before .loop .inv .1),
   before-set _ _ _ _ _ (c .before .before .before .before .before .before .loop .inv .2),
   c .before .before .before .before .before .before .loop .inv .3
-      ∙ values-more _ _ _ (c .before .before .before .before .before .before .before .before .before .before .pre .0) (c .before .before .before .before .before .before .before .before .before .before .pre .1) _ _ _ (c .before .before .before .before .before .loop-test .taken) (c .before .before .before .before .before .before .loop .inv .2) _ _ (sym (c .before .before .before .item-at .ensures) ∙ ap numberOf (c .before .value .given .1)),
+      ∙ values-more _ _ _ (c .before .before .before .before .before .before .before .before .before .before .pre .0)
+      (c .before .before .before .before .before .before .before .before .before .before .pre .1) _ _ _ (c .before .before .before .before .before .loop-test .taken)
+      (c .before .before .before .before .before .before .loop .inv .2) _ _ (sym (c .before .before .before .item-at .ensures) ∙ ap numberOf (c .before .value .given .1)),
 )
 
--- src/lib.rt:53:1
 same-length-2 : tie.Need-same-length-2 Inv-loop μ-loop
 same-length-2 c = omega arith
 
--- src/lib.rt:53:1
 returns-2 : tie.Need-returns-2 Inv-loop μ-loop
-returns-2 c = values-written _ _ _ (c .before .before .before .before .before .pre .0) (c .before .before .before .before .before .pre .1) _ _ _ (placed-next _ _ _ _ (c .before .loop .inv .3 ∙ values-none _ _ _ (c .before .before .before .before .before .pre .0) (c .before .before .before .before .before .pre .1) _ _ _ (c .loop-test .left)))
+returns-2 c = values-written _ _ _ (c .before .before .before .before .before .pre .0) (c .before .before .before .before .before .pre .1) _ _ _
+    (placed-next _ _ _ _ (c .before .loop .inv .3 ∙ values-none _ _ _ (c .before .before .before .before .before .pre .0) (c .before .before .before .before .before .pre .1) _ _ _
+    (c .loop-test .left)))
 
 pub read-values-spec : {M : Type 1} → statement M
 read-values-spec =

@@ -1,44 +1,33 @@
+-- `read_weights` meets its contract: each answer is one law on the list of features and the place after it.
 use Rattle.reader.specs.Header.{weights-fault, weights-over, weights-read}
 use borrow.Author.Needs.{needs}
 use Rattle.reader.proofs.read_weights.Statement.{statement}
 use Rattle.reader.proofs.read_weights.Tie as tie
-use Rattle.reader.proofs.read_weights.Reads as reads
-use Rattle.reader.proofs.read_weights.Lts as lts
-use Rattle.reader.proofs.read_features.Reads as read-features-reads
 
--- src/lib.rt:148:11
 read-features-requires : tie.Need-read-features-requires
 read-features-requires c κs = search needs
 
--- src/lib.rt:149:20
 enum-known-next : tie.Need-enum-known-next
 enum-known-next c = search needs
 
--- src/lib.rt:151:17
 same-length : tie.Need-same-length
 same-length c = search needs
 
--- src/lib.rt:151:17
 returns : tie.Need-returns
 returns c = weights-over _ _ _ _ _ (c .before .before .before .before .before .before .read-features .ensures) _ (c .before .before .next .given .1) (c .if1 .taken)
 
--- src/lib.rt:155:21
 enum-known-reason : tie.Need-enum-known-reason
 enum-known-reason c = search needs
 
--- src/lib.rt:144:1
 same-length-2 : tie.Need-same-length-2
 same-length-2 c = search needs
 
--- src/lib.rt:144:1
 returns-2 : tie.Need-returns-2
 returns-2 c = weights-read _ _ _ _ _ (c .before .before .before .before .before .before .read-features .ensures) _ (c .before .before .next .given .1) (c .if1 .left)
 
--- src/lib.rt:144:1
 same-length-3 : tie.Need-same-length-3
 same-length-3 c = search needs
 
--- src/lib.rt:144:1
 returns-3 : tie.Need-returns-3
 returns-3 c = weights-fault _ _ _ _ _ (c .before .before .before .before .before .read-features .ensures) _ _ (c .before .reason .given .1)
 

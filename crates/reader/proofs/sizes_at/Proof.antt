@@ -1,3 +1,4 @@
+-- `sizes_at` meets its contract: after each turn the sizes that are still to be read go behind those in the words, and leave what all sizes would.
 use Prim.Native.Nat.{_+_, _-_, _≤_}
 use mathlib.Core.Path.{_≡_, sym, ap, _∙_}
 use native.Mathlib.Omega.{arith}
@@ -11,73 +12,62 @@ use Rattle.reader.specs.Answer.{placed, placed-next, placed-fault}
 use Rattle.reader.specs.Lists.{sizes-more, sizes-fault, sizes-none}
 use Rattle.reader.proofs.sizes_at.Statement.{statement}
 use Rattle.reader.proofs.sizes_at.Tie as tie
-use Rattle.reader.proofs.sizes_at.Reads as reads
-use Rattle.reader.proofs.sizes_at.Lts as lts
-use Rattle.number.proofs.item_at.Reads as item-at-reads
 
 abbrev Inv-loop : tie.InvT-loop
-Inv-loop bytes at header₀ v next₀ i₀ header next i = (i ≤ v) × (length header ≡ length header₀) × (placed (sizesOf v bytes at) (sets header₀ 1) ≡ placed (sizesOf (v - i) bytes next) (sets header (1 + i)))
+Inv-loop bytes at header₀ v next₀ i₀ header next i = (i ≤ v) × (length header ≡ length header₀) ×
+    (placed (sizesOf v bytes at) (sets header₀ 1) ≡ placed (sizesOf (v - i) bytes next) (sets header (1 + i)))
 
 abbrev μ-loop : tie.MeasureT-loop
 μ-loop bytes at header₀ v next₀ i₀ header next i = v - i
 
--- src/lib.rt:37:5
 loop-holds : tie.Need-loop-holds Inv-loop μ-loop
 loop-holds c = (omega arith, omega arith, simp (sub-zero, add-zero))
 
--- src/lib.rt:38:56
 add-item-at : tie.Need-add-item-at Inv-loop μ-loop
 add-item-at c = omega arith
 
--- src/lib.rt:38:15
 item-at-requires : tie.Need-item-at-requires Inv-loop μ-loop
 item-at-requires c κs = search needs
 
--- src/lib.rt:39:25
 enum-known-size : tie.Need-enum-known-size Inv-loop μ-loop
 enum-known-size c = search needs
 
--- src/lib.rt:40:24
 add-header : tie.Need-add-header Inv-loop μ-loop
 add-header c = omega arith
 
--- src/lib.rt:40:17
 mul-header : tie.Need-mul-header Inv-loop μ-loop
 mul-header c = omega arith
 
--- src/lib.rt:40:17
 slice-write-header : tie.Need-slice-write-header Inv-loop μ-loop
 slice-write-header c = omega arith
 
--- src/lib.rt:43:27
 enum-known-reason : tie.Need-enum-known-reason Inv-loop μ-loop
 enum-known-reason c = search needs
 
--- src/lib.rt:44:17
 same-length : tie.Need-same-length Inv-loop μ-loop
 same-length c = omega arith
 
--- src/lib.rt:44:17
 returns : tie.Need-returns Inv-loop μ-loop
-returns c = placed-fault _ _ _ _ _ (c .before .before .before .before .before .loop .inv .2 ∙ sizes-fault _ _ _ _ _ _ _ _ (c .before .before .before .before .loop-test .taken) (sym (c .before .before .before .item-at .ensures) ∙ ap numberOf (c .before .reason .given .1)))
+returns c = placed-fault _ _ _ _ _ (c .before .before .before .before .before .loop .inv .2 ∙ sizes-fault _ _ _ _ _ _ _ _ (c .before .before .before .before .loop-test .taken)
+    (sym (c .before .before .before .item-at .ensures) ∙ ap numberOf (c .before .reason .given .1)))
 
--- src/lib.rt:47:9
 add-i : tie.Need-add-i Inv-loop μ-loop
 add-i c = omega arith
 
--- src/lib.rt:37:5
 loop-less : tie.Need-loop-less Inv-loop μ-loop
 loop-less c = omega arith
 
--- src/lib.rt:37:5
 loop-again : tie.Need-loop-again Inv-loop μ-loop
-loop-again c = (omega arith, simp length-set (c .before .before .before .before .before .loop .inv .1), c .before .before .before .before .before .loop .inv .2 ∙ sizes-more _ _ _ _ _ _ _ _ (c .before .before .before .before .loop-test .taken) (sym (c .before .before .before .item-at .ensures) ∙ ap numberOf (c .before .size .given .1)))
+loop-again c = (
+  omega arith,
+  simp length-set (c .before .before .before .before .before .loop .inv .1),
+  c .before .before .before .before .before .loop .inv .2 ∙ sizes-more _ _ _ _ _ _ _ _
+      (c .before .before .before .before .loop-test .taken) (sym (c .before .before .before .item-at .ensures) ∙ ap numberOf (c .before .size .given .1)),
+)
 
--- src/lib.rt:31:1
 same-length-2 : tie.Need-same-length-2 Inv-loop μ-loop
 same-length-2 c = omega arith
 
--- src/lib.rt:31:1
 returns-2 : tie.Need-returns-2 Inv-loop μ-loop
 returns-2 c = placed-next _ _ _ _ (c .before .loop .inv .2 ∙ sizes-none _ _ _ _ _ _ (c .loop-test .left))
 

@@ -1,0 +1,7 @@
+pub mod Toggled
+pub mod Moves
+pub mod Given
+pub mod Change
+pub mod Base
+pub mod Apart
+pub mod Rows

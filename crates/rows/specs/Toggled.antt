@@ -1,0 +1,77 @@
+-- Words with the features of a list toggled one after another, and what they hold then.
+use Prim.Native.Nat.{ℕ, zero, suc, _+_, _*_, _<_, _≤_}
+use mathlib.Core.Path.{_≡_, refl, ap, sym, _∙_}
+use mathlib.Core.Bool.{_&&_}
+use mathlib.Core.List.{List, [], _∷_, _++_, List·Memᴰ·head as here, List·Memᴰ·tail as there}
+use native.Mathlib.Omega.{arith}
+use native.Mathlib.Numerals.{add-one}
+use lib.ListN.{length, replicate, length-replicate}
+use lib.Dec.{eqb, ltb}
+use borrow.Author.Tests.{ltb-false}
+use Rattle.meaning.specs.Sets.{_⊕_, flat}
+use Rattle.meaning.specs.Limits.{wordBits}
+use Rattle.meaning.specs.Workspace.{wordsFor, has, packed}
+use Rattle.theory.specs.Truth.{on, off, test, xor-left-comm, xor-false, xor-assoc}
+use Rattle.theory.specs.Toggles.{xorOf, toggles, Below, toggles-past}
+use Rattle.theory.specs.Words.{Words, packed-is}
+use Rattle.words.specs.Change.{toggled, length-toggled, words-toggled, has-toggled}
+use Rattle.words.specs.Part.{has-none, words-none}
+
+unfoldable pub toggledAll : List ℕ → List ℕ → List ℕ
+toggledAll row [] = row
+toggledAll row (f ∷ fs) = toggledAll (toggled row f) fs
+
+pub toggled-none : (row : List ℕ) → toggledAll row [] ≡ row
+unfolding toggledAll
+toggled-none row = refl
+
+pub toggled-one : (row : List ℕ) (f : ℕ) → toggledAll row (f ∷ []) ≡ toggled row f
+unfolding toggledAll
+toggled-one row f = refl
+
+pub toggled-two : (row : List ℕ) (f g : ℕ) → toggledAll row (f ∷ g ∷ []) ≡ toggled (toggled row f) g
+unfolding toggledAll
+toggled-two row f g = refl
+
+pub toggled-join : (row l m : List ℕ) → toggledAll row (l ++ m) ≡ toggledAll (toggledAll row l) m
+unfolding toggledAll
+toggled-join row [] m = refl
+toggled-join row (f ∷ l) m = toggled-join (toggled row f) l m
+
+-- A loop that toggles list after list: its start and its turn.
+pub toggled-start : (row : List ℕ) (g : ℕ → List ℕ) → row ≡ toggledAll row (flat 0 g)
+unfolding flat
+toggled-start row g = sym (toggled-none row)
+
+pub toggled-turn : (row now next : List ℕ) (k : ℕ) (g : ℕ → List ℕ) → now ≡ toggledAll row (flat k g) → next ≡ toggledAll now (g k) → next ≡ toggledAll row (flat (k + 1) g)
+unfolding flat
+toggled-turn row now next k g e h = h ∙ rw (e, add-one) (sym (toggled-join row (flat k g) (g k)))
+
+length-all : (row l : List ℕ) → length (toggledAll row l) ≡ length row
+unfolding toggledAll
+length-all row [] = refl
+length-all row (f ∷ l) = length-all (toggled row f) l ∙ length-toggled row f
+
+pub length-next : (row next l : List ℕ) → next ≡ toggledAll row l → length next ≡ length row
+length-next row next l e = ap length e ∙ length-all row l
+
+words-all : (row l : List ℕ) → Words row → Words (toggledAll row l)
+unfolding toggledAll
+words-all row [] w = w
+words-all row (f ∷ l) w = words-all (toggled row f) l (words-toggled row f w)
+
+has-all : (row l : List ℕ) (g : ℕ) → Below (wordBits * length row) l → has (toggledAll row l) g ≡ toggles l g ⊕ has row g
+unfolding toggledAll toggles xorOf
+has-all row [] g h = refl
+has-all row (f ∷ l) g h =
+    has-all (toggled row f) l g (λ m i. rw (length-toggled row f) (h m (there i))) ∙ rw (has-toggled row f g (h f (here refl))) (xor-left-comm (xorOf (eqb g) l) (eqb g f) (has row g) ∙ sym (xor-assoc (eqb g f) (xorOf (eqb g) l) (has row g)))
+
+-- Toggling a list below n in words with no member makes the words of the list's set.
+pub toggled-packed : (n : ℕ) (l : List ℕ) → Below n l → toggledAll (replicate (wordsFor n) 0) l ≡ packed n (toggles l)
+toggled-packed n l below = sym (packed-is n (toggles l) _ (length-all _ l ∙ length-replicate {A = ℕ} (wordsFor n) 0) (words-all _ l (words-none (wordsFor n))) held)
+  where
+    held : (f : ℕ) → has (toggledAll (replicate (wordsFor n) 0) l) f ≡ (ltb f n && toggles l f)
+    held f = has-all _ l f (λ m i. rw (length-replicate {A = ℕ} (wordsFor n) 0) (omega (arith, below m i))) ∙ rw (has-none (wordsFor n) f, xor-false (toggles l f)) (elim (test (ltb f n)) [
+      | on e ↦ rw e refl
+      | off e ↦ rw e (toggles-past n l f below (ltb-false f n e))
+    ])

@@ -1,0 +1,7 @@
+-- A slot area: the slots that its words hold, and what the code does to them.
+pub mod Change
+pub mod Reducing
+pub mod Area
+pub mod Inserting
+pub mod Find
+pub mod Shape

@@ -1,0 +1,235 @@
+// A slot area: n slots of as many words as are due for n features. Rows are reduced by the slots and inserted, weights are found, the shape is tested.
+ghost use mathlib.Core.Path.{_≡_};
+ghost use mathlib.Core.Bool.{_&&_, false};
+ghost use Prim.Native.Nat.{ℕ, _+_, _*_, _≤_, _<_};
+ghost use lib.Dec.{eqb, ltb};
+ghost use lib.ListN.{length};
+ghost use Rattle.meaning.specs.Limits.{wordBits, mostFeatures};
+ghost use Rattle.meaning.specs.Slot.{Reduced};
+ghost use Rattle.meaning.specs.Sets.{_⊕_};
+ghost use Rattle.meaning.specs.Workspace.{has, packed, wordsFor};
+ghost use Rattle.theory.specs.Contents.{slotWords};
+ghost use Rattle.theory.specs.Tells.{Tells};
+ghost use Rattle.theory.specs.Slots.{lead};
+ghost use Rattle.theory.specs.Reduce.{red};
+ghost use Rattle.theory.specs.Insert.{insert};
+ghost use Rattle.words.specs.Change.{summed};
+ghost use Rattle.slots.specs.Area.{slotAt, slotsIn};
+ghost use Rattle.slots.specs.Change.{Led, cleared, marked};
+ghost use Rattle.slots.specs.Inserting.{slotCleared, slotAfter};
+ghost use Rattle.slots.specs.Find.{found};
+ghost use Rattle.slots.specs.Shape.{Apart, Shaped, AllShaped};
+
+// As many words as the most features take.
+const MOST_WORDS: usize = 64;
+
+// Adds a slot to a row, where the slot is not empty. Its index p is its least member then, so the words before that of p stay.
+fn add_slot(row: &mut [u64], slot: &[u64], p: usize)
+    requires { ⌜ (length (now row) ≡ length (now slot)) × (p < wordBits * length (now slot)) × Led p (has (now slot)) ⌝ }
+    ensures { λ r. ⌜ now (row .exit) ≡ summed (now (row .entry)) (now (slot .entry)) ⌝ }
+{
+    if words::has(slot, p) {
+        let k = p / words::WORD_BITS;
+        words::add(&mut row[k..], &slot[k..]);
+    }
+}
+
+// Reduces a row with room for a copy of it: only its own members can be indices of slots that are added.
+fn reduce_members(area: &[u64], n: usize, row: &mut [u64], own: &mut [u64])
+    requires { ⌜ Reduced n (slotsIn n (now area)) × (length (now area) ≡ n * wordsFor n) × (length (now row) ≡ wordsFor n) × (length (now own) ≡ wordsFor n) × (n ≤ mostFeatures) ⌝ }
+    ensures { λ r. ⌜ ((f : ℕ) → has (now (row .exit)) f ≡ red (slotsIn n (now (area .entry))) n (has (now (row .entry))) f) ⌝ }
+{
+    words::copy(own, row);
+    let w = row.len();
+    let mut p = words::next_member(own, 0);
+    while p < n {
+        let base = p * w;
+        add_slot(row, &area[base..base + w], p);
+        p = words::next_member(own, p + 1);
+    }
+}
+
+// Adds to a row each slot whose index it has.
+pub fn reduce(area: &[u64], n: usize, row: &mut [u64])
+    requires { ⌜ Reduced n (slotsIn n (now area)) × (length (now area) ≡ n * wordsFor n) × (length (now row) ≡ wordsFor n) × (n ≤ mostFeatures)
+        × ((f : ℕ) → n ≤ f → has (now row) f ≡ false) ⌝ }
+    ensures { λ r. ⌜ now (row .exit) ≡ packed n (red (slotsIn n (now (area .entry))) n (has (now (row .entry)))) ⌝ }
+{
+    let w = row.len();
+    let mut own = [0u64; MOST_WORDS];
+    reduce_members(area, n, row, &mut own[..w]);
+}
+
+// Adds a row to a slot that has the row's least member p.
+fn clear_index(slot: &mut [u64], p: usize, row: &[u64])
+    requires { ⌜ (length (now slot) ≡ length (now row)) × (p < wordBits * length (now row)) × Led p (has (now row)) ⌝ }
+    ensures { λ r. ⌜ now (slot .exit) ≡ cleared p (now (row .entry)) (now (slot .entry)) ⌝ }
+{
+    if words::has(slot, p) {
+        let k = p / words::WORD_BITS;
+        words::add(&mut slot[k..], &row[k..]);
+    }
+}
+
+// Takes a row's least member p out of the slots below p; no other slot can have it.
+fn clear_below(area: &mut [u64], p: usize, row: &[u64])
+    requires { ⌜ (p * length (now row) ≤ length (now area)) × (p < wordBits * length (now row)) × Led p (has (now row)) ⌝ }
+    ensures { λ r. ⌜ ((i : ℕ) → slotAt (length (now (row .entry))) (now (area .exit)) i ≡ slotCleared p (now (row .entry)) (now (area .entry)) p i) ⌝ }
+{
+    let w = row.len();
+    let mut i = 0;
+    while i < p {
+        let base = i * w;
+        clear_index(&mut area[base..base + w], p, row);
+        i += 1;
+    }
+}
+
+// A reduced row becomes the slot of its least member p.
+fn put(area: &mut [u64], p: usize, row: &[u64])
+    requires { ⌜ (p * length (now row) + length (now row) ≤ length (now area)) × (p < wordBits * length (now row)) × Led p (has (now row)) ⌝ }
+    ensures { λ r. ⌜ ((i : ℕ) → slotAt (length (now (row .entry))) (now (area .exit)) i ≡ slotAfter p (now (row .entry)) (now (area .entry)) i) ⌝ }
+{
+    clear_below(area, p, row);
+    let w = row.len();
+    let base = p * w;
+    words::copy(&mut area[base..base + w], row);
+}
+
+// Inserts a row: what is left of it, if anything, becomes the slot of its least member. The row is spent.
+pub fn insert(area: &mut [u64], n: usize, row: &mut [u64])
+    requires { ⌜ Reduced n (slotsIn n (now area)) × (length (now area) ≡ n * wordsFor n) × (length (now row) ≡ wordsFor n) × (n ≤ mostFeatures)
+        × ((f : ℕ) → n ≤ f → has (now row) f ≡ false) ⌝ }
+    ensures { λ r. ⌜ now (area .exit) ≡ slotWords n (insert n (slotsIn n (now (area .entry))) (has (now (row .entry)))) ⌝ }
+{
+    reduce(area, n, row);
+    let p = words::next_member(row, 0);
+    if p < n {
+        put(area, p, row);
+    }
+}
+
+// Puts feature i in a set, or takes it out, where a slot has feature m.
+fn mark(set: &mut [u64], slot: &[u64], m: usize, i: usize)
+    requires { ⌜ (m < wordBits * length (now slot)) × (i < wordBits * length (now set)) ⌝ }
+    ensures { λ r. ⌜ now (set .exit) ≡ marked (has (now (slot .entry)) m) (now (set .entry)) i ⌝ }
+{
+    if words::has(slot, m) {
+        words::toggle(set, i);
+    }
+}
+
+// The index m and each slot that has it; only the slots up to m can.
+fn witness(area: &[u64], m: usize, set: &mut [u64])
+    requires { ⌜ (m * length (now set) + length (now set) ≤ length (now area)) × (m < wordBits * length (now set)) × (m < mostFeatures) ⌝ }
+    ensures { λ r. ⌜ ((f : ℕ) → has (now (set .exit)) f ≡ (ltb f (m + 1) && has (slotAt (length (now (set .entry))) (now (area .entry)) f) m) ⊕ eqb f m) ⌝ }
+{
+    let w = set.len();
+    words::clear(set);
+    words::toggle(set, m);
+    let mut i = 0;
+    while i <= m {
+        let base = i * w;
+        mark(set, &area[base..base + w], m, i);
+        i += 1;
+    }
+}
+
+// The least weights that meet every slot evenly and oddly a set, of which `left` is left: none where nothing is left.
+pub fn find(area: &[u64], n: usize, left: &[u64], room: &mut [u64]) -> bool
+    requires { ⌜ Reduced n (slotsIn n (now area)) × (length (now area) ≡ n * wordsFor n) × (length (now left) ≡ wordsFor n) × (n ≤ mostFeatures) × (wordsFor n ≤ length (now room)) ⌝ }
+    ensures { λ r. ⌜ (r ≡ ltb (lead n (has (now (left .entry)))) n)
+        × (now (room .exit) ≡ found n (slotsIn n (now (area .entry))) (has (now (left .entry))) (now (room .entry))) ⌝ }
+{
+    let m = words::next_member(left, 0);
+    if n <= m {
+        return false;
+    }
+    let w = left.len();
+    witness(area, m, &mut room[..w]);
+    true
+}
+
+// The indices of the slots that are not empty, as far as a slot's own bit says so.
+fn indices(area: &[u64], n: usize, full: &mut [u64])
+    requires { ⌜ (length (now area) ≡ n * length (now full)) × (n ≤ wordBits * length (now full)) ⌝ }
+    ensures { λ r. ⌜ ((f : ℕ) → has (now (full .exit)) f ≡ (ltb f n && has (slotAt (length (now (full .entry))) (now (area .entry)) f) f)) ⌝ }
+{
+    let w = full.len();
+    words::clear(full);
+    let mut i = 0;
+    while i < n {
+        let base = i * w;
+        mark(full, &area[base..base + w], i, i);
+        i += 1;
+    }
+}
+
+// Whether two sets share no feature above i.
+fn apart(a: &[u64], b: &[u64], i: usize) -> bool
+    requires { ⌜ (length (now a) ≡ length (now b)) × (i < wordBits * length (now a)) ⌝ }
+    ensures { λ r. ⌜ Tells r (Apart (has (now (a .entry))) (has (now (b .entry))) i) ⌝ }
+{
+    let k = i / words::WORD_BITS;
+    let mut common = ((a[k] & b[k]) >> (i % words::WORD_BITS)) >> 1;
+    let mut j = k + 1;
+    while j < a.len() {
+        common = common | (a[j] & b[j]);
+        j += 1;
+    }
+    common == 0
+}
+
+// Whether slot i is empty, or has i as least member, no other slot's index and no bit at n or beyond.
+fn is_shaped(slot: &[u64], n: usize, i: usize, full: &[u64]) -> bool
+    requires { ⌜ (length (now slot) ≡ wordsFor n) × (length (now full) ≡ wordsFor n) × (n ≤ mostFeatures) × (i < n) ⌝ }
+    ensures { λ r. ⌜ Tells r (Shaped n i (has (now (full .entry))) (has (now (slot .entry)))) ⌝ }
+{
+    let bits = slot.len() * words::WORD_BITS;
+    let least = words::next_member(slot, 0);
+    if least == bits {
+        return true;
+    }
+    if least != i {
+        return false;
+    }
+    if words::next_member(slot, n) != bits {
+        return false;
+    }
+    apart(slot, full, i)
+}
+
+// Each slot beside the indices of all.
+fn all_shaped(area: &[u64], n: usize, full: &[u64]) -> bool
+    requires { ⌜ (length (now area) ≡ n * wordsFor n) × (length (now full) ≡ wordsFor n) × (n ≤ mostFeatures) ⌝ }
+    ensures { λ r. ⌜ Tells r (AllShaped n (now (area .entry)) (now (full .entry)) n) ⌝ }
+{
+    let w = full.len();
+    let mut i = 0;
+    while i < n {
+        let base = i * w;
+        if !is_shaped(&area[base..base + w], n, i, full) {
+            return false;
+        }
+        i += 1;
+    }
+    true
+}
+
+fn is_reduced_by(area: &[u64], n: usize, full: &mut [u64]) -> bool
+    requires { ⌜ (length (now area) ≡ n * wordsFor n) × (length (now full) ≡ wordsFor n) × (n ≤ mostFeatures) ⌝ }
+    ensures { λ r. ⌜ Tells r (Reduced n (slotsIn n (now (area .entry)))) ⌝ }
+{
+    indices(area, n, full);
+    all_shaped(area, n, full)
+}
+
+// Whether an area has the reduced shape, which includes that no slot has a bit at n or beyond.
+pub fn is_reduced(area: &[u64], n: usize) -> bool
+    requires { ⌜ (length (now area) ≡ n * wordsFor n) × (n ≤ mostFeatures) ⌝ }
+    ensures { λ r. ⌜ Tells r (Reduced n (slotsIn n (now (area .entry)))) ⌝ }
+{
+    let w = (n + (words::WORD_BITS - 1)) / words::WORD_BITS;
+    let mut full = [0u64; MOST_WORDS];
+    is_reduced_by(area, n, &mut full[..w])
+}

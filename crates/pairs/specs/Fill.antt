@@ -58,7 +58,8 @@ module _ (sizes : List ℕ) (pairs : Set) (variables values : List ℕ) (u : ℕ
 
   module _ (entry words : List ℕ) (n : ℕ) (a : Added entry (freeAtoms sizes pairs variables values u n) words) where
     -- A value that is paired with an atom of the operator adds nothing.
-    pub free-skip : (next : List ℕ) → pairedWithin sizes pairs variables values (length variables) u n ≡ true → next ≡ words → Added entry (freeAtoms sizes pairs variables values u (n + 1)) next
+    pub free-skip : (next : List ℕ) → pairedWithin sizes pairs variables values (length variables) u n ≡ true → next ≡ words
+        → Added entry (freeAtoms sizes pairs variables values u (n + 1)) next
     free-skip next q e = rw e (
       a .0,
       λ f. a .1 f ∙ ap (_||_ (has entry f)) (sym (free-next n f

@@ -28,7 +28,7 @@ use Rattle.pairs.specs.Ready.{Ready, Apart, HoldsPossible, entryIn, read
 unfoldable pub pairedWithin : List ℕ → Set → List ℕ → List ℕ → ℕ → ℕ → ℕ → Bool
 pairedWithin sizes pairs variables values n u y = some n (λ k. paired sizes pairs (getD variables k 0) (getD values k 0) u y)
 
--- Two atoms are paired.
+-- Two of the atoms are paired.
 unfoldable pub clashingIn : List ℕ → Set → List ℕ → List ℕ → Bool
 clashingIn sizes pairs variables values = some (length variables) (λ l. pairedWithin sizes pairs variables values l (getD variables l 0) (getD values l 0))
 
@@ -88,14 +88,16 @@ module _ (sizes : List ℕ) (pairs : Set) (o : Operator) where
     unfolding clashingAfter uncovered
     against-nothing n = (
       two-not _ o (λ e e' t. right-off (ltb (e .variable) (e' .variable)) _
-          (any-none _ o (sym (unclosed-entry e' (earlier-right t)) ∙ n (e' .variable) (in-fine sizes 0 o e' (earlier-right t) h .1)) e (earlier-left t)) (lt-ltb _ _ (entries-rise sizes 0 o e e' h t))),
+          (any-none _ o (sym (unclosed-entry e' (earlier-right t)) ∙ n (e' .variable) (in-fine sizes 0 o e' (earlier-right t) h .1)) e (earlier-left t))
+          (lt-ltb _ _ (entries-rise sizes 0 o e e' h t))),
       any-not _ o (λ e k. some-not (length sizes) _ (λ u l. elim (test (names o u)) [
         | on q ↦ and-none-left (not (names o u)) _ (ap not q)
         | off q ↦ and-none-right (not (names o u)) _ (some-not (size sizes u) _ (λ y j. free u l q e k y j))
       ])),
     )
       where
-        free : (u : ℕ) → u < length sizes → names o u ≡ false → (e : Entry) → In e o → (y : ℕ) → y < size sizes u → (paired sizes pairs (e .variable) (e .after) u y && possible sizes pairs o u y) ≡ false
+        free : (u : ℕ) → u < length sizes → names o u ≡ false → (e : Entry) → In e o → (y : ℕ) → y < size sizes u
+            → (paired sizes pairs (e .variable) (e .after) u y && possible sizes pairs o u y) ≡ false
         free u l q e k y j = elim (test (possible sizes pairs o u y)) [
           | on t ↦ and-none-left _ _ (any-none _ o (right-off (possible sizes pairs o u y) _ (some-none (size sizes u) _ (sym (unclosed-free u q) ∙ n u l) y j) t) e k)
           | off t ↦ and-none-right (paired sizes pairs (e .variable) (e .after) u y) _ t
@@ -105,7 +107,8 @@ module _ (sizes : List ℕ) (pairs : Set) (o : Operator) where
     pub closed-by-variables : closed sizes pairs o ≡ (idle sizes pairs o || every (length sizes) (λ u. not (unclosedAt sizes pairs o u)))
     unfolding closed
     closed-by-variables = ap (_||_ (idle sizes pairs o)) (true-together _ _
-        (λ e. every-each (length sizes) _ (λ u l. ap not (nothing-against (not-true _ (and-left (not (clashingAfter sizes pairs o)) _ e)) (not-true _ (and-right (not (clashingAfter sizes pairs o)) _ e)) u l)))
+        (λ e. every-each (length sizes) _ (λ u l. ap not (nothing-against (not-true _ (and-left (not (clashingAfter sizes pairs o)) _ e))
+        (not-true _ (and-right (not (clashingAfter sizes pairs o)) _ e)) u l)))
         (λ e. let (a, b) = against-nothing (λ u l. not-true _ (every-at (length sizes) _ e u l)) in and-both _ _ (ap not a) (ap not b)))
 
     closed-busy : idle sizes pairs o ≡ false → closed sizes pairs o ≡ every (length sizes) (λ u. not (unclosedAt sizes pairs o u))
@@ -133,7 +136,8 @@ module _ (sizes : List ℕ) (pairs : Set) (variables befores afters : List ℕ) 
   unfolding clashing clashingIn pairedWithin operatorIn
   clashing-places = two-table _ (length variables) (entryIn variables befores afters)
 
-  after-places : (u y : ℕ) → anyOf (λ e. paired sizes pairs (e .variable) (e .after) u y) (entriesIn variables befores afters) ≡ pairedWithin sizes pairs variables afters (length variables) u y
+  after-places : (u y : ℕ) → anyOf (λ e. paired sizes pairs (e .variable) (e .after) u y) (entriesIn variables befores afters)
+      ≡ pairedWithin sizes pairs variables afters (length variables) u y
   unfolding pairedWithin operatorIn
   after-places u y = any-table _ (length variables) (entryIn variables befores afters)
 
@@ -156,7 +160,8 @@ module _ (sizes pairs variables befores afters : List ℕ) where
   pub unclosed-named : (u k : ℕ) → Ready sizes pairs variables befores afters → k < length variables → getD variables k 0 ≡ u
       → unclosedAt sizes (has pairs) (entriesIn variables befores afters) u ≡ pairedWithin sizes (has pairs) variables afters k u (getD afters k 0)
   unfolding pairedWithin operatorIn
-  unclosed-named u k ready l z = rw (← z) (unclosed-entry sizes (has pairs) _ (ready .entries) (entryIn variables befores afters k) (table-in (length variables) (entryIn variables befores afters) k l)
+  unclosed-named u k ready l z = rw (← z) (unclosed-entry sizes (has pairs) _ (ready .entries) (entryIn variables befores afters k)
+      (table-in (length variables) (entryIn variables befores afters) k l)
       ∙ any-table _ (length variables) (entryIn variables befores afters) ∙ true-together _ _
       (λ e. let (i, j, q) = some-get (length variables) _ e in
       some-at k _ i (before i j (ltb-true (getD variables i 0) (getD variables k 0) (and-left (ltb (getD variables i 0) (getD variables k 0)) _ q)))

@@ -120,7 +120,7 @@ pub fn fill_possible(
     }
 }
 
-// Whether two atoms are paired.
+// Whether two of the atoms are paired.
 fn is_clashing(sizes: &[u64], pairs: &[u64], variables: &[usize], values: &[usize]) -> bool
     requires { ⌜ Listed (now sizes) (now pairs) × Atoms (now sizes) (now variables) (now values) ⌝ }
     ensures { λ r. ⌜ r ≡ clashingIn (now (sizes .entry)) (has (now (pairs .entry))) (now (variables .entry)) (now (values .entry)) ⌝ }

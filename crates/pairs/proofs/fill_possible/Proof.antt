@@ -22,7 +22,8 @@ clear-requires : tie.Need-clear-requires Inv-loop μ-loop
 clear-requires c κs = omega arith
 
 loop-holds : tie.Need-loop-holds Inv-loop μ-loop
-loop-holds c = (omega arith, filled-start _ _ _ (length (c .before .before .before .before .before .before .before .before .before .before .args .possible .now)) _ (c .before .before .clear .ensures))
+loop-holds c =
+    (omega arith, filled-start _ _ _ (length (c .before .before .before .before .before .before .before .before .before .before .args .possible .now)) _ (c .before .before .clear .ensures))
 
 names-requires : tie.Need-names-requires Inv-loop μ-loop
 names-requires c κs = omega arith

@@ -34,7 +34,8 @@ loop-holds : tie.Need-loop-holds Inv-loop μ-loop
 loop-holds c = (omega arith, free-start _ _ _ _ _ _)
 
 is-paired-within-requires : tie.Need-is-paired-within-requires Inv-loop μ-loop
-is-paired-within-requires c κs = let (h, a, d, l, r, k) = c .before .before .before .before .before .before .before .before .before .pre in (h, a, omega arith, d, l, omega (arith, c .before .before .size .ensures))
+is-paired-within-requires c κs = let (h, a, d, l, r, k) = c .before .before .before .before .before .before .before .before .before .pre in
+    (h, a, omega arith, d, l, omega (arith, c .before .before .size .ensures))
 
 add-toggle : tie.Need-add-toggle Inv-loop μ-loop
 add-toggle c = omega (arith, atom (c .before .before .before) .small)
@@ -49,10 +50,11 @@ loop-less : tie.Need-loop-less Inv-loop μ-loop
 loop-less c = omega arith
 
 loop-again : tie.Need-loop-again Inv-loop μ-loop
-loop-again c = (
+loop-again c = let (h, a, d, l, r, k) = c .before .before .before .before .before .before .before .before .before .before .before .pre in (
   omega arith,
   ⊎-elim
-      (λ x. free-put _ _ _ _ _ _ _ _ (c .before .before .before .loop .inv .1) _ _ (c .before .before .before .before .before .before .before .before .before .before .before .pre .4) (c .before .before .before .before .before .before .before .before .before .before .before .pre .5) (omega (arith, c .before .before .before .before .size .ensures)) (sym (c .before .is-paired-within .ensures) ∙ not-true _ (x .0 .taken)) (atom (c .before .before) .number) (x .5 ∙ x .2 .ensures))
+      (λ x. free-put _ _ _ _ _ _ _ _ (c .before .before .before .loop .inv .1) _ _ r k (omega (arith, c .before .before .before .before .size .ensures))
+      (sym (c .before .is-paired-within .ensures) ∙ not-true _ (x .0 .taken)) (atom (c .before .before) .number) (x .5 ∙ x .2 .ensures))
       (λ x. free-skip _ _ _ _ _ _ _ _ (c .before .before .before .loop .inv .1) _ (sym (c .before .is-paired-within .ensures) ∙ not-false _ (x .0 .left)) (x .1))
       (c .if1 .came),
 )
@@ -61,7 +63,8 @@ same-length : tie.Need-same-length Inv-loop μ-loop
 same-length c = c .before .loop .inv .1 .0
 
 returns : tie.Need-returns Inv-loop μ-loop
-returns c = let e : size (c .before .before .before .before .before .before .before .before .before .args .sizes .now) (c .before .before .before .before .before .before .before .before .before .args .u) ≡ c .before .loop .y = omega (arith, c .before .before .size .ensures) in rw e (c .before .loop .inv .1)
+returns c = let a = c .before .before .before .before .before .before .before .before .before .args in
+    let e : size (a .sizes .now) (a .u) ≡ c .before .loop .y = omega (arith, c .before .before .size .ensures) in rw e (c .before .loop .inv .1)
 
 pub fill-variable-spec : {M : Type 1} → statement M
 fill-variable-spec =

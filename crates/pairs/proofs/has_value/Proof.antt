@@ -43,7 +43,9 @@ has-requires c κs = atom c .room
 
 returns : tie.Need-returns Inv-loop μ-loop
 unfolding valued
-returns c = sym (some-at _ _ _ (omega (arith, c .before .before .before .before .size .ensures)) (ap (has _) (sym (atom (c .before .before) .number)) ∙ sym (c .before .has .ensures) ∙ c .if1 .taken))
+returns c =
+    sym (some-at _ _ _ (omega (arith, c .before .before .before .before .size .ensures))
+    (ap (has _) (sym (atom (c .before .before) .number)) ∙ sym (c .before .has .ensures) ∙ c .if1 .taken))
 
 add-y : tie.Need-add-y Inv-loop μ-loop
 add-y c = omega arith

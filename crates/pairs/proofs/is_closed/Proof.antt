@@ -31,7 +31,10 @@ is-unclosed-at-requires : tie.Need-is-unclosed-at-requires Inv-loop μ-loop
 is-unclosed-at-requires c κs = let (h, t) = c .before .before .before .before .before .before .before .before .before .before .pre in (h, t, c .loop-test .taken)
 
 returns-2 : tie.Need-returns-2 Inv-loop μ-loop
-returns-2 c = sym (closed-found _ _ _ (c .before .before .before .before .before .before .before .before .before .before .before .before .pre .0 .entries) _ (sym (c .before .before .before .before .before .is-idle .ensures) ∙ c .before .before .before .before .if1 .left) (c .before .before .loop-test .taken) (sym (c .before .is-unclosed-at .ensures) ∙ c .if2 .taken))
+returns-2 c =
+    sym (closed-found _ _ _ (c .before .before .before .before .before .before .before .before .before .before .before .before .pre .0 .entries) _
+    (sym (c .before .before .before .before .before .is-idle .ensures) ∙ c .before .before .before .before .if1 .left)
+    (c .before .before .loop-test .taken) (sym (c .before .is-unclosed-at .ensures) ∙ c .if2 .taken))
 
 add-u : tie.Need-add-u Inv-loop μ-loop
 add-u c = omega arith
@@ -43,7 +46,10 @@ loop-again : tie.Need-loop-again Inv-loop μ-loop
 loop-again c = (omega arith, some-next _ _ (c .before .before .before .loop .inv .1) (sym (c .before .is-unclosed-at .ensures) ∙ c .if2 .left))
 
 returns-3 : tie.Need-returns-3 Inv-loop μ-loop
-returns-3 c = sym (closed-none _ _ _ (c .before .before .before .before .before .before .before .before .before .before .pre .0 .entries) (sym (c .before .before .before .is-idle .ensures) ∙ c .before .before .if1 .left) (sym (some-done _ _ _ (omega arith) (omega arith) (c .before .loop .inv .1))))
+returns-3 c =
+    sym (closed-none _ _ _ (c .before .before .before .before .before .before .before .before .before .before .pre .0 .entries)
+    (sym (c .before .before .before .is-idle .ensures) ∙ c .before .before .if1 .left)
+    (sym (some-done _ _ _ (omega arith) (omega arith) (c .before .loop .inv .1))))
 
 pub is-closed-spec : {M : Type 1} → statement M
 is-closed-spec =

@@ -6,7 +6,7 @@ use Rattle.pairs.proofs.is_idle.Statement.{statement}
 use Rattle.pairs.proofs.is_idle.Tie as tie
 
 is-clashing-requires : tie.Need-is-clashing-requires
-is-clashing-requires c κs = (ready-listed _ _ _ _ _ (c .before .before .before .before .before .before .pre .0), ready-befores _ _ _ _ _ (c .before .before .before .before .before .before .pre .0))
+is-clashing-requires c κs = let h = c .before .before .before .before .before .before .pre .0 in (ready-listed _ _ _ _ _ h, ready-befores _ _ _ _ _ h)
 
 returns : tie.Need-returns
 returns c = sym (idle-clashing _ _ _ _ _ (sym (c .before .is-clashing .ensures) ∙ c .if1 .taken))

@@ -16,7 +16,8 @@ use Rattle.pairs.proofs.is_stuck.Statement.{statement}
 use Rattle.pairs.proofs.is_stuck.Tie as tie
 
 abbrev Inv-loop : tie.InvT-loop
-Inv-loop sizes variables possible u₀ u = (u ≤ length sizes) × ((befores afters : List ℕ) → some u (λ v. not (names (entriesIn variables befores afters) v) && not (valued sizes possible v)) ≡ false)
+Inv-loop sizes variables possible u₀ u =
+    (u ≤ length sizes) × ((befores afters : List ℕ) → some u (λ v. not (names (entriesIn variables befores afters) v) && not (valued sizes possible v)) ≡ false)
 
 abbrev μ-loop : tie.MeasureT-loop
 μ-loop sizes variables possible u₀ u = length sizes - u
@@ -44,7 +45,8 @@ loop-again : tie.Need-loop-again Inv-loop μ-loop
 loop-again c = (
   omega arith,
   λ befores afters. some-next _ _ (c .before .before .before .loop .inv .1 befores afters) (⊎-elim
-      (λ x. and-none-right (not (names (entriesIn (c .before .before .before .before .before .before .before .args .variables .now) befores afters) (c .before .before .before .loop .u))) _ (ap not (sym (x .1 .ensures)) ∙ x .2 .left))
+      (λ x. and-none-right (not (names (entriesIn (c .before .before .before .before .before .before .before .args .variables .now) befores afters) (c .before .before .before .loop .u))) _
+      (ap not (sym (x .1 .ensures)) ∙ x .2 .left))
       (λ x. and-none-left _ _ (ap not (sym (c .before .names .ensures befores afters)) ∙ x .left))
       (c .if1 .came)),
 )

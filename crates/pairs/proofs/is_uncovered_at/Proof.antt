@@ -17,7 +17,8 @@ use Rattle.pairs.proofs.is_uncovered_at.Statement.{statement}
 use Rattle.pairs.proofs.is_uncovered_at.Tie as tie
 
 abbrev Inv-loop : tie.InvT-loop
-Inv-loop sizes pairs variables afters possible u start d y₀ y = (y ≤ d) × (some y (λ z. has possible (single sizes u z) && pairedWithin sizes (has pairs) variables afters (length variables) u z) ≡ false)
+Inv-loop sizes pairs variables afters possible u start d y₀ y =
+    (y ≤ d) × (some y (λ z. has possible (single sizes u z) && pairedWithin sizes (has pairs) variables afters (length variables) u z) ≡ false)
 
 abbrev μ-loop : tie.MeasureT-loop
 μ-loop sizes pairs variables afters possible u start d y₀ y = d - y
@@ -44,11 +45,13 @@ has-requires : tie.Need-has-requires Inv-loop μ-loop
 has-requires c κs = atom c .room
 
 is-paired-within-requires : tie.Need-is-paired-within-requires Inv-loop μ-loop
-is-paired-within-requires c κs = let (h, a, d, l, r) = c .before .before .before .before .before .before .before .before .before .before .before .pre in (h, a, omega arith, d, l, omega (arith, c .before .before .before .before .size .ensures))
+is-paired-within-requires c κs = let (h, a, d, l, r) = c .before .before .before .before .before .before .before .before .before .before .before .pre in
+    (h, a, omega arith, d, l, omega (arith, c .before .before .before .before .size .ensures))
 
 returns : tie.Need-returns Inv-loop μ-loop
 returns c = sym (some-at _ _ _ (omega (arith, c .before .before .before .before .before .before .size .ensures))
-    (and-both _ _ (ap (has _) (sym (atom (c .before .before .before .before) .number)) ∙ sym (c .before .before .before .has .ensures) ∙ c .before .before .if1 .taken) (sym (c .before .is-paired-within .ensures) ∙ c .if2 .taken)))
+    (and-both _ _ (ap (has _) (sym (atom (c .before .before .before .before) .number)) ∙ sym (c .before .before .before .has .ensures) ∙ c .before .before .if1 .taken)
+    (sym (c .before .is-paired-within .ensures) ∙ c .if2 .taken)))
 
 add-y : tie.Need-add-y Inv-loop μ-loop
 add-y c = omega arith
@@ -57,10 +60,10 @@ loop-less : tie.Need-loop-less Inv-loop μ-loop
 loop-less c = omega arith
 
 loop-again : tie.Need-loop-again Inv-loop μ-loop
-loop-again c = (
+loop-again c = let a = c .before .before .before .before .before .before .before .before .before .before .before .args in (
   omega arith,
   some-next _ _ (c .before .before .before .loop .inv .1) (⊎-elim
-      (λ x. and-none-right (has (c .before .before .before .before .before .before .before .before .before .before .before .args .possible .now) (single (c .before .before .before .before .before .before .before .before .before .before .before .args .sizes .now) (c .before .before .before .before .before .before .before .before .before .before .before .args .u) (c .before .before .before .loop .y))) _ (sym (x .1 .ensures) ∙ x .2 .left))
+      (λ x. and-none-right (has (a .possible .now) (single (a .sizes .now) (a .u) (c .before .before .before .loop .y))) _ (sym (x .1 .ensures) ∙ x .2 .left))
       (λ x. and-none-left _ _ (ap (has _) (sym (atom (c .before .before) .number)) ∙ sym (c .before .has .ensures) ∙ x .left))
       (c .if1 .came)),
 )

@@ -5,22 +5,21 @@ use mathlib.Core.Bool.{Bool, true, false, not, _&&_, cond}
 use mathlib.Core.List.{List, [], _∷_, _++_, map, map-append, List·Memᴰ·head as here}
 use native.Mathlib.Omega.{arith}
 use lib.ListN.{length}
-use lib.Dec.{eqb}
 use borrow.Author.Tests.{not-true}
 use Rattle.meaning.specs.Sets.{Set, flat}
-use Rattle.meaning.specs.Task.{Operator, names, value, size}
-use Rattle.meaning.specs.Feature.{atoms, single}
+use Rattle.meaning.specs.Task.{Operator, names, size}
+use Rattle.meaning.specs.Feature.{atoms}
 use Rattle.meaning.specs.Pair.{idle, possible}
 use Rattle.theory.specs.Search.{and-left}
 use Rattle.theory.specs.Flat.{flat-cong}
 use Rattle.theory.specs.Numbering.{single-below}
 use Rattle.theory.specs.Possible.{possibleAtoms, possible-at}
-use Rattle.theory.specs.Rows.{change, baseValue, base, base-value, apart, wanted, busyRows, rowsOf}
+use Rattle.theory.specs.Rows.{change, base, base-value, apart, wanted, busyRows, rowsOf}
 use Rattle.rows.specs.declared.Place.{Place}
 use Rattle.rows.specs.declared.Place.the-variants.{At, Done}
 use Rattle.rows.specs.Change.{difference}
 use Rattle.rows.specs.Base.{atomsAt}
-use Rattle.rows.specs.Apart.{wantedBy, wantedFrom, placesFrom, Wanted, from-in, wanted-all}
+use Rattle.rows.specs.Apart.{wantedBy, wantedFrom, placesFrom, from-in, wanted-all}
 
 -- The difference rows from value y of variable u on.
 unfoldable pub apartsFrom : List ℕ → Operator → Set → List ℕ → ℕ → ℕ → List Set

@@ -35,14 +35,14 @@ pub enum Kind {
 const GRID: [[u8; 4]; 4] = [[0, 0, 0, 0], [0, 0, 1, 1], [0, 1, 1, 0], [0, 1, 0, 1]];
 
 // An atom of a variable that goes from one value to another, with its kind.
-pub struct Atom {
+struct Atom {
     variable: usize,
     value: usize,
     kind: Kind,
 }
 
 // A variable that goes from one value to another: as an entry says, or unnamed with its value kept.
-pub struct Move {
+struct Move {
     variable: usize,
     before: usize,
     after: usize,
@@ -61,7 +61,7 @@ fn grid_place(kind: Kind) -> usize
 }
 
 // Whether the feature of two atoms of these kinds changes its truth.
-pub fn turns(a: Kind, b: Kind) -> bool
+fn turns(a: Kind, b: Kind) -> bool
     ensures { λ r. ⌜ r ≡ turns (kindOf a) (kindOf b) ⌝ }
 {
     let row = grid_place(a);
@@ -72,25 +72,58 @@ pub fn turns(a: Kind, b: Kind) -> bool
 // Toggles the feature of two atoms where the grid has 1.
 fn toggle_pair(sizes: &[u64], a: Atom, b: Atom, row: &mut [u64])
     requires { ⌜ Room (now sizes) (now row) × AtomIn (now sizes) a × AtomIn (now sizes) b × (a .variable ≢ b .variable) ⌝ }
-    ensures { λ r. ⌜ now (row .exit) ≡ toggledAll (now (row .entry)) (byGrid (now (sizes .entry)) (a .variable) (atomOf a) (b .variable) (atomOf b)) ⌝ }
+    ensures { λ r. ⌜ now (row .exit)
+        ≡ toggledAll (now (row .entry)) (byGrid (now (sizes .entry)) (a .variable) (atomOf a) (b .variable) (atomOf b)) ⌝ }
 {
     let kind = a.kind;
     let other = b.kind;
     if turns(kind, other) {
-        words::toggle(row, numbering::both(sizes, a.variable, a.value, b.variable, b.value));
+        words::toggle(
+            row,
+            numbering::both(sizes, a.variable, a.value, b.variable, b.value),
+        );
     }
 }
 
 // Toggles what an atom changes together with the atoms of another variable.
 fn toggle_atom(sizes: &[u64], a: Atom, to: Move, row: &mut [u64])
     requires { ⌜ Room (now sizes) (now row) × AtomIn (now sizes) a × MoveIn (now sizes) to × (a .variable ≢ to .variable) ⌝ }
-    ensures { λ r. ⌜ now (row .exit) ≡ toggledAll (now (row .entry)) (byGrid (now (sizes .entry)) (a .variable) (atomOf a) (to .variable) (kindsOf (to .before) (to .after))) ⌝ }
+    ensures { λ r. ⌜ now (row .exit)
+        ≡ toggledAll (now (row .entry))
+        (byGrid (now (sizes .entry)) (a .variable) (atomOf a) (to .variable) (kindsOf (to .before) (to .after))) ⌝ }
 {
     if to.before == to.after {
-        toggle_pair(sizes, a, Atom { variable: to.variable, value: to.before, kind: Kind::Kept }, row);
+        toggle_pair(
+            sizes,
+            a,
+            Atom {
+                variable: to.variable,
+                value: to.before,
+                kind: Kind::Kept,
+            },
+            row,
+        );
     } else {
-        toggle_pair(sizes, a, Atom { variable: to.variable, value: to.before, kind: Kind::Used }, row);
-        toggle_pair(sizes, a, Atom { variable: to.variable, value: to.after, kind: Kind::Made }, row);
+        toggle_pair(
+            sizes,
+            a,
+            Atom {
+                variable: to.variable,
+                value: to.before,
+                kind: Kind::Used,
+            },
+            row,
+        );
+        toggle_pair(
+            sizes,
+            a,
+            Atom {
+                variable: to.variable,
+                value: to.after,
+                kind: Kind::Made,
+            },
+            row,
+        );
     }
 }
 
@@ -100,43 +133,124 @@ fn toggle_moves(sizes: &[u64], of: Move, to: Move, row: &mut [u64])
     ensures { λ r. ⌜ now (row .exit) ≡ toggledAll (now (row .entry)) (movedBoth (now (sizes .entry)) (entryOf of) (entryOf to)) ⌝ }
 {
     if of.before == of.after {
-        toggle_atom(sizes, Atom { variable: of.variable, value: of.before, kind: Kind::Kept }, to, row);
+        toggle_atom(
+            sizes,
+            Atom {
+                variable: of.variable,
+                value: of.before,
+                kind: Kind::Kept,
+            },
+            to,
+            row,
+        );
     } else {
-        toggle_atom(sizes, Atom { variable: of.variable, value: of.before, kind: Kind::Used }, to, row);
-        toggle_atom(sizes, Atom { variable: of.variable, value: of.after, kind: Kind::Made }, to, row);
+        toggle_atom(
+            sizes,
+            Atom {
+                variable: of.variable,
+                value: of.before,
+                kind: Kind::Used,
+            },
+            to,
+            row,
+        );
+        toggle_atom(
+            sizes,
+            Atom {
+                variable: of.variable,
+                value: of.after,
+                kind: Kind::Made,
+            },
+            to,
+            row,
+        );
     }
 }
 
 // Toggles what an unnamed variable, which keeps its value, changes together with each entry.
-fn toggle_beside(sizes: &[u64], variables: &[usize], befores: &[usize], afters: &[usize], u: usize, y: usize, row: &mut [u64])
-    requires { ⌜ Given (now sizes) (now variables) (now befores) (now afters) × Room (now sizes) (now row) × (u < length (now sizes)) × (y < size (now sizes) u) × (listed (now variables) u ≡ false) ⌝ }
-    ensures { λ r. ⌜ now (row .exit) ≡ toggledAll (now (row .entry)) (besideFeatures (now (sizes .entry)) (entriesIn (now (variables .entry)) (now (befores .entry)) (now (afters .entry))) u y) ⌝ }
+fn toggle_beside(
+    sizes: &[u64],
+    variables: &[usize],
+    befores: &[usize],
+    afters: &[usize],
+    u: usize,
+    y: usize,
+    row: &mut [u64],
+)
+    requires { ⌜ Given (now sizes) (now variables) (now befores) (now afters) × Room (now sizes) (now row)
+        × (u < length (now sizes)) × (y < size (now sizes) u) × (listed (now variables) u ≡ false) ⌝ }
+    ensures { λ r. ⌜ now (row .exit)
+        ≡ toggledAll (now (row .entry))
+        (besideFeatures (now (sizes .entry)) (entriesIn (now (variables .entry)) (now (befores .entry)) (now (afters .entry))) u y) ⌝ }
 {
-    let still = Move { variable: u, before: y, after: y };
+    let still = Move {
+        variable: u,
+        before: y,
+        after: y,
+    };
     let mut k = 0;
     while k < variables.len() {
-        toggle_moves(sizes, still, Move { variable: variables[k], before: befores[k], after: afters[k] }, row);
+        toggle_moves(
+            sizes,
+            still,
+            Move {
+                variable: variables[k],
+                before: befores[k],
+                after: afters[k],
+            },
+            row,
+        );
         k += 1;
     }
 }
 
 // Toggles what the entry at a place changes together with each entry before it.
-fn toggle_earlier(sizes: &[u64], variables: &[usize], befores: &[usize], afters: &[usize], l: usize, row: &mut [u64])
+fn toggle_earlier(
+    sizes: &[u64],
+    variables: &[usize],
+    befores: &[usize],
+    afters: &[usize],
+    l: usize,
+    row: &mut [u64],
+)
     requires { ⌜ Given (now sizes) (now variables) (now befores) (now afters) × Room (now sizes) (now row) × (l < length (now variables)) ⌝ }
-    ensures { λ r. ⌜ now (row .exit) ≡ toggledAll (now (row .entry)) (earlierFeatures (now (sizes .entry)) (entriesIn (now (variables .entry)) (now (befores .entry)) (now (afters .entry))) l) ⌝ }
+    ensures { λ r. ⌜ now (row .exit)
+        ≡ toggledAll (now (row .entry))
+        (earlierFeatures (now (sizes .entry)) (entriesIn (now (variables .entry)) (now (befores .entry)) (now (afters .entry))) l) ⌝ }
 {
-    let last = Move { variable: variables[l], before: befores[l], after: afters[l] };
+    let last = Move {
+        variable: variables[l],
+        before: befores[l],
+        after: afters[l],
+    };
     let mut k = 0;
     while k < l {
-        toggle_moves(sizes, Move { variable: variables[k], before: befores[k], after: afters[k] }, last, row);
+        toggle_moves(
+            sizes,
+            Move {
+                variable: variables[k],
+                before: befores[k],
+                after: afters[k],
+            },
+            last,
+            row,
+        );
         k += 1;
     }
 }
 
 // Toggles the atoms that each entry changes.
-fn toggle_singles(sizes: &[u64], variables: &[usize], befores: &[usize], afters: &[usize], row: &mut [u64])
+fn toggle_singles(
+    sizes: &[u64],
+    variables: &[usize],
+    befores: &[usize],
+    afters: &[usize],
+    row: &mut [u64],
+)
     requires { ⌜ Given (now sizes) (now variables) (now befores) (now afters) × Room (now sizes) (now row) ⌝ }
-    ensures { λ r. ⌜ now (row .exit) ≡ toggledAll (now (row .entry)) (walk (single (now (sizes .entry))) (entriesIn (now (variables .entry)) (now (befores .entry)) (now (afters .entry)))) ⌝ }
+    ensures { λ r. ⌜ now (row .exit)
+        ≡ toggledAll (now (row .entry))
+        (walk (single (now (sizes .entry))) (entriesIn (now (variables .entry)) (now (befores .entry)) (now (afters .entry)))) ⌝ }
 {
     let mut k = 0;
     while k < variables.len() {
@@ -148,9 +262,17 @@ fn toggle_singles(sizes: &[u64], variables: &[usize], befores: &[usize], afters:
 }
 
 // Toggles what the entries change two by two.
-fn toggle_doubles(sizes: &[u64], variables: &[usize], befores: &[usize], afters: &[usize], row: &mut [u64])
+fn toggle_doubles(
+    sizes: &[u64],
+    variables: &[usize],
+    befores: &[usize],
+    afters: &[usize],
+    row: &mut [u64],
+)
     requires { ⌜ Given (now sizes) (now variables) (now befores) (now afters) × Room (now sizes) (now row) ⌝ }
-    ensures { λ r. ⌜ now (row .exit) ≡ toggledAll (now (row .entry)) (namedFeatures (now (sizes .entry)) (entriesIn (now (variables .entry)) (now (befores .entry)) (now (afters .entry)))) ⌝ }
+    ensures { λ r. ⌜ now (row .exit)
+        ≡ toggledAll (now (row .entry))
+        (namedFeatures (now (sizes .entry)) (entriesIn (now (variables .entry)) (now (befores .entry)) (now (afters .entry)))) ⌝ }
 {
     let mut l = 0;
     while l < variables.len() {
@@ -174,9 +296,20 @@ fn is_named(variables: &[usize], u: usize) -> bool
 }
 
 // Toggles what an unnamed variable with its value of a state changes together with each entry; nothing for a named one.
-fn toggle_value(sizes: &[u64], variables: &[usize], befores: &[usize], afters: &[usize], base: &[usize], u: usize, row: &mut [u64])
-    requires { ⌜ Given (now sizes) (now variables) (now befores) (now afters) × Room (now sizes) (now row) × State (now sizes) (now base) × (u < length (now sizes)) ⌝ }
-    ensures { λ r. ⌜ now (row .exit) ≡ toggledAll (now (row .entry)) (unnamedFeatures (now (sizes .entry)) (entriesIn (now (variables .entry)) (now (befores .entry)) (now (afters .entry))) (now (base .entry)) u) ⌝ }
+fn toggle_value(
+    sizes: &[u64],
+    variables: &[usize],
+    befores: &[usize],
+    afters: &[usize],
+    base: &[usize],
+    u: usize,
+    row: &mut [u64],
+)
+    requires { ⌜ Given (now sizes) (now variables) (now befores) (now afters) × Room (now sizes) (now row)
+        × State (now sizes) (now base) × (u < length (now sizes)) ⌝ }
+    ensures { λ r. ⌜ now (row .exit)
+        ≡ toggledAll (now (row .entry))
+        (unnamedFeatures (now (sizes .entry)) (entriesIn (now (variables .entry)) (now (befores .entry)) (now (afters .entry))) (now (base .entry)) u) ⌝ }
 {
     if !is_named(variables, u) {
         toggle_beside(sizes, variables, befores, afters, u, base[u], row);
@@ -184,9 +317,18 @@ fn toggle_value(sizes: &[u64], variables: &[usize], befores: &[usize], afters: &
 }
 
 // Toggles what the unnamed variables with their values of a state change together with the entries.
-fn toggle_unnamed(sizes: &[u64], variables: &[usize], befores: &[usize], afters: &[usize], base: &[usize], row: &mut [u64])
+fn toggle_unnamed(
+    sizes: &[u64],
+    variables: &[usize],
+    befores: &[usize],
+    afters: &[usize],
+    base: &[usize],
+    row: &mut [u64],
+)
     requires { ⌜ Given (now sizes) (now variables) (now befores) (now afters) × Room (now sizes) (now row) × State (now sizes) (now base) ⌝ }
-    ensures { λ r. ⌜ now (row .exit) ≡ toggledAll (now (row .entry)) (flat (length (now (sizes .entry))) (unnamedFeatures (now (sizes .entry)) (entriesIn (now (variables .entry)) (now (befores .entry)) (now (afters .entry))) (now (base .entry)))) ⌝ }
+    ensures { λ r. ⌜ now (row .exit)
+        ≡ toggledAll (now (row .entry)) (flat (length (now (sizes .entry))) (unnamedFeatures (now (sizes .entry))
+        (entriesIn (now (variables .entry)) (now (befores .entry)) (now (afters .entry))) (now (base .entry)))) ⌝ }
 {
     let mut u = 0;
     while u < sizes.len() {
@@ -196,9 +338,20 @@ fn toggle_unnamed(sizes: &[u64], variables: &[usize], befores: &[usize], afters:
 }
 
 // The row of what the operator changes in a state in which it applies: its base state.
-pub fn base_row(sizes: &[u64], variables: &[usize], befores: &[usize], afters: &[usize], base: &[usize], row: &mut [u64])
-    requires { ⌜ Given (now sizes) (now variables) (now befores) (now afters) × State (now sizes) (now base) × (applies (entriesIn (now variables) (now befores) (now afters)) (now base) ≡ true) × (now row ≡ replicate (wordsFor (features (now sizes))) 0) ⌝ }
-    ensures { λ r. ⌜ now (row .exit) ≡ packed (features (now (sizes .entry))) (change (now (sizes .entry)) (entriesIn (now (variables .entry)) (now (befores .entry)) (now (afters .entry))) (now (base .entry))) ⌝ }
+pub fn base_row(
+    sizes: &[u64],
+    variables: &[usize],
+    befores: &[usize],
+    afters: &[usize],
+    base: &[usize],
+    row: &mut [u64],
+)
+    requires { ⌜ Given (now sizes) (now variables) (now befores) (now afters) × State (now sizes) (now base)
+        × (applies (entriesIn (now variables) (now befores) (now afters)) (now base) ≡ true)
+        × (now row ≡ replicate (wordsFor (features (now sizes))) 0) ⌝ }
+    ensures { λ r. ⌜ now (row .exit)
+        ≡ packed (features (now (sizes .entry)))
+        (change (now (sizes .entry)) (entriesIn (now (variables .entry)) (now (befores .entry)) (now (afters .entry))) (now (base .entry))) ⌝ }
 {
     toggle_singles(sizes, variables, befores, afters, row);
     toggle_doubles(sizes, variables, befores, afters, row);
@@ -206,9 +359,23 @@ pub fn base_row(sizes: &[u64], variables: &[usize], befores: &[usize], afters: &
 }
 
 // The row of the difference that the value y of an unnamed variable u makes to that change: four features for each entry.
-pub fn apart_row(sizes: &[u64], variables: &[usize], befores: &[usize], afters: &[usize], base: &[usize], u: usize, y: usize, row: &mut [u64])
-    requires { ⌜ Given (now sizes) (now variables) (now befores) (now afters) × State (now sizes) (now base) × (applies (entriesIn (now variables) (now befores) (now afters)) (now base) ≡ true) × (now row ≡ replicate (wordsFor (features (now sizes))) 0) × (u < length (now sizes)) × (y < size (now sizes) u) × (names (entriesIn (now variables) (now befores) (now afters)) u ≡ false) ⌝ }
-    ensures { λ r. ⌜ now (row .exit) ≡ packed (features (now (sizes .entry))) (difference (now (sizes .entry)) (entriesIn (now (variables .entry)) (now (befores .entry)) (now (afters .entry))) (now (base .entry)) u y) ⌝ }
+pub fn apart_row(
+    sizes: &[u64],
+    variables: &[usize],
+    befores: &[usize],
+    afters: &[usize],
+    base: &[usize],
+    u: usize,
+    y: usize,
+    row: &mut [u64],
+)
+    requires { ⌜ Given (now sizes) (now variables) (now befores) (now afters) × State (now sizes) (now base)
+        × (applies (entriesIn (now variables) (now befores) (now afters)) (now base) ≡ true)
+        × (now row ≡ replicate (wordsFor (features (now sizes))) 0) × (u < length (now sizes))
+        × (y < size (now sizes) u) × (names (entriesIn (now variables) (now befores) (now afters)) u ≡ false) ⌝ }
+    ensures { λ r. ⌜ now (row .exit)
+        ≡ packed (features (now (sizes .entry)))
+        (difference (now (sizes .entry)) (entriesIn (now (variables .entry)) (now (befores .entry)) (now (afters .entry))) (now (base .entry)) u y) ⌝ }
 {
     toggle_beside(sizes, variables, befores, afters, u, y, row);
     toggle_beside(sizes, variables, befores, afters, u, base[u], row);
@@ -216,7 +383,8 @@ pub fn apart_row(sizes: &[u64], variables: &[usize], befores: &[usize], afters: 
 
 // The least possible value of a variable at y or above it; its size where there is none.
 fn next_possible(sizes: &[u64], possible: &[u64], u: usize, y: usize) -> usize
-    requires { ⌜ InLimits (now sizes) × (atoms (now sizes) ≤ wordBits * length (now possible)) × (u < length (now sizes)) × (y ≤ size (now sizes) u) ⌝ }
+    requires { ⌜ InLimits (now sizes) × (atoms (now sizes) ≤ wordBits * length (now possible)) × (u < length (now sizes))
+        × (y ≤ size (now sizes) u) ⌝ }
     ensures { λ r. ⌜ Next (atomsAt (now (sizes .entry)) (has (now (possible .entry))) u) (size (now (sizes .entry)) u) y r ⌝ }
 {
     let d = numbering::size(sizes, u);
@@ -244,8 +412,10 @@ fn fill_least(sizes: &[u64], possible: &[u64], base: &mut [usize])
 
 // Puts the before values in their places.
 fn fill_befores(variables: &[usize], befores: &[usize], base: &mut [usize])
-    requires { ⌜ (length (now befores) ≡ length (now variables)) × ((k : ℕ) → k < length (now variables) → getD (now variables) k 0 < length (now base)) ⌝ }
-    ensures { λ r. ⌜ now (base .exit) ≡ withBefores (length (now (variables .entry))) (now (variables .entry)) (now (befores .entry)) (now (base .entry)) ⌝ }
+    requires { ⌜ (length (now befores) ≡ length (now variables))
+        × ((k : ℕ) → k < length (now variables) → getD (now variables) k 0 < length (now base)) ⌝ }
+    ensures { λ r. ⌜ now (base .exit)
+        ≡ withBefores (length (now (variables .entry))) (now (variables .entry)) (now (befores .entry)) (now (base .entry)) ⌝ }
 {
     let mut k = 0;
     while k < variables.len() {
@@ -255,9 +425,19 @@ fn fill_befores(variables: &[usize], befores: &[usize], base: &mut [usize])
 }
 
 // The base state: the before values, and the least possible values elsewhere.
-pub fn fill_base(sizes: &[u64], variables: &[usize], befores: &[usize], afters: &[usize], possible: &[u64], base: &mut [usize])
-    requires { ⌜ Given (now sizes) (now variables) (now befores) (now afters) × (atoms (now sizes) ≤ wordBits * length (now possible)) × (length (now base) ≡ length (now sizes)) ⌝ }
-    ensures { λ r. ⌜ now (base .exit) ≡ baseBy (now (sizes .entry)) (entriesIn (now (variables .entry)) (now (befores .entry)) (now (afters .entry))) (has (now (possible .entry))) ⌝ }
+pub fn fill_base(
+    sizes: &[u64],
+    variables: &[usize],
+    befores: &[usize],
+    afters: &[usize],
+    possible: &[u64],
+    base: &mut [usize],
+)
+    requires { ⌜ Given (now sizes) (now variables) (now befores) (now afters)
+        × (atoms (now sizes) ≤ wordBits * length (now possible)) × (length (now base) ≡ length (now sizes)) ⌝ }
+    ensures { λ r. ⌜ now (base .exit)
+        ≡ baseBy (now (sizes .entry)) (entriesIn (now (variables .entry)) (now (befores .entry)) (now (afters .entry)))
+        (has (now (possible .entry))) ⌝ }
 {
     fill_least(sizes, possible, base);
     fill_befores(variables, befores, base);
@@ -265,7 +445,8 @@ pub fn fill_base(sizes: &[u64], variables: &[usize], befores: &[usize], afters: 
 
 // The least possible value of a variable at y or above it that is not its base value; its size where there is none.
 fn next_wanted(sizes: &[u64], possible: &[u64], base: &[usize], u: usize, y: usize) -> usize
-    requires { ⌜ InLimits (now sizes) × (atoms (now sizes) ≤ wordBits * length (now possible)) × State (now sizes) (now base) × (u < length (now sizes)) × (y ≤ size (now sizes) u) ⌝ }
+    requires { ⌜ InLimits (now sizes) × (atoms (now sizes) ≤ wordBits * length (now possible)) × State (now sizes) (now base)
+        × (u < length (now sizes)) × (y ≤ size (now sizes) u) ⌝ }
     ensures { λ r. ⌜ Next (wantedBy (now (sizes .entry)) (has (now (possible .entry))) (now (base .entry)) u) (size (now (sizes .entry)) u) y r ⌝ }
 {
     let x = next_possible(sizes, possible, u, y);
@@ -283,8 +464,10 @@ pub enum Place {
 
 // The first variable with a value, from value y of variable u on, that has a difference row.
 pub fn next_apart(sizes: &[u64], possible: &[u64], base: &[usize], u: usize, y: usize) -> Place
-    requires { ⌜ InLimits (now sizes) × (atoms (now sizes) ≤ wordBits * length (now possible)) × State (now sizes) (now base) × (y ≤ size (now sizes) u) ⌝ }
-    ensures { λ r. ⌜ wantedFrom (now (sizes .entry)) (wantedBy (now (sizes .entry)) (has (now (possible .entry))) (now (base .entry))) u y ≡ placesFrom (now (sizes .entry)) (wantedBy (now (sizes .entry)) (has (now (possible .entry))) (now (base .entry))) r ⌝ }
+    requires { ⌜ InLimits (now sizes) × (atoms (now sizes) ≤ wordBits * length (now possible)) × State (now sizes) (now base)
+        × (y ≤ size (now sizes) u) ⌝ }
+    ensures { λ r. ⌜ wantedFrom (now (sizes .entry)) (wantedBy (now (sizes .entry)) (has (now (possible .entry))) (now (base .entry))) u y
+        ≡ placesFrom (now (sizes .entry)) (wantedBy (now (sizes .entry)) (has (now (possible .entry))) (now (base .entry))) r ⌝ }
 {
     let mut variable = u;
     let mut value = y;

@@ -1,3 +1,4 @@
+-- `apart_row` meets its contract: the two steps toggle the features of the difference, from words with no member on.
 use mathlib.Core.Path.{sym, _∙_}
 use native.Mathlib.Omega.{arith}
 use Rattle.rows.specs.Toggled.{length-next}
@@ -6,33 +7,30 @@ use Rattle.rows.specs.Given.{names-listed}
 use Rattle.rows.specs.Change.{apart-packed}
 use Rattle.rows.proofs.apart_row.Statement.{statement}
 use Rattle.rows.proofs.apart_row.Tie as tie
-use Rattle.rows.proofs.apart_row.Reads as reads
-use Rattle.rows.proofs.apart_row.Lts as lts
-use Rattle.rows.proofs.toggle_beside.Reads as toggle-beside-reads
 
--- src/lib.rt:213:5
 toggle-beside-requires : tie.Need-toggle-beside-requires
 toggle-beside-requires c κs = let (g, t, a, e, l, k, q) = c .before .before .before .before .before .before .before .pre in (g, room-none _ _ (g .limits) e, l, k, sym (names-listed g _) ∙ q)
 
--- src/lib.rt:214:57
 mul-toggle-beside : tie.Need-mul-toggle-beside
 mul-toggle-beside c = omega (arith, c .before .before .before .before .before .before .before .before .before .before .pre .1 .full)
 
--- src/lib.rt:214:57
 shared-slice-read-toggle-beside : tie.Need-shared-slice-read-toggle-beside
 shared-slice-read-toggle-beside c = omega (arith, c .before .before .before .before .before .before .before .before .before .before .before .pre .1 .full)
 
--- src/lib.rt:214:5
 toggle-beside-requires-2 : tie.Need-toggle-beside-requires-2
-toggle-beside-requires-2 c κs = let (g, t, a, e, l, k, q) = c .before .before .before .before .before .before .before .before .before .before .before .before .pre in (g, room-toggled _ _ _ _ (room-none _ _ (g .limits) e) (c .before .before .before .before .toggle-beside .ensures), l, t .values _ l, sym (names-listed g _) ∙ q)
+toggle-beside-requires-2 c κs =
+    let start = c .before .before .before .before .before .before .before .before .before .before .before .before in
+    let (g, t, a, e, l, k, q) = start .pre in
+    (g, room-toggled _ _ _ _ (room-none _ _ (g .limits) e) (c .before .before .before .before .toggle-beside .ensures), l, t .values _ l, sym (names-listed g _) ∙ q)
 
--- src/lib.rt:209:1
 same-length : tie.Need-same-length
 same-length c = length-next _ _ _ (c .before .before .toggle-beside2 .ensures) ∙ length-next _ _ _ (c .before .before .before .before .before .before .before .toggle-beside .ensures)
 
--- src/lib.rt:209:1
 returns : tie.Need-returns
-returns c = let (g, t, a, e, l, k, q) = c .before .before .before .before .before .before .before .before .before .before .before .before .before .before .before .pre in apart-packed _ _ (g .entries) _ t a _ _ l k q _ _ _ e (c .before .before .before .before .before .before .before .toggle-beside .ensures) (c .before .before .toggle-beside2 .ensures)
+returns c =
+    let start = c .before .before .before .before .before .before .before .before .before .before .before .before .before .before .before in
+    let (g, t, a, e, l, k, q) = start .pre in
+    apart-packed _ _ (g .entries) _ t a _ _ l k q _ _ _ e (c .before .before .before .before .before .before .before .toggle-beside .ensures) (c .before .before .toggle-beside2 .ensures)
 
 pub apart-row-spec : {M : Type 1} → statement M
 apart-row-spec =

@@ -1,12 +1,11 @@
-use Prim.Native.Nat.{ℕ, _≤_, _<_, _-_}
+-- `fill_befores` meets its contract: after k turns the before values of the first k entries are put in.
+use Prim.Native.Nat.{ℕ, _≤_, _-_}
 use mathlib.Core.Path.{_≡_, refl, _∙_}
 use native.Mathlib.Omega.{arith}
-use lib.ListN.{length, getD, length-set}
+use lib.ListN.{length, length-set}
 use Rattle.rows.specs.Base.{withBefores, befores-turn}
 use Rattle.rows.proofs.fill_befores.Statement.{statement}
 use Rattle.rows.proofs.fill_befores.Tie as tie
-use Rattle.rows.proofs.fill_befores.Reads as reads
-use Rattle.rows.proofs.fill_befores.Lts as lts
 
 abbrev Inv-loop : tie.InvT-loop
 Inv-loop variables befores base₀ k₀ base k = (k ≤ length variables) × (length base ≡ length base₀) × (base ≡ withBefores k variables befores base₀)
@@ -14,52 +13,40 @@ Inv-loop variables befores base₀ k₀ base k = (k ≤ length variables) × (le
 abbrev μ-loop : tie.MeasureT-loop
 μ-loop variables befores base₀ k₀ base k = length variables - k
 
--- src/lib.rt:251:5
 loop-holds : tie.Need-loop-holds Inv-loop μ-loop
 unfolding withBefores
 loop-holds c = (omega arith, refl, refl)
 
--- src/lib.rt:252:30
 mul-base : tie.Need-mul-base Inv-loop μ-loop
 mul-base c = omega arith
 
--- src/lib.rt:252:30
 shared-slice-read-base : tie.Need-shared-slice-read-base Inv-loop μ-loop
 shared-slice-read-base c = omega arith
 
--- src/lib.rt:252:14
 mul-base-2 : tie.Need-mul-base-2 Inv-loop μ-loop
 mul-base-2 c = omega arith
 
--- src/lib.rt:252:14
 shared-slice-read-base-2 : tie.Need-shared-slice-read-base-2 Inv-loop μ-loop
 shared-slice-read-base-2 c = omega arith
 
--- src/lib.rt:252:9
 mul-base-3 : tie.Need-mul-base-3 Inv-loop μ-loop
 mul-base-3 c = omega (arith, c .before .before .before .before .pre .1 (c .before .before .before .loop .k) (omega arith))
 
--- src/lib.rt:252:9
 slice-write-base : tie.Need-slice-write-base Inv-loop μ-loop
 slice-write-base c = omega (arith, c .before .before .before .before .pre .1 (c .before .before .before .loop .k) (omega arith))
 
--- src/lib.rt:253:9
 add-k : tie.Need-add-k Inv-loop μ-loop
 add-k c = omega arith
 
--- src/lib.rt:251:5
 loop-less : tie.Need-loop-less Inv-loop μ-loop
 loop-less c = omega arith
 
--- src/lib.rt:251:5
 loop-again : tie.Need-loop-again Inv-loop μ-loop
 loop-again c = (omega arith, length-set {A = ℕ} (c .before .before .before .loop .base) _ _ ∙ c .before .before .before .loop .inv .1, befores-turn _ _ _ _ _ (c .before .before .before .loop .inv .2))
 
--- src/lib.rt:246:1
 same-length : tie.Need-same-length Inv-loop μ-loop
 same-length c = c .before .loop .inv .1
 
--- src/lib.rt:246:1
 returns : tie.Need-returns Inv-loop μ-loop
 returns c = let e : c .before .loop .k ≡ length (c .before .before .args .variables .now) = omega arith in cc
 

@@ -1,3 +1,4 @@
+-- `next_apart` meets its contract: what is wanted from the start is what is wanted from the place reached.
 use Prim.Native.Nat.{_≤_, _-_}
 use mathlib.Core.Path.{_≡_, refl, _∙_}
 use native.Mathlib.Omega.{arith}
@@ -7,10 +8,6 @@ use Rattle.meaning.specs.Workspace.{has}
 use Rattle.rows.specs.Apart.{wantedBy, wantedFrom, from-found, from-next, from-end}
 use Rattle.rows.proofs.next_apart.Statement.{statement}
 use Rattle.rows.proofs.next_apart.Tie as tie
-use Rattle.rows.proofs.next_apart.Reads as reads
-use Rattle.rows.proofs.next_apart.Lts as lts
-use Rattle.numbering.proofs.size.Reads as size-reads
-use Rattle.rows.proofs.next_wanted.Reads as next-wanted-reads
 
 abbrev Inv-loop : tie.InvT-loop
 Inv-loop sizes possible base u y variable₀ value₀ variable value = (value ≤ size sizes variable) × (wantedFrom sizes (wantedBy sizes (has possible) base) u y ≡ wantedFrom sizes (wantedBy sizes (has possible) base) variable value)
@@ -18,35 +15,27 @@ Inv-loop sizes possible base u y variable₀ value₀ variable value = (value �
 abbrev μ-loop : tie.MeasureT-loop
 μ-loop sizes possible base u y variable₀ value₀ variable value = length sizes - variable
 
--- src/lib.rt:291:5
 loop-holds : tie.Need-loop-holds Inv-loop μ-loop
 loop-holds c = (c .before .before .before .pre .3, refl)
 
--- src/lib.rt:292:13
 next-wanted-requires : tie.Need-next-wanted-requires Inv-loop μ-loop
 next-wanted-requires c κs = (c .before .before .before .before .before .pre .0, c .before .before .before .before .before .pre .1, c .before .before .before .before .before .pre .2, c .loop-test .taken, c .before .loop .inv .0)
 
--- src/lib.rt:293:20
 size-requires : tie.Need-size-requires Inv-loop μ-loop
 size-requires c κs = c .before .loop-test .taken
 
--- src/lib.rt:294:13
 returns : tie.Need-returns Inv-loop μ-loop
 returns c = c .before .before .before .before .loop .inv .1 ∙ from-found _ _ _ _ _ (c .before .before .next-wanted .ensures) (omega (arith, c .before .size .ensures))
 
--- src/lib.rt:296:9
 add-variable : tie.Need-add-variable Inv-loop μ-loop
 add-variable c = omega arith
 
--- src/lib.rt:291:5
 loop-less : tie.Need-loop-less Inv-loop μ-loop
 loop-less c = omega arith
 
--- src/lib.rt:291:5
 loop-again : tie.Need-loop-again Inv-loop μ-loop
 loop-again c = (omega arith, c .before .before .before .before .loop .inv .1 ∙ from-next _ _ _ _ _ (c .before .before .next-wanted .ensures) (omega (arith, c .before .size .ensures)))
 
--- src/lib.rt:285:1
 returns-2 : tie.Need-returns-2 Inv-loop μ-loop
 returns-2 c = c .before .loop .inv .1 ∙ from-end _ _ _ _ (c .loop-test .left)
 

@@ -1,5 +1,6 @@
-use Prim.Native.Nat.{ℕ, _≤_, _<_, _-_}
-use mathlib.Core.Path.{_≡_, refl, sym, ap, _∙_}
+-- `next_possible` meets its contract: from y on and below x no value is possible.
+use Prim.Native.Nat.{_≤_, _-_}
+use mathlib.Core.Path.{sym, ap, _∙_}
 use native.Mathlib.Omega.{arith}
 use Rattle.meaning.specs.Workspace.{has}
 use Rattle.theory.specs.Numbering.{single-below}
@@ -8,11 +9,6 @@ use Rattle.words.specs.Next.{Clear}
 use Rattle.rows.specs.Base.{atomsAt, clear-start, clear-next}
 use Rattle.rows.proofs.next_possible.Statement.{statement}
 use Rattle.rows.proofs.next_possible.Tie as tie
-use Rattle.rows.proofs.next_possible.Reads as reads
-use Rattle.rows.proofs.next_possible.Lts as lts
-use Rattle.numbering.proofs.single.Reads as single-reads
-use Rattle.numbering.proofs.size.Reads as size-reads
-use Rattle.words.proofs.has.Reads as has-reads
 
 abbrev Inv-loop : tie.InvT-loop
 Inv-loop sizes possible u y d x₀ x = (y ≤ x) × (x ≤ d) × Clear (atomsAt sizes (has possible) u) y x
@@ -20,39 +16,38 @@ Inv-loop sizes possible u y d x₀ x = (y ≤ x) × (x ≤ d) × Clear (atomsAt 
 abbrev μ-loop : tie.MeasureT-loop
 μ-loop sizes possible u y d x₀ x = d - x
 
--- src/lib.rt:222:9
 size-requires : tie.Need-size-requires Inv-loop μ-loop
 size-requires c κs = c .before .before .pre .2
 
--- src/lib.rt:224:5
 loop-holds : tie.Need-loop-holds Inv-loop μ-loop
 loop-holds c = (omega arith, omega (arith, c .before .before .before .pre .3, c .size .ensures), clear-start _ _)
 
--- src/lib.rt:225:33
 single-requires : tie.Need-single-requires Inv-loop μ-loop
 single-requires c κs = (limits-small _ (c .before .before .before .before .before .pre .0), c .before .before .before .before .before .pre .2, omega (arith, c .before .before .size .ensures))
 
--- src/lib.rt:225:12
 has-requires : tie.Need-has-requires Inv-loop μ-loop
-has-requires c κs = omega (arith, c .single .ensures, c .before .before .before .before .before .before .pre .1, single-below (c .before .before .before .before .before .before .args .sizes .now) (c .before .before .before .before .before .before .args .u) (c .before .before .loop .x) (omega (arith, c .before .before .before .size .ensures)))
+has-requires c κs =
+    let start = c .before .before .before .before .before .before in
+    omega (arith, c .single .ensures, start .pre .1, single-below (start .args .sizes .now) (start .args .u) (c .before .before .loop .x) (omega (arith, c .before .before .before .size .ensures)))
 
--- src/lib.rt:226:13
 returns : tie.Need-returns Inv-loop μ-loop
-returns c = record { above = c .before .before .before .before .loop .inv .0; within = omega (arith, c .before .before .before .before .before .size .ensures); clear = c .before .before .before .before .loop .inv .2; member = λ h. ap (has (c .before .before .before .before .before .before .before .before .args .possible .now)) (sym (c .before .before .single .ensures)) ∙ (sym (c .before .has .ensures) ∙ c .if1 .taken) }
+returns c =
+    let start = c .before .before .before .before .before .before .before .before in
+    let at = c .before .before .before .before .loop in
+    record { above = at .inv .0; within = omega (arith, c .before .before .before .before .before .size .ensures); clear = at .inv .2; member = λ h. ap (has (start .args .possible .now)) (sym (c .before .before .single .ensures)) ∙ (sym (c .before .has .ensures) ∙ c .if1 .taken) }
 
--- src/lib.rt:228:9
 add-x : tie.Need-add-x Inv-loop μ-loop
 add-x c = omega (arith, c .before .before .before .before .before .size .ensures)
 
--- src/lib.rt:224:5
 loop-less : tie.Need-loop-less Inv-loop μ-loop
 loop-less c = omega arith
 
--- src/lib.rt:224:5
 loop-again : tie.Need-loop-again Inv-loop μ-loop
-loop-again c = (omega arith, omega arith, clear-next _ _ _ (c .before .before .before .before .loop .inv .2) (ap (has (c .before .before .before .before .before .before .before .before .args .possible .now)) (sym (c .before .before .single .ensures)) ∙ (sym (c .before .has .ensures) ∙ c .if1 .left)))
+loop-again c =
+    let start = c .before .before .before .before .before .before .before .before in
+    let at = c .before .before .before .before .loop in
+    (omega arith, omega arith, clear-next _ _ _ (at .inv .2) (ap (has (start .args .possible .now)) (sym (c .before .before .single .ensures)) ∙ (sym (c .before .has .ensures) ∙ c .if1 .left)))
 
--- src/lib.rt:218:1
 returns-2 : tie.Need-returns-2 Inv-loop μ-loop
 returns-2 c = record { above = c .before .loop .inv .0; within = omega (arith, c .before .before .size .ensures); clear = c .before .loop .inv .2; member = λ h. absurd (omega (arith, c .before .before .size .ensures)) }
 

@@ -1,38 +1,31 @@
-use mathlib.Core.Path.{_≡_, sym}
+-- `next_wanted` meets its contract: where the next possible value is the base value, the one after it.
 use native.Mathlib.Omega.{arith}
 use Rattle.rows.specs.Apart.{next-other, next-after}
-use borrow.Author.Needs.{needs}
 use Rattle.rows.proofs.next_wanted.Statement.{statement}
 use Rattle.rows.proofs.next_wanted.Tie as tie
-use Rattle.rows.proofs.next_wanted.Reads as reads
-use Rattle.rows.proofs.next_wanted.Lts as lts
-use Rattle.rows.proofs.next_possible.Reads as next-possible-reads
 
--- src/lib.rt:271:9
 next-possible-requires : tie.Need-next-possible-requires
 next-possible-requires c κs = (c .before .before .before .pre .0, c .before .before .before .pre .1, c .before .before .before .pre .3, c .before .before .before .pre .4)
 
--- src/lib.rt:272:13
 mul-if1 : tie.Need-mul-if1
 mul-if1 c = omega (arith, c .before .before .before .before .pre .2 .full)
 
--- src/lib.rt:272:13
 shared-slice-read-if1 : tie.Need-shared-slice-read-if1
 shared-slice-read-if1 c = omega (arith, c .before .before .before .before .before .pre .2 .full)
 
--- src/lib.rt:273:50
 add-next-possible : tie.Need-add-next-possible
-add-next-possible c = omega (arith, c .before .before .before .before .before .before .pre .2 .values _ (c .before .before .before .before .before .before .pre .3), c .before .before .before .before .before .before .pre .0 .each _ (c .before .before .before .before .before .before .pre .3))
+add-next-possible c =
+    let start = c .before .before .before .before .before .before in
+    omega (arith, start .pre .2 .values _ (start .pre .3), start .pre .0 .each _ (start .pre .3))
 
--- src/lib.rt:273:9
 next-possible-requires-2 : tie.Need-next-possible-requires-2
-next-possible-requires-2 c κs = (c .before .before .before .before .before .before .pre .0, c .before .before .before .before .before .before .pre .1, c .before .before .before .before .before .before .pre .3, omega (arith, c .before .before .before .before .before .before .pre .2 .values _ (c .before .before .before .before .before .before .pre .3)))
+next-possible-requires-2 c κs =
+    let start = c .before .before .before .before .before .before in
+    (start .pre .0, start .pre .1, start .pre .3, omega (arith, start .pre .2 .values _ (start .pre .3)))
 
--- src/lib.rt:273:9
 returns : tie.Need-returns
 returns c = next-after _ _ _ _ _ _ _ _ (c .before .before .before .next-possible .ensures) (c .before .if1 .taken) (c .next-possible2 .ensures)
 
--- src/lib.rt:267:1
 returns-2 : tie.Need-returns-2
 returns-2 c = next-other _ _ _ _ _ _ _ (c .before .before .next-possible .ensures) (c .if1 .left)
 

@@ -1,3 +1,4 @@
+-- `toggle_beside` meets its contract: after k turns what the first k entries change is toggled.
 use Prim.Native.Nat.{_≤_, _-_}
 use mathlib.Core.Path.{_≡_, sym, ap, _∙_}
 use native.Mathlib.Omega.{arith}
@@ -11,9 +12,6 @@ use Rattle.rows.specs.Given.{length-entries, entry-at, entry-fine, entry
 use Rattle.rows.specs.Change.{movedBoth, stays, besideFeatures}
 use Rattle.rows.proofs.toggle_beside.Statement.{statement}
 use Rattle.rows.proofs.toggle_beside.Tie as tie
-use Rattle.rows.proofs.toggle_beside.Reads as reads
-use Rattle.rows.proofs.toggle_beside.Lts as lts
-use Rattle.rows.proofs.toggle_moves.Reads as toggle-moves-reads
 
 abbrev Inv-loop : tie.InvT-loop
 Inv-loop sizes variables befores afters u y row₀ still k₀ row k = (k ≤ length variables) × (row ≡ toggledAll row₀ (flat k (λ i. movedBoth sizes (stays u y) (entryAt (entriesIn variables befores afters) i))))
@@ -21,58 +19,55 @@ Inv-loop sizes variables befores afters u y row₀ still k₀ row k = (k ≤ len
 abbrev μ-loop : tie.MeasureT-loop
 μ-loop sizes variables befores afters u y row₀ still k₀ row k = length variables - k
 
--- src/lib.rt:117:5
 loop-holds : tie.Need-loop-holds Inv-loop μ-loop
 loop-holds c = (omega arith, toggled-start _ _)
 
--- src/lib.rt:118:53
 mul-t10 : tie.Need-mul-t10 Inv-loop μ-loop
 mul-t10 c = omega arith
 
--- src/lib.rt:118:53
 shared-slice-read-t14 : tie.Need-shared-slice-read-t14 Inv-loop μ-loop
 shared-slice-read-t14 c = omega arith
 
--- src/lib.rt:118:75
 mul-t15 : tie.Need-mul-t15 Inv-loop μ-loop
 mul-t15 c = omega arith
 
--- src/lib.rt:118:75
 shared-slice-read-t17 : tie.Need-shared-slice-read-t17 Inv-loop μ-loop
 shared-slice-read-t17 c = omega arith
 
--- src/lib.rt:118:94
 mul-t18 : tie.Need-mul-t18 Inv-loop μ-loop
 mul-t18 c = omega arith
 
--- src/lib.rt:118:94
 shared-slice-read-t20 : tie.Need-shared-slice-read-t20 Inv-loop μ-loop
 shared-slice-read-t20 c = omega arith
 
--- src/lib.rt:118:9
 toggle-moves-requires : tie.Need-toggle-moves-requires Inv-loop μ-loop
-toggle-moves-requires c κs = let (g, r, a, b, n) = c .before .before .before .before .before .before .before .before .before .before .before .pre in (room-toggled _ _ _ _ r (c .before .before .before .before .before .loop .inv .1), (a, b, b), entry-fine g _ (c .before .before .before .before .loop-test .taken), entry-other g _ _ n (c .before .before .before .before .loop-test .taken))
+toggle-moves-requires c κs =
+    let start = c .before .before .before .before .before .before .before .before .before .before .before in
+    let at = c .before .before .before .before .before .loop in
+    let (g, r, a, b, n) = start .pre in
+    (room-toggled _ _ _ _ r (at .inv .1), (a, b, b), entry-fine g _ (c .before .before .before .before .loop-test .taken), entry-other g _ _ n (c .before .before .before .before .loop-test .taken))
 
--- src/lib.rt:119:9
 add-k : tie.Need-add-k Inv-loop μ-loop
 add-k c = omega arith
 
--- src/lib.rt:117:5
 loop-less : tie.Need-loop-less Inv-loop μ-loop
 loop-less c = omega arith
 
--- src/lib.rt:117:5
 loop-again : tie.Need-loop-again Inv-loop μ-loop
-loop-again c = (omega arith, toggled-turn _ _ _ _ _ (c .before .before .before .before .before .before .before .before .loop .inv .1) (c .before .before .toggle-moves .ensures ∙ ap (λ e. toggledAll (c .before .before .before .before .before .before .before .before .loop .row) (movedBoth (c .before .before .before .before .before .before .before .before .before .before .before .before .before .before .args .sizes .now) (stays (c .before .before .before .before .before .before .before .before .before .before .before .before .before .before .args .u) (c .before .before .before .before .before .before .before .before .before .before .before .before .before .before .args .y)) e)) (sym (entry-at (c .before .before .before .before .before .before .before .before .before .before .before .before .before .before .pre .0) _ (c .before .before .before .before .before .before .before .loop-test .taken)))))
+loop-again c =
+    let start = c .before .before .before .before .before .before .before .before .before .before .before .before .before .before in
+    let at = c .before .before .before .before .before .before .before .before .loop in
+    (omega arith, toggled-turn _ _ _ _ _ (at .inv .1) (c .before .before .toggle-moves .ensures ∙ ap (λ e. toggledAll (at .row) (movedBoth (start .args .sizes .now) (stays (start .args .u) (start .args .y)) e)) (sym (entry-at (start .pre .0) _ (c .before .before .before .before .before .before .before .loop-test .taken)))))
 
--- src/lib.rt:111:1
 same-length : tie.Need-same-length Inv-loop μ-loop
 same-length c = length-next _ _ _ (c .before .loop .inv .1)
 
--- src/lib.rt:111:1
 returns : tie.Need-returns Inv-loop μ-loop
 unfolding besideFeatures
-returns c = let e : c .before .loop .k ≡ length (c .before .before .before .before .before .before .before .args .variables .now) = omega arith in c .before .loop .inv .1 ∙ rw (e, length-entries (c .before .before .before .before .before .before .before .args .variables .now) (c .before .before .before .before .before .before .before .args .befores .now) (c .before .before .before .before .before .before .before .args .afters .now))
+returns c =
+    let start = c .before .before .before .before .before .before .before in
+    let e : c .before .loop .k ≡ length (start .args .variables .now) = omega arith in
+    c .before .loop .inv .1 ∙ rw (e, length-entries (start .args .variables .now) (start .args .befores .now) (start .args .afters .now))
 
 pub toggle-beside-spec : {M : Type 1} → statement M
 toggle-beside-spec =

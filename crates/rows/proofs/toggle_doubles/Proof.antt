@@ -1,3 +1,4 @@
+-- `toggle_doubles` meets its contract: after l turns what the first l entries change two by two is toggled.
 use Prim.Native.Nat.{_≤_, _-_}
 use mathlib.Core.Path.{_≡_, _∙_}
 use native.Mathlib.Omega.{arith}
@@ -10,9 +11,6 @@ use Rattle.rows.specs.Given.{length-entries}
 use Rattle.rows.specs.Change.{earlierFeatures, namedFeatures}
 use Rattle.rows.proofs.toggle_doubles.Statement.{statement}
 use Rattle.rows.proofs.toggle_doubles.Tie as tie
-use Rattle.rows.proofs.toggle_doubles.Reads as reads
-use Rattle.rows.proofs.toggle_doubles.Lts as lts
-use Rattle.rows.proofs.toggle_earlier.Reads as toggle-earlier-reads
 
 abbrev Inv-loop : tie.InvT-loop
 Inv-loop sizes variables befores afters row₀ l₀ row l = (l ≤ length variables) × (row ≡ toggledAll row₀ (flat l (earlierFeatures sizes (entriesIn variables befores afters))))
@@ -20,34 +18,32 @@ Inv-loop sizes variables befores afters row₀ l₀ row l = (l ≤ length variab
 abbrev μ-loop : tie.MeasureT-loop
 μ-loop sizes variables befores afters row₀ l₀ row l = length variables - l
 
--- src/lib.rt:156:5
 loop-holds : tie.Need-loop-holds Inv-loop μ-loop
 loop-holds c = (omega arith, toggled-start _ _)
 
--- src/lib.rt:157:9
 toggle-earlier-requires : tie.Need-toggle-earlier-requires Inv-loop μ-loop
-toggle-earlier-requires c κs = (c .before .before .before .before .before .before .before .before .pre .0, room-toggled _ _ _ _ (c .before .before .before .before .before .before .before .before .pre .1) (c .before .before .loop .inv .1), c .before .loop-test .taken)
+toggle-earlier-requires c κs =
+    let start = c .before .before .before .before .before .before .before .before in
+    (start .pre .0, room-toggled _ _ _ _ (start .pre .1) (c .before .before .loop .inv .1), c .before .loop-test .taken)
 
--- src/lib.rt:158:9
 add-l : tie.Need-add-l Inv-loop μ-loop
 add-l c = omega arith
 
--- src/lib.rt:156:5
 loop-less : tie.Need-loop-less Inv-loop μ-loop
 loop-less c = omega arith
 
--- src/lib.rt:156:5
 loop-again : tie.Need-loop-again Inv-loop μ-loop
 loop-again c = (omega arith, toggled-turn _ _ _ _ _ (c .before .before .before .before .before .loop .inv .1) (c .before .before .toggle-earlier .ensures))
 
--- src/lib.rt:151:1
 same-length : tie.Need-same-length Inv-loop μ-loop
 same-length c = length-next _ _ _ (c .before .loop .inv .1)
 
--- src/lib.rt:151:1
 returns : tie.Need-returns Inv-loop μ-loop
 unfolding namedFeatures
-returns c = let e : c .before .loop .l ≡ length (c .before .before .before .before .before .before .before .args .variables .now) = omega arith in c .before .loop .inv .1 ∙ rw (e, length-entries (c .before .before .before .before .before .before .before .args .variables .now) (c .before .before .before .before .before .before .before .args .befores .now) (c .before .before .before .before .before .before .before .args .afters .now))
+returns c =
+    let start = c .before .before .before .before .before .before .before in
+    let e : c .before .loop .l ≡ length (start .args .variables .now) = omega arith in
+    c .before .loop .inv .1 ∙ rw (e, length-entries (start .args .variables .now) (start .args .befores .now) (start .args .afters .now))
 
 pub toggle-doubles-spec : {M : Type 1} → statement M
 toggle-doubles-spec =

@@ -1,3 +1,4 @@
+-- `toggle_value` meets its contract: the test says whether the variable is named.
 use mathlib.Core.Path.{sym, _∙_}
 use native.Mathlib.Omega.{arith}
 use borrow.Author.Tests.{not-true, not-false}
@@ -6,37 +7,31 @@ use Rattle.rows.specs.Given.{names-listed}
 use Rattle.rows.specs.Change.{unnamedFeatures}
 use Rattle.rows.proofs.toggle_value.Statement.{statement}
 use Rattle.rows.proofs.toggle_value.Tie as tie
-use Rattle.rows.proofs.toggle_value.Reads as reads
-use Rattle.rows.proofs.toggle_value.Lts as lts
-use Rattle.rows.proofs.is_named.Reads as is-named-reads
-use Rattle.rows.proofs.toggle_beside.Reads as toggle-beside-reads
 
--- src/lib.rt:181:9
 is-named-requires : tie.Need-is-named-requires
 is-named-requires c κs = tt
 
--- src/lib.rt:182:61
 mul-toggle-beside : tie.Need-mul-toggle-beside
 mul-toggle-beside c = omega (arith, c .before .before .before .before .before .before .before .before .pre .2 .full)
 
--- src/lib.rt:182:61
 shared-slice-read-toggle-beside : tie.Need-shared-slice-read-toggle-beside
 shared-slice-read-toggle-beside c = omega (arith, c .before .before .before .before .before .before .before .before .before .pre .2 .full)
 
--- src/lib.rt:182:9
 toggle-beside-requires : tie.Need-toggle-beside-requires
-toggle-beside-requires c κs = let (g, r, s, a) = c .before .before .before .before .before .before .before .before .before .before .pre in (g, r, a, s .values _ a, sym (c .before .before .before .is-named .ensures) ∙ not-true _ (c .before .before .if1 .taken))
+toggle-beside-requires c κs =
+    let start = c .before .before .before .before .before .before .before .before .before .before in
+    let (g, r, s, a) = start .pre in
+    (g, r, a, s .values _ a, sym (c .before .before .before .is-named .ensures) ∙ not-true _ (c .before .before .if1 .taken))
 
--- src/lib.rt:177:1
 same-length : tie.Need-same-length
 same-length c = length-next _ _ _ (c .before .before .toggle-beside .ensures)
 
--- src/lib.rt:177:1
 returns : tie.Need-returns
 unfolding unnamedFeatures
-returns c = c .before .before .toggle-beside .ensures ∙ rw (names-listed (c .before .before .before .before .before .before .before .before .before .before .before .before .before .pre .0) _ ∙ sym (c .before .before .before .before .before .before .is-named .ensures) ∙ not-true _ (c .before .before .before .before .before .if1 .taken))
+returns c =
+    let start = c .before .before .before .before .before .before .before .before .before .before .before .before .before in
+    c .before .before .toggle-beside .ensures ∙ rw (names-listed (start .pre .0) _ ∙ sym (c .before .before .before .before .before .before .is-named .ensures) ∙ not-true _ (c .before .before .before .before .before .if1 .taken))
 
--- src/lib.rt:177:1
 returns-2 : tie.Need-returns-2
 unfolding unnamedFeatures
 returns-2 c = rw (names-listed (c .before .before .before .before .before .before .before .before .pre .0) _ ∙ sym (c .before .is-named .ensures) ∙ not-false _ (c .if1 .left)) (sym (toggled-none _))

@@ -1,8 +1,7 @@
 // Reads what stands before the operators of a task file into words that are laid out as the front of a workspace; and weight files.
 ghost use mathlib.Core.Path.{_≡_};
-ghost use mathlib.Core.List.{_∷_, _++_};
 ghost use Prim.Native.Nat.{_+_, _*_, _≤_};
-ghost use lib.ListN.{length, getD, take, drop, replicate};
+ghost use lib.ListN.{length, getD, replicate};
 ghost use lib.Seq.{sets};
 ghost use Rattle.meaning.specs.Limits.{wordBits, mostVariables, mostFeatures};
 ghost use Rattle.meaning.specs.File.{header as headerOf, sizesOf, valuesOf, featuresOf, featureList, judgedWeights};

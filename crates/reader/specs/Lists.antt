@@ -1,7 +1,7 @@
 -- The lists of a file as the code reads them: what is still to be read, after each turn, goes into the words as they are then.
 use Prim.Native.Nat.{ℕ, suc, _+_, _-_, _<_, _≤_}
 use mathlib.Core.Path.{_≡_, refl, _∙_}
-use mathlib.Core.List.{List, [], _∷_}
+use mathlib.Core.List.{List}
 use native.Mathlib.Omega.{arith}
 use native.Mathlib.Numerals.{add-one}
 use lib.ListN.{length, getD, set, drop, length-drop, drop-of-length-le}
@@ -17,6 +17,7 @@ use Rattle.number.specs.Laws.{sets-all}
 use Rattle.number.specs.declared.Step.{Step}
 use Rattle.words.specs.Change.{toggled}
 use Rattle.reader.specs.Answer.{written, ReadsInto, reads-same, placed, listOf, first-read, first-fault}
+use Rattle.words.specs.Toggled.{toggledAll}
 
 -- ---- sizes
 
@@ -90,11 +91,6 @@ module _ (old bytes : List ℕ) (to : ℕ) (behind : startAt (getD old 0 0) ≤ 
       (λ xs next e. sets-all old to _ xs refl (omega (arith, sizes-length, values-said bytes (sizesIn old) .gives place xs next e .known .0 .full)))
 
 -- ---- features
-
--- The words with each feature of a list toggled in turn.
-unfoldable pub toggledAll : List ℕ → List ℕ → List ℕ
-toggledAll words [] = words
-toggledAll words (f ∷ fs) = toggledAll (toggled words f) fs
 
 module _ (k i low high least : ℕ) (bytes : List ℕ) (place : ℕ) (words : List ℕ) where
   pub features-more : (f next : ℕ) → i < k → rising low high least bytes place ≡ got f next

@@ -9,7 +9,7 @@ ghost use Rattle.meaning.specs.Workspace.{sizesAt, startAt, pairsAt, slotsAt, w
 ghost use Rattle.meaning.specs.Feature.{atoms};
 ghost use Rattle.theory.specs.Contents.{sizesIn};
 ghost use Rattle.reader.specs.Answer.{written, featureWords, begun, sizedWords, ReadsInto};
-ghost use Rattle.reader.specs.Lists.{toggledAll};
+ghost use Rattle.words.specs.Toggled.{toggledAll};
 ghost use Rattle.reader.specs.Front.{statesOf, stateWords, frontOf, HeaderInto};
 ghost use Rattle.reader.specs.Pairs.{Cleared};
 use number::Number;

@@ -24,7 +24,7 @@ use Rattle.theory.specs.GridRule.{kindsOf, gridFeatures, grid-features}
 use Rattle.theory.specs.Rows.{change, sidePart, unnamedPart, fixedPart, considered-set, change-splits}
 use Rattle.theory.specs.Toggles.{xorOf, xor-join, xor-flat, toggles, toggled, Below, below-two, below-join, below-flat}
 use Rattle.theory.specs.Walk.{entryAt, turned, walk, turnedBoth, doublesOf, turned-grid, side-grid, places-rise, at-place, part-entries, fixed-entries, change-past}
-use Rattle.rows.specs.Toggled.{toggledAll, toggled-join, toggled-packed}
+use Rattle.words.specs.Toggled.{toggledAll, toggled-join, toggled-packed}
 use Rattle.rows.specs.Moves.{byGrid}
 
 -- A variable that keeps its value.

@@ -1,4 +1,3 @@
-pub mod Toggled
 pub mod Moves
 pub mod Given
 pub mod Change

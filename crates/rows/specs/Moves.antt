@@ -16,7 +16,7 @@ use Rattle.meaning.specs.Workspace.{wordsFor}
 use Rattle.theory.specs.GridRule.{turns, kindsOf, gridFeatures}
 use Rattle.numbering.specs.Sizes.{single-limit, both-limit}
 use Rattle.words.specs.Change.{toggled}
-use Rattle.rows.specs.Toggled.{toggledAll, length-next, toggled-none, toggled-one, toggled-join}
+use Rattle.words.specs.Toggled.{toggledAll, length-next, toggled-none, toggled-one, toggled-join}
 use Rattle.rows.specs.declared.Kind.{Kind as CodeKind}
 use Rattle.rows.specs.declared.Kind.the-variants.{Absent, Kept, Made, Used}
 use Rattle.rows.specs.declared.Atom.{Atom}

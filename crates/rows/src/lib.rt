@@ -16,7 +16,7 @@ ghost use Rattle.theory.specs.Possible.{entriesIn};
 ghost use Rattle.theory.specs.Rows.{change};
 ghost use Rattle.theory.specs.Walk.{walk};
 ghost use Rattle.words.specs.Next.{Next};
-ghost use Rattle.rows.specs.Toggled.{toggledAll};
+ghost use Rattle.words.specs.Toggled.{toggledAll};
 ghost use Rattle.rows.specs.Moves.{kindOf, atomOf, entryOf, AtomIn, MoveIn, Room, byGrid};
 ghost use Rattle.rows.specs.Given.{Given};
 ghost use Rattle.rows.specs.Change.{movedBoth, besideFeatures, earlierFeatures, namedFeatures, unnamedFeatures, difference};

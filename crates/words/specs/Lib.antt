@@ -5,3 +5,4 @@ pub mod Part
 pub mod Written
 pub mod Parity
 pub mod Next
+pub mod Toggled

@@ -8,7 +8,8 @@ use lib.ListN.{length}
 use Rattle.meaning.specs.File.{featuresOf}
 use Rattle.number.specs.Answers.{numberOf}
 use Rattle.reader.specs.Answer.{placed, placed-next, placed-fault}
-use Rattle.reader.specs.Lists.{toggledAll, features-more, features-fault, features-none, feature-below}
+use Rattle.words.specs.Toggled.{toggledAll}
+use Rattle.reader.specs.Lists.{features-more, features-fault, features-none, feature-below}
 use Rattle.reader.proofs.features_at.Statement.{statement}
 use Rattle.reader.proofs.features_at.Tie as tie
 

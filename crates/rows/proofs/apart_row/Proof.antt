@@ -1,7 +1,7 @@
 -- `apart_row` meets its contract: the two steps toggle the features of the difference, from words with no member on.
 use mathlib.Core.Path.{sym, _∙_}
 use native.Mathlib.Omega.{arith}
-use Rattle.rows.specs.Toggled.{length-next}
+use Rattle.words.specs.Toggled.{length-next}
 use Rattle.rows.specs.Moves.{room-none, room-toggled}
 use Rattle.rows.specs.Given.{names-listed}
 use Rattle.rows.specs.Change.{apart-packed}

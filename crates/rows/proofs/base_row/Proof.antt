@@ -1,6 +1,6 @@
 -- `base_row` meets its contract: the three steps toggle the features of the change, from words with no member on.
 use mathlib.Core.Path.{_∙_}
-use Rattle.rows.specs.Toggled.{length-next}
+use Rattle.words.specs.Toggled.{length-next}
 use Rattle.rows.specs.Moves.{room-none, room-toggled}
 use Rattle.rows.specs.Change.{change-packed}
 use Rattle.rows.proofs.base_row.Statement.{statement}

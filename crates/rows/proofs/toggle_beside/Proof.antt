@@ -6,7 +6,7 @@ use lib.ListN.{length}
 use Rattle.meaning.specs.Sets.{flat}
 use Rattle.theory.specs.Possible.{entriesIn}
 use Rattle.theory.specs.Walk.{entryAt}
-use Rattle.rows.specs.Toggled.{toggledAll, toggled-start, toggled-turn, length-next}
+use Rattle.words.specs.Toggled.{toggledAll, toggled-start, toggled-turn, length-next}
 use Rattle.rows.specs.Moves.{room-toggled}
 use Rattle.rows.specs.Given.{length-entries, entry-at, entry-fine, entry-other}
 use Rattle.rows.specs.Change.{movedBoth, stays, besideFeatures}

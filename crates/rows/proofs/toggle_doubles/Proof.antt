@@ -5,7 +5,7 @@ use native.Mathlib.Omega.{arith}
 use lib.ListN.{length}
 use Rattle.meaning.specs.Sets.{flat}
 use Rattle.theory.specs.Possible.{entriesIn}
-use Rattle.rows.specs.Toggled.{toggledAll, toggled-start, toggled-turn, length-next}
+use Rattle.words.specs.Toggled.{toggledAll, toggled-start, toggled-turn, length-next}
 use Rattle.rows.specs.Moves.{room-toggled}
 use Rattle.rows.specs.Given.{length-entries}
 use Rattle.rows.specs.Change.{earlierFeatures, namedFeatures}

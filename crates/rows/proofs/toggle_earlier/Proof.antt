@@ -6,7 +6,7 @@ use native.Mathlib.Nat.{ne-of-lt}
 use Rattle.meaning.specs.Sets.{flat}
 use Rattle.theory.specs.Possible.{entriesIn}
 use Rattle.theory.specs.Walk.{entryAt}
-use Rattle.rows.specs.Toggled.{toggledAll, toggled-start, toggled-turn, length-next}
+use Rattle.words.specs.Toggled.{toggledAll, toggled-start, toggled-turn, length-next}
 use Rattle.rows.specs.Moves.{room-toggled}
 use Rattle.rows.specs.Given.{entry-at, entry-fine, entries-rise}
 use Rattle.rows.specs.Change.{movedBoth, earlierFeatures}

@@ -8,7 +8,7 @@ use Rattle.meaning.specs.Feature.{single}
 use Rattle.theory.specs.Possible.{entriesIn}
 use Rattle.theory.specs.Walk.{entryAt, turned, walk}
 use Rattle.numbering.specs.Sizes.{limits-small}
-use Rattle.rows.specs.Toggled.{toggledAll, toggled-start, toggled-turn, toggled-two, length-next}
+use Rattle.words.specs.Toggled.{toggledAll, toggled-start, toggled-turn, toggled-two, length-next}
 use Rattle.rows.specs.Moves.{room-toggled, room-one, single-room}
 use Rattle.rows.specs.Given.{length-entries, entry-at, entry-fine}
 use Rattle.rows.proofs.toggle_singles.Statement.{statement}

@@ -2,7 +2,7 @@
 use mathlib.Core.Path.{sym, _∙_}
 use native.Mathlib.Omega.{arith}
 use borrow.Author.Tests.{not-true, not-false}
-use Rattle.rows.specs.Toggled.{toggled-none, length-next}
+use Rattle.words.specs.Toggled.{toggled-none, length-next}
 use Rattle.rows.specs.Given.{names-listed}
 use Rattle.rows.specs.Change.{unnamedFeatures}
 use Rattle.rows.proofs.toggle_value.Statement.{statement}

@@ -1,5 +1,5 @@
 -- Words with the features of a list toggled one after another, and what they hold then.
-use Prim.Native.Nat.{ℕ, _+_, _*_}
+use Prim.Native.Nat.{ℕ, suc, _+_, _*_}
 use mathlib.Core.Path.{_≡_, refl, ap, sym, _∙_}
 use mathlib.Core.Bool.{_&&_}
 use mathlib.Core.List.{List, [], _∷_, _++_, List·Memᴰ·head as here, List·Memᴰ·tail as there}
@@ -7,15 +7,17 @@ use native.Mathlib.Omega.{arith}
 use native.Mathlib.Numerals.{add-one}
 use lib.ListN.{length, replicate, length-replicate}
 use lib.Dec.{eqb, ltb}
-use borrow.Author.Tests.{ltb-false}
-use Rattle.meaning.specs.Sets.{_⊕_, flat}
+use borrow.Author.Tests.{eqb-true, ltb-false}
+use Rattle.meaning.specs.Sets.{_⊕_, flat, anyOf, listed}
+use Rattle.meaning.specs.Task.{Run}
 use Rattle.meaning.specs.Limits.{wordBits}
 use Rattle.meaning.specs.Workspace.{wordsFor, has, packed}
 use Rattle.theory.specs.Truth.{on, off, test, xor-left-comm, xor-false, xor-assoc}
 use Rattle.theory.specs.Toggles.{xorOf, toggles, Below, toggles-past}
-use Rattle.theory.specs.Words.{Words, packed-is}
+use Rattle.theory.specs.Run.{run-rest, run-outside, run-in}
+use Rattle.theory.specs.Words.{Words, packed-is, packed-cong}
 use Rattle.words.specs.Change.{toggled, length-toggled, words-toggled, has-toggled}
 use Rattle.words.specs.Part.{has-none, words-none}
 
 unfoldable pub toggledAll : List ℕ → List ℕ → List ℕ
 toggledAll row [] = row
@@ -47,7 +49,7 @@ pub toggled-turn : (row now next : List ℕ) (k : ℕ) (g : ℕ → List ℕ) �
 unfolding flat
 toggled-turn row now next k g e h = h ∙ rw (e, add-one) (sym (toggled-join row (flat k g) (g k)))
 
-length-all : (row l : List ℕ) → length (toggledAll row l) ≡ length row
+pub length-all : (row l : List ℕ) → length (toggledAll row l) ≡ length row
 unfolding toggledAll
 length-all row [] = refl
 length-all row (f ∷ l) = length-all (toggled row f) l ∙ length-toggled row f
@@ -55,12 +57,12 @@ length-all row (f ∷ l) = length-all (toggled row f) l ∙ length-toggled row f
 pub length-next : (row next l : List ℕ) → next ≡ toggledAll row l → length next ≡ length row
 length-next row next l e = ap length e ∙ length-all row l
 
-words-all : (row l : List ℕ) → Words row → Words (toggledAll row l)
+pub words-all : (row l : List ℕ) → Words row → Words (toggledAll row l)
 unfolding toggledAll
 words-all row [] w = w
 words-all row (f ∷ l) w = words-all (toggled row f) l (words-toggled row f w)
 
-has-all : (row l : List ℕ) (g : ℕ) → Below (wordBits * length row) l → has (toggledAll row l) g ≡ toggles l g ⊕ has row g
+pub has-all : (row l : List ℕ) (g : ℕ) → Below (wordBits * length row) l → has (toggledAll row l) g ≡ toggles l g ⊕ has row g
 unfolding toggledAll toggles xorOf
 has-all row [] g h = refl
 has-all row (f ∷ l) g h =
@@ -75,3 +77,16 @@ toggled-packed n l below = sym (packed-is n (toggles l) _ (length-all _ l ∙ le
       | on e ↦ rw e refl
       | off e ↦ rw e (toggles-past n l f below (ltb-false f n e))
     ])
+
+-- Of a list that increases each number is toggled once, so its members are what is toggled.
+pub run-toggles : (low high : ℕ) (l : List ℕ) (f : ℕ) → Run low l high → toggles l f ≡ listed l f
+unfolding toggles xorOf listed anyOf
+run-toggles low high [] f run = refl
+run-toggles low high (x ∷ l) f run = elim (test (eqb f x)) [
+  | on e ↦ rw (e, run-toggles (suc x) high l f (run-rest low high x l run), run-outside (suc x) high l f (run-rest low high x l run) (λ a b. let q : f ≡ x = eqb-true f x e in omega arith))
+  | off e ↦ rw e (run-toggles (suc x) high l f (run-rest low high x l run))
+]
+
+-- Such a list in words with no member makes the words of its set.
+pub run-packed : (low n : ℕ) (l : List ℕ) → Run low l n → toggledAll (replicate (wordsFor n) 0) l ≡ packed n (listed l)
+run-packed low n l run = toggled-packed n l (λ m i. run-in low n l m run i .1) ∙ packed-cong n (toggles l) (listed l) (λ f h. run-toggles low n l f run)

@@ -1,0 +1,257 @@
+// One operator's condition: whether weights allow it, and its rows inserted into a workspace's slots. The difference of two states.
+use rows::Place;
+ghost use mathlib.Core.Path.{_≡_};
+ghost use mathlib.Core.Bool.{true, false};
+ghost use Prim.Native.Nat.{ℕ, _*_, _<_, _≤_};
+ghost use lib.ListN.{length, replicate};
+ghost use Rattle.meaning.specs.Sets.{Set};
+ghost use Rattle.meaning.specs.Limits.{wordBits};
+ghost use Rattle.meaning.specs.Task.{State, applies, size};
+ghost use Rattle.meaning.specs.Feature.{atoms, features};
+ghost use Rattle.meaning.specs.File.{InLimits};
+ghost use Rattle.meaning.specs.Pair.{idle};
+ghost use Rattle.meaning.specs.Workspace.{wordsFor, has, packed};
+ghost use Rattle.theory.specs.Possible.{entriesIn};
+ghost use Rattle.theory.specs.Rows.{change, base, allowed};
+ghost use Rattle.theory.specs.Finder.{difference};
+ghost use Rattle.pairs.specs.Ready.{Ready, HoldsPossible};
+ghost use Rattle.words.specs.Toggled.{toggledAll};
+ghost use Rattle.rows.specs.Moves.{Room};
+ghost use Rattle.rows.specs.Given.{Given};
+ghost use Rattle.rows.specs.Apart.{wantedBy, wantedFrom, placesFrom};
+ghost use Rattle.condition.specs.Ends.{trueAtoms, truePairsOf, truePairs, trueFeatures};
+ghost use Rattle.condition.specs.Walk.{Prepared, rowAt, rowsBy, allEven};
+
+// As many words as the most features take, and a place for each variable.
+const MOST_WORDS: usize = 64;
+
+const MOST_VARIABLES: usize = 64;
+
+// Toggles the atoms of a state.
+fn toggle_atoms(sizes: &[u64], state: &[u64], row: &mut [u64])
+    requires { ⌜ Room (now sizes) (now row) × State (now sizes) (now state) ⌝ }
+    ensures { λ r. ⌜ now (row .exit) ≡ toggledAll (now (row .entry)) (trueAtoms (now (sizes .entry)) (now (state .entry))) ⌝ }
+{
+    let mut i = 0;
+    while i < sizes.len() {
+        words::toggle(row, numbering::single(sizes, i, state[i] as usize));
+        i += 1;
+    }
+}
+
+// Toggles the pairs of variable j's atom with those of the variables before it.
+fn toggle_pairs_of(sizes: &[u64], state: &[u64], j: usize, row: &mut [u64])
+    requires { ⌜ Room (now sizes) (now row) × State (now sizes) (now state) × (j < length (now sizes)) ⌝ }
+    ensures { λ r. ⌜ now (row .exit) ≡ toggledAll (now (row .entry)) (truePairsOf (now (sizes .entry)) (now (state .entry)) j) ⌝ }
+{
+    let y = state[j] as usize;
+    let mut i = 0;
+    while i < j {
+        words::toggle(row, numbering::both(sizes, i, state[i] as usize, j, y));
+        i += 1;
+    }
+}
+
+// Toggles the pairs of a state's atoms.
+fn toggle_pairs(sizes: &[u64], state: &[u64], row: &mut [u64])
+    requires { ⌜ Room (now sizes) (now row) × State (now sizes) (now state) ⌝ }
+    ensures { λ r. ⌜ now (row .exit) ≡ toggledAll (now (row .entry)) (truePairs (now (sizes .entry)) (now (state .entry))) ⌝ }
+{
+    let mut j = 0;
+    while j < sizes.len() {
+        toggle_pairs_of(sizes, state, j, row);
+        j += 1;
+    }
+}
+
+// Toggles the features that are true in a state.
+fn toggle_true(sizes: &[u64], state: &[u64], row: &mut [u64])
+    requires { ⌜ Room (now sizes) (now row) × State (now sizes) (now state) ⌝ }
+    ensures { λ r. ⌜ now (row .exit) ≡ toggledAll (now (row .entry)) (trueFeatures (now (sizes .entry)) (now (state .entry))) ⌝ }
+{
+    toggle_atoms(sizes, state, row);
+    toggle_pairs(sizes, state, row);
+}
+
+// The features that are true in one of two states and not in the other.
+pub fn fill_difference(sizes: &[u64], start: &[u64], goal: &[u64], row: &mut [u64])
+    requires { ⌜ InLimits (now sizes) × State (now sizes) (now start) × State (now sizes) (now goal) × (now row ≡ replicate (wordsFor (features (now sizes))) 0) ⌝ }
+    ensures { λ r. ⌜ now (row .exit) ≡ packed (features (now (sizes .entry))) (difference (now (sizes .entry)) (now (start .entry)) (now (goal .entry))) ⌝ }
+{
+    toggle_true(sizes, start, row);
+    toggle_true(sizes, goal, row);
+}
+
+// Makes the table of the operator's possible atoms and its base state, and says whether it is idle.
+fn prepare(
+    sizes: &[u64],
+    pairs: &[u64],
+    variables: &[usize],
+    befores: &[usize],
+    afters: &[usize],
+    possible: &mut [u64],
+    state: &mut [usize],
+) -> bool
+    requires { ⌜ Ready (now sizes) (now pairs) (now variables) (now befores) (now afters) × (atoms (now sizes) ≤ wordBits * length (now possible)) × (length (now state) ≡ length (now sizes)) ⌝ }
+    ensures { λ r. ⌜ (r ≡ idle (now (sizes .entry)) (has (now (pairs .entry))) (entriesIn (now (variables .entry)) (now (befores .entry)) (now (afters .entry))))
+        × HoldsPossible (now (sizes .entry)) (has (now (pairs .entry))) (entriesIn (now (variables .entry)) (now (befores .entry)) (now (afters .entry))) (now (possible .exit))
+        × (now (state .exit) ≡ base (now (sizes .entry)) (has (now (pairs .entry))) (entriesIn (now (variables .entry)) (now (befores .entry)) (now (afters .entry)))) ⌝ }
+{
+    pairs::fill_possible(sizes, pairs, variables, befores, afters, possible);
+    rows::fill_base(sizes, variables, befores, afters, possible, state);
+    pairs::is_idle(sizes, pairs, variables, befores, afters, possible)
+}
+
+// The first row: the change at the base state.
+fn first_row(
+    sizes: &[u64],
+    variables: &[usize],
+    befores: &[usize],
+    afters: &[usize],
+    state: &[usize],
+    row: &mut [u64],
+)
+    requires { ⌜ Given (now sizes) (now variables) (now befores) (now afters) × State (now sizes) (now state)
+        × (applies (entriesIn (now variables) (now befores) (now afters)) (now state) ≡ true) × (length (now row) ≡ wordsFor (features (now sizes))) ⌝ }
+    ensures { λ r. ⌜ now (row .exit) ≡ packed (features (now (sizes .entry))) (change (now (sizes .entry)) (entriesIn (now (variables .entry)) (now (befores .entry)) (now (afters .entry))) (now (state .entry))) ⌝ }
+{
+    words::clear(row);
+    rows::base_row(sizes, variables, befores, afters, state, row);
+}
+
+// The next row, from value y of variable u on, and its place; the row stays where there is none.
+fn next_row(
+    sizes: &[u64],
+    variables: &[usize],
+    befores: &[usize],
+    afters: &[usize],
+    possible: &[u64],
+    state: &[usize],
+    u: usize,
+    y: usize,
+    row: &mut [u64],
+) -> Place
+    requires { ⌜ ((pairs : Set) × Prepared (now sizes) pairs (now variables) (now befores) (now afters) (now possible) (now state)) × (y ≤ size (now sizes) u)
+        × (length (now row) ≡ wordsFor (features (now sizes))) ⌝ }
+    ensures { λ r. ⌜ (wantedFrom (now (sizes .entry)) (wantedBy (now (sizes .entry)) (has (now (possible .entry))) (now (state .entry))) u y
+        ≡ placesFrom (now (sizes .entry)) (wantedBy (now (sizes .entry)) (has (now (possible .entry))) (now (state .entry))) r)
+        × (now (row .exit) ≡ rowAt (now (sizes .entry)) (entriesIn (now (variables .entry)) (now (befores .entry)) (now (afters .entry))) (now (state .entry)) r (now (row .entry))) ⌝ }
+{
+    let place = rows::next_apart(sizes, possible, state, u, y);
+    match place {
+        Place::At(i, x) => {
+            words::clear(row);
+            rows::apart_row(sizes, variables, befores, afters, state, i, x, row);
+            return Place::At(i, x);
+        }
+        Place::Done => return Place::Done,
+    }
+}
+
+// Whether the weights meet each row evenly, from the first to the last.
+fn all_even(
+    sizes: &[u64],
+    variables: &[usize],
+    befores: &[usize],
+    afters: &[usize],
+    possible: &[u64],
+    state: &[usize],
+    weights: &[u64],
+    row: &mut [u64],
+) -> bool
+    requires { ⌜ ((pairs : Set) × Prepared (now sizes) pairs (now variables) (now befores) (now afters) (now possible) (now state))
+        × (length (now weights) ≡ wordsFor (features (now sizes))) × ((f : ℕ) → features (now sizes) ≤ f → has (now weights) f ≡ false)
+        × (length (now row) ≡ wordsFor (features (now sizes))) ⌝ }
+    ensures { λ r. ⌜ r ≡ allEven (features (now (sizes .entry))) (has (now (weights .entry)))
+        (rowsBy (now (sizes .entry)) (entriesIn (now (variables .entry)) (now (befores .entry)) (now (afters .entry))) (now (possible .entry)) (now (state .entry))) ⌝ }
+{
+    first_row(sizes, variables, befores, afters, state, row);
+    let mut u = 0;
+    let mut y = 0;
+    loop {
+        if words::odd_shared(weights, row) {
+            return false;
+        }
+        let place = next_row(
+            sizes,
+            variables,
+            befores,
+            afters,
+            possible,
+            state,
+            u,
+            y,
+            row,
+        );
+        match place {
+            Place::At(i, x) => {
+                u = i;
+                y = x + 1;
+            }
+            Place::Done => return true,
+        }
+    }
+}
+
+// Whether the weights meet the operator's rows evenly; an idle one has none. The table, the base state and the row have their room here.
+fn meets_rows(
+    sizes: &[u64],
+    pairs: &[u64],
+    variables: &[usize],
+    befores: &[usize],
+    afters: &[usize],
+    weights: &[u64],
+    possible: &mut [u64],
+    state: &mut [usize],
+    row: &mut [u64],
+) -> bool
+    requires { ⌜ Ready (now sizes) (now pairs) (now variables) (now befores) (now afters) × (length (now weights) ≡ wordsFor (features (now sizes)))
+        × ((f : ℕ) → features (now sizes) ≤ f → has (now weights) f ≡ false) × (atoms (now sizes) ≤ wordBits * length (now possible))
+        × (length (now state) ≡ length (now sizes)) × (length (now row) ≡ wordsFor (features (now sizes))) ⌝ }
+    ensures { λ r. ⌜ r ≡ allowed (now (sizes .entry)) (has (now (pairs .entry))) (has (now (weights .entry))) (entriesIn (now (variables .entry)) (now (befores .entry)) (now (afters .entry))) ⌝ }
+{
+    if prepare(sizes, pairs, variables, befores, afters, possible, state) {
+        return true;
+    }
+    all_even(
+        sizes,
+        variables,
+        befores,
+        afters,
+        possible,
+        state,
+        weights,
+        row,
+    )
+}
+
+// Whether the weights meet the operator's condition.
+pub fn is_allowed(
+    sizes: &[u64],
+    pairs: &[u64],
+    variables: &[usize],
+    befores: &[usize],
+    afters: &[usize],
+    weights: &[u64],
+) -> bool
+    requires { ⌜ Ready (now sizes) (now pairs) (now variables) (now befores) (now afters) × (length (now weights) ≡ wordsFor (features (now sizes)))
+        × ((f : ℕ) → features (now sizes) ≤ f → has (now weights) f ≡ false) ⌝ }
+    ensures { λ r. ⌜ r ≡ allowed (now (sizes .entry)) (has (now (pairs .entry))) (has (now (weights .entry))) (entriesIn (now (variables .entry)) (now (befores .entry)) (now (afters .entry))) ⌝ }
+{
+    let v = sizes.len();
+    let w = weights.len();
+    let mut possible = [0u64; MOST_WORDS];
+    let mut state = [0usize; MOST_VARIABLES];
+    let mut row = [0u64; MOST_WORDS];
+    meets_rows(
+        sizes,
+        pairs,
+        variables,
+        befores,
+        afters,
+        weights,
+        &mut possible[..w],
+        &mut state[..v],
+        &mut row[..w],
+    )
+}

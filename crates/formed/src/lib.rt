@@ -1,0 +1,162 @@
+// Whether any slice of words is a well formed workspace, part by part in the order of its words.
+ghost use mathlib.Core.Path.{_≡_};
+ghost use Prim.Native.Nat.{_≤_};
+ghost use lib.ListN.{length};
+ghost use Rattle.meaning.specs.Limits.{mostFeatures};
+ghost use Rattle.meaning.specs.Task.{State};
+ghost use Rattle.meaning.specs.Workspace.{has, wordsFor, Proper, WellFormed};
+ghost use Rattle.theory.specs.Tells.{Tells};
+ghost use Rattle.formed.specs.Tests.{EachSize, Within};
+ghost use Rattle.formed.specs.Parts.{contentFrom, Cut, Sized};
+ghost use Rattle.formed.specs.Formed.{FormedIs};
+use words::WORD_BITS;
+
+// Whether words are a well formed workspace, and how many variables and features it has then.
+pub enum Formed {
+    Yes { variables: usize, features: usize },
+    No,
+}
+
+// "v 1 to 64"
+const LEAST_VARIABLES: u64 = 1;
+
+const MOST_VARIABLES: u64 = 64;
+
+// "d 1 to 64"
+const LEAST_SIZE: u64 = 1;
+
+const MOST_SIZE: u64 = 64;
+
+// "N at most 4,096"
+const MOST_FEATURES: usize = 4096;
+
+// Where the sizes begin.
+const SIZES_AT: usize = 1;
+
+// Whether each size is within its limits.
+fn are_sizes(sizes: &[u64]) -> bool
+    ensures { λ r. ⌜ Tells r (EachSize (now (sizes .entry)) (length (now (sizes .entry)))) ⌝ }
+{
+    let mut i = 0;
+    while i < sizes.len() {
+        if sizes[i] < LEAST_SIZE {
+            return false;
+        }
+        if MOST_SIZE < sizes[i] {
+            return false;
+        }
+        i += 1;
+    }
+    true
+}
+
+// Whether each value is below the size of its variable.
+fn is_state(sizes: &[u64], values: &[u64]) -> bool
+    requires { ⌜ length (now values) ≡ length (now sizes) ⌝ }
+    ensures { λ r. ⌜ Tells r (State (now (sizes .entry)) (now (values .entry))) ⌝ }
+{
+    let mut i = 0;
+    while i < sizes.len() {
+        if sizes[i] <= values[i] {
+            return false;
+        }
+        i += 1;
+    }
+    true
+}
+
+// Whether every member is at `low` or above it, and below n.
+fn are_within(words: &[u64], low: usize, n: usize) -> bool
+    requires { ⌜ (length (now words) ≡ wordsFor n) × (low ≤ n) × (n ≤ mostFeatures) ⌝ }
+    ensures { λ r. ⌜ Tells r (Within (has (now (words .entry))) low n) ⌝ }
+{
+    if words::next_member(words, 0) < low {
+        return false;
+    }
+    words::next_member(words, n) == words.len() * WORD_BITS
+}
+
+// Whether the parts of a workspace are those of a proper content, where the sizes keep their limits and each part has its length.
+fn is_proper(
+    sizes: &[u64],
+    start: &[u64],
+    goal: &[u64],
+    pairs: &[u64],
+    area: &[u64],
+    n: usize,
+) -> bool
+    requires { ⌜ Cut (now sizes) (now start) (now goal) (now pairs) (now area) n ⌝ }
+    ensures { λ r. ⌜ Tells r (Proper (contentFrom (now (sizes .entry)) (now (start .entry)) (now (goal .entry)) (now (pairs .entry)) (now (area .entry)))) ⌝ }
+{
+    if !is_state(sizes, start) {
+        return false;
+    }
+    if !is_state(sizes, goal) {
+        return false;
+    }
+    if !are_within(pairs, numbering::atoms(sizes), n) {
+        return false;
+    }
+    if pairs::holds(sizes, pairs, start) {
+        return false;
+    }
+    slots::is_reduced(area, n)
+}
+
+// Whether words that begin with v sizes within their limits, of n features, are a well formed workspace.
+fn is_formed(workspace: &[u64], v: usize, n: usize) -> bool
+    requires { ⌜ Sized (now workspace) v n ⌝ }
+    ensures { λ r. ⌜ Tells r (WellFormed (now (workspace .entry))) ⌝ }
+{
+    let w = (n + (WORD_BITS - 1)) / WORD_BITS;
+    let start = SIZES_AT + v;
+    let goal = start + v;
+    let pairs = goal + v;
+    let slots = pairs + w;
+    let end = slots + n * w;
+    if workspace.len() < end {
+        return false;
+    }
+    is_proper(
+        &workspace[SIZES_AT..start],
+        &workspace[start..goal],
+        &workspace[goal..pairs],
+        &workspace[pairs..slots],
+        &workspace[slots..end],
+        n,
+    )
+}
+
+// Whether words are a well formed workspace. Any words are taken.
+pub fn well_formed(workspace: &[u64]) -> Formed
+    ensures { λ r. ⌜ FormedIs (now (workspace .entry)) r ⌝ }
+{
+    if workspace.len() == 0 {
+        return Formed::No;
+    }
+    if workspace[0] < LEAST_VARIABLES {
+        return Formed::No;
+    }
+    if MOST_VARIABLES < workspace[0] {
+        return Formed::No;
+    }
+    let v = workspace[0] as usize;
+    let start = SIZES_AT + v;
+    if workspace.len() < start {
+        return Formed::No;
+    }
+    if !are_sizes(&workspace[SIZES_AT..start]) {
+        return Formed::No;
+    }
+    let n = numbering::features(&workspace[SIZES_AT..start]);
+    if MOST_FEATURES < n {
+        return Formed::No;
+    }
+    if !is_formed(workspace, v, n) {
+        return Formed::No;
+    }
+    Formed::Yes {
+        variables: v,
+        features: n,
+    }
+}

@@ -1,0 +1,143 @@
+//! Faults to plant, one at a time.
+
+use std::cell::Cell;
+
+/// A fault that the comparison has to find.
+#[derive(Clone, Copy, Debug, PartialEq, Eq)]
+pub enum Fault {
+    Nothing,
+    /// The checker takes weights although the ends are alike.
+    AcceptsAlike,
+    /// The checker's place leaves idle operators out.
+    CountsLiveOperators,
+    /// The checker reports the last operator that breaks.
+    LastOperator,
+    /// The checker reads the weights before it has judged the task.
+    WeightsFirst,
+    /// Left-over bytes of a task file are let pass.
+    LeftOverPasses,
+    /// An opening writes one word past what is due.
+    WritesPastDue,
+    /// A refused opening clears the room.
+    SpoilsRefused,
+    /// Slots may contain other slots' indices.
+    UnreducedSlots,
+    /// An idle operator's conditions count.
+    CountsIdle,
+    /// All values of unnamed variables count as possible.
+    AllPossible,
+    /// Only one considered state of each operator counts.
+    OneState,
+    /// The finder's answer separates but isn't the least.
+    NotLeast,
+    /// The answer "none" clears the room.
+    NoneClears,
+    /// Too little room goes unseen where the answer is "none".
+    NoneWithoutRoom,
+    /// An operator edit says that it is done and does nothing.
+    IdleEdit,
+    /// Places past an operator record's count are judged too.
+    JudgesPastCount,
+    /// A new start may hold a listed pair.
+    StartHoldsPair,
+    /// A new goal must not hold a listed pair.
+    GoalHoldsNoPair,
+    /// A refused start is written all the same.
+    RefusedStartStays,
+    /// Slots one apart are neighbours across the end of a row.
+    NeighboursAcrossRows,
+    /// A bay's room is judged before its labels.
+    RoomBeforeLabels,
+    /// The line has no line feed.
+    NoLineFeed,
+    /// The program's limit of features is judged before the pairs.
+    FeaturesBeforePairs,
+    /// One byte more than the program's limit is let pass.
+    OneByteMore,
+    /// Unused bits of a workspace go unseen.
+    UnusedBitsPass,
+    /// Single atoms pass as listed pairs of a workspace.
+    SinglesPass,
+    /// The start of a workspace may hold a listed pair.
+    HeldPairsPass,
+    /// Slots of a workspace that contain each other's indices go unseen.
+    UnreducedPass,
+    /// An operator is judged from its named variables only.
+    NamedOnly,
+    /// An after atom excuses the very pair that it is in.
+    AfterExcuses,
+    /// States with two paired unnamed values don't count.
+    PairedStatesLeftOut,
+    /// Numbers in longer forms are let pass.
+    LongForms,
+    /// A word outside the lent room is written.
+    WritesOutside,
+    /// A byte of a lent input is written.
+    WritesInput,
+}
+
+use Fault::*;
+
+pub const FAULTS: [Fault; 34] = [
+    AcceptsAlike,
+    CountsLiveOperators,
+    LastOperator,
+    WeightsFirst,
+    LeftOverPasses,
+    WritesPastDue,
+    SpoilsRefused,
+    UnreducedSlots,
+    CountsIdle,
+    AllPossible,
+    OneState,
+    NotLeast,
+    NoneClears,
+    NoneWithoutRoom,
+    IdleEdit,
+    JudgesPastCount,
+    StartHoldsPair,
+    GoalHoldsNoPair,
+    RefusedStartStays,
+    NeighboursAcrossRows,
+    RoomBeforeLabels,
+    NoLineFeed,
+    FeaturesBeforePairs,
+    OneByteMore,
+    UnusedBitsPass,
+    WritesOutside,
+    WritesInput,
+    SinglesPass,
+    HeldPairsPass,
+    UnreducedPass,
+    NamedOnly,
+    AfterExcuses,
+    PairedStatesLeftOut,
+    LongForms,
+];
+
+thread_local! {
+    // Tests run side by side, each with a fault of its own.
+    static PLANTED: Cell<Fault> = const { Cell::new(Nothing) };
+}
+
+pub fn plant(fault: Fault) {
+    PLANTED.set(fault);
+}
+
+/// Plants the fault whose name is in FLORUMEJA_FAULT.
+pub fn plant_from_environment() {
+    let Ok(name) = std::env::var("FLORUMEJA_FAULT") else {
+        return;
+    };
+    let named = FAULTS.iter().find(|fault| format!("{fault:?}") == name);
+    plant(*named.expect("FLORUMEJA_FAULT names a fault"));
+}
+
+pub fn planted(fault: Fault) -> bool {
+    PLANTED.get() == fault
+}
+
+/// The fault planted in this thread.
+pub fn planted_fault() -> Fault {
+    PLANTED.get()
+}

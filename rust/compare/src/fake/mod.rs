@@ -1,0 +1,146 @@
+//! Stands in for the library: the same functions over the reference, with faults to plant.
+
+mod faults;
+mod files;
+mod words;
+mod written;
+
+pub use faults::plant_from_environment;
+#[cfg(test)]
+pub use faults::{plant, Fault, FAULTS};
+
+use faults::{planted, Fault::*};
+use files::{check, open};
+use reference::workspace::Record;
+use words::{add_operator, find, replace_goal, replace_start};
+use written::{build, print};
+
+/// Refused 8.
+const NO_ROOM: u64 = (3 << 32) + 8;
+
+/// A lent slice.
+///
+/// # Safety
+/// The pointer leads to so many items that nobody writes meanwhile.
+unsafe fn lent<'a, Item>(pointer: *const Item, length: usize) -> &'a [Item] {
+    std::slice::from_raw_parts(pointer, length)
+}
+
+/// A slice lent for writing.
+///
+/// # Safety
+/// The pointer leads to so many items that nobody else uses meanwhile.
+unsafe fn lent_for_writing<'a, Item>(pointer: *mut Item, length: usize) -> &'a mut [Item] {
+    std::slice::from_raw_parts_mut(pointer, length)
+}
+
+#[no_mangle]
+unsafe extern "C" fn florumeja_check(
+    task: *const u8,
+    task_length: usize,
+    weights: *const u8,
+    weights_length: usize,
+) -> u64 {
+    let result = check(lent(task, task_length), lent(weights, weights_length));
+    if planted(WritesInput) && task_length > 0 {
+        task.cast_mut().write_volatile(0);
+    }
+    result
+}
+
+#[no_mangle]
+unsafe extern "C" fn florumeja_open(
+    task: *const u8,
+    task_length: usize,
+    room: *mut u64,
+    room_length: usize,
+) -> u64 {
+    open(lent(task, task_length), lent_for_writing(room, room_length))
+}
+
+#[no_mangle]
+unsafe extern "C" fn florumeja_find(
+    workspace: *const u64,
+    workspace_length: usize,
+    room: *mut u64,
+    room_length: usize,
+) -> u64 {
+    let result = find(
+        lent(workspace, workspace_length),
+        lent_for_writing(room, room_length),
+    );
+    if planted(WritesOutside) {
+        room.add(room_length).write_volatile(0);
+    }
+    result
+}
+
+#[no_mangle]
+unsafe extern "C" fn florumeja_add_operator(
+    workspace: *mut u64,
+    workspace_length: usize,
+    count: u64,
+    variables: *const u64,
+    variables_length: usize,
+    befores: *const u64,
+    befores_length: usize,
+    afters: *const u64,
+    afters_length: usize,
+) -> u64 {
+    let record = Record {
+        count,
+        variables: lent(variables, variables_length).to_vec(),
+        befores: lent(befores, befores_length).to_vec(),
+        afters: lent(afters, afters_length).to_vec(),
+    };
+    add_operator(lent_for_writing(workspace, workspace_length), &record)
+}
+
+#[no_mangle]
+unsafe extern "C" fn florumeja_replace_start(
+    workspace: *mut u64,
+    workspace_length: usize,
+    values: *const u64,
+    values_length: usize,
+) -> u64 {
+    replace_start(
+        lent_for_writing(workspace, workspace_length),
+        lent(values, values_length),
+    )
+}
+
+#[no_mangle]
+unsafe extern "C" fn florumeja_replace_goal(
+    workspace: *mut u64,
+    workspace_length: usize,
+    values: *const u64,
+    values_length: usize,
+) -> u64 {
+    replace_goal(
+        lent_for_writing(workspace, workspace_length),
+        lent(values, values_length),
+    )
+}
+
+#[no_mangle]
+unsafe extern "C" fn florumeja_build(
+    bay: *const u8,
+    bay_length: usize,
+    room: *mut u8,
+    room_length: usize,
+) -> u64 {
+    build(lent(bay, bay_length), lent_for_writing(room, room_length))
+}
+
+#[no_mangle]
+unsafe extern "C" fn florumeja_line(
+    input: *const u8,
+    input_length: usize,
+    room: *mut u8,
+    room_length: usize,
+) -> u64 {
+    print(
+        lent(input, input_length),
+        lent_for_writing(room, room_length),
+    )
+}

@@ -1,0 +1,66 @@
+//! The bay builder and the program's line with faults.
+
+use super::faults::{planted, Fault::*};
+use super::NO_ROOM;
+use reference::bay::{read_bay, Bay};
+use reference::calls::{self, done, refused};
+use reference::features::count_features;
+use reference::line;
+use reference::refusal::Refusal;
+
+pub fn build(bay: &[u8], room: &mut [u8]) -> u64 {
+    let result = calls::build(bay, room);
+    if planted(RoomBeforeLabels) && result == refused(Refusal::Labels) && room.len() < 25 {
+        return refused(Refusal::Room);
+    }
+    match read_bay(bay) {
+        Ok(bay) if planted(NeighboursAcrossRows) && result <= u64::from(u32::MAX) => {
+            build_across_rows(&bay, room)
+        }
+        _ => result,
+    }
+}
+
+/// The task of a bay whose rows are put end to end, with the file's other parts as they were.
+fn build_across_rows(bay: &Bay, room: &mut [u8]) -> u64 {
+    let line = Bay {
+        rows: 1,
+        columns: bay.slots(),
+        ..bay.clone()
+    };
+    let file = line.task().file();
+    let length = file.len().min(room.len());
+    room[..length].copy_from_slice(&file[..length]);
+    done(length)
+}
+
+fn faulty_line(input: &[u8]) -> String {
+    if planted(OneByteMore) && input.len() == line::MOST_BYTES + 1 {
+        return line::line(&input[..line::MOST_BYTES]);
+    }
+    let text = line::line(input);
+    let pairs_at_fault = ["refused 6\n", "refused 7\n"].contains(&text.as_str());
+    let wide = || {
+        let sizes: Vec<usize> = input[1..=input[0] as usize]
+            .iter()
+            .map(|size| usize::from(*size))
+            .collect();
+        count_features(&sizes) > line::MOST_FEATURES
+    };
+    if planted(FeaturesBeforePairs) && pairs_at_fault && wide() {
+        return "refused 8\n".to_string();
+    }
+    if planted(NoLineFeed) {
+        return text.trim_end().to_string();
+    }
+    text
+}
+
+pub fn print(input: &[u8], room: &mut [u8]) -> u64 {
+    let text = faulty_line(input);
+    if room.len() < text.len() {
+        return NO_ROOM;
+    }
+    room[..text.len()].copy_from_slice(text.as_bytes());
+    done(text.len())
+}

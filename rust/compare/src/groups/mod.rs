@@ -1,0 +1,168 @@
+//! Groups of random inputs, with the number of cases that each one runs.
+
+mod bays;
+mod edits;
+mod files;
+mod large;
+mod lines;
+mod words;
+
+use crate::both::Both;
+use reference::sample::tasks::{Scale, MEDIUM, SMALL, TINY, WORD_EDGES};
+use reference::sample::{tasks, Generator};
+use reference::task::Task;
+
+/// A kind of case, run so many times with seeds of its own.
+pub struct Group {
+    pub name: &'static str,
+    pub cases: usize,
+    pub run: fn(&mut Both, &mut Generator),
+}
+
+/// The counts make an optimised run take about a minute and a half.
+pub const GROUPS: [Group; 18] = [
+    Group {
+        name: "weights",
+        cases: 40_000,
+        run: files::weights,
+    },
+    Group {
+        name: "damaged-weights",
+        cases: 40_000,
+        run: files::damaged_weights,
+    },
+    Group {
+        name: "damaged-tasks",
+        cases: 100_000,
+        run: files::damaged_tasks,
+    },
+    Group {
+        name: "unclosed-tasks",
+        cases: 50_000,
+        run: files::unclosed_tasks,
+    },
+    Group {
+        name: "openings",
+        cases: 30_000,
+        run: files::openings,
+    },
+    Group {
+        name: "foreign-words",
+        cases: 30_000,
+        run: words::foreign,
+    },
+    Group {
+        name: "damaged-words",
+        cases: 60_000,
+        run: words::damaged,
+    },
+    Group {
+        name: "edits",
+        cases: 20_000,
+        run: edits::opened,
+    },
+    Group {
+        name: "foreign-edits",
+        cases: 20_000,
+        run: edits::foreign,
+    },
+    Group {
+        name: "bays",
+        cases: 4_000,
+        run: bays::built,
+    },
+    Group {
+        name: "damaged-bays",
+        cases: 80_000,
+        run: bays::damaged,
+    },
+    Group {
+        name: "small-bays",
+        cases: 300,
+        run: bays::solved,
+    },
+    Group {
+        name: "lines",
+        cases: 30_000,
+        run: lines::lines,
+    },
+    Group {
+        name: "limits-of-lines",
+        cases: 1_000,
+        run: lines::limits,
+    },
+    Group {
+        name: "many-operators",
+        cases: 1_000,
+        run: large::many_operators,
+    },
+    Group {
+        name: "wide",
+        cases: 100,
+        run: large::wide,
+    },
+    Group {
+        name: "large",
+        cases: 80,
+        run: large::large,
+    },
+    Group {
+        name: "nine-slots",
+        cases: 8,
+        run: large::nine_slots,
+    },
+];
+
+/// Mostly tiny and small tasks, some of several words.
+fn scale(generator: &mut Generator) -> Scale {
+    match generator.below(10) {
+        0..=3 => TINY,
+        4..=8 => SMALL,
+        _ => MEDIUM,
+    }
+}
+
+/// Sizes of some scale, now and then at the edges of words.
+fn some_sizes(generator: &mut Generator) -> Vec<usize> {
+    if generator.once_in(20) {
+        return generator.choose(&WORD_EDGES).to_vec();
+    }
+    let scale = scale(generator);
+    tasks::sizes(generator, scale)
+}
+
+/// An accepted task.
+fn task(generator: &mut Generator) -> Task {
+    let sizes = some_sizes(generator);
+    let most_operators = generator.choose(&[4, 10, 16]);
+    tasks::accepted_task(generator, &sizes, most_operators)
+}
+
+/// A length of lent room: too small, exact or larger.
+fn room_length(generator: &mut Generator, due: usize) -> usize {
+    match generator.below(8) {
+        0 => 0,
+        1 => due - 1,
+        2 => generator.below(due),
+        3 | 4 => due,
+        5 => due + 1,
+        _ => due + generator.below(20),
+    }
+}
+
+/// Room with junk in it.
+fn room(generator: &mut Generator, due: usize) -> Vec<u64> {
+    let length = room_length(generator, due);
+    generator.words(length)
+}
+
+/// Room that is large enough, with junk in it.
+fn ample_room(generator: &mut Generator, due: usize) -> Vec<u64> {
+    let more = generator.below(4);
+    generator.words(due + more)
+}
+
+fn byte_room(generator: &mut Generator, due: usize) -> Vec<u8> {
+    let length = room_length(generator, due);
+    generator.bytes(length)
+}

@@ -1,0 +1,163 @@
+//! The library's functions as they are exported, and safe wrappers over them.
+
+use crate::lent::Lent;
+
+// In C a slice is a pointer and then a length.
+extern "C" {
+    fn florumeja_check(
+        task: *const u8,
+        task_length: usize,
+        weights: *const u8,
+        weights_length: usize,
+    ) -> u64;
+    fn florumeja_open(
+        task: *const u8,
+        task_length: usize,
+        room: *mut u64,
+        room_length: usize,
+    ) -> u64;
+    fn florumeja_find(
+        workspace: *const u64,
+        workspace_length: usize,
+        room: *mut u64,
+        room_length: usize,
+    ) -> u64;
+    fn florumeja_add_operator(
+        workspace: *mut u64,
+        workspace_length: usize,
+        count: u64,
+        variables: *const u64,
+        variables_length: usize,
+        befores: *const u64,
+        befores_length: usize,
+        afters: *const u64,
+        afters_length: usize,
+    ) -> u64;
+    fn florumeja_replace_start(
+        workspace: *mut u64,
+        workspace_length: usize,
+        values: *const u64,
+        values_length: usize,
+    ) -> u64;
+    fn florumeja_replace_goal(
+        workspace: *mut u64,
+        workspace_length: usize,
+        values: *const u64,
+        values_length: usize,
+    ) -> u64;
+    fn florumeja_build(bay: *const u8, bay_length: usize, room: *mut u8, room_length: usize)
+        -> u64;
+    fn florumeja_line(
+        input: *const u8,
+        input_length: usize,
+        room: *mut u8,
+        room_length: usize,
+    ) -> u64;
+}
+
+pub fn check(task: &Lent<u8>, weights: &Lent<u8>) -> u64 {
+    // SAFETY: both slices are alive, and the call only reads them.
+    unsafe {
+        florumeja_check(
+            task.pointer(),
+            task.length(),
+            weights.pointer(),
+            weights.length(),
+        )
+    }
+}
+
+pub fn open(task: &Lent<u8>, room: &mut Lent<u64>) -> u64 {
+    // SAFETY: both slices are alive and apart; only the room is lent for writing.
+    unsafe {
+        florumeja_open(
+            task.pointer(),
+            task.length(),
+            room.pointer_for_writing(),
+            room.length(),
+        )
+    }
+}
+
+pub fn find(workspace: &Lent<u64>, room: &mut Lent<u64>) -> u64 {
+    // SAFETY: both slices are alive and apart; only the room is lent for writing.
+    unsafe {
+        florumeja_find(
+            workspace.pointer(),
+            workspace.length(),
+            room.pointer_for_writing(),
+            room.length(),
+        )
+    }
+}
+
+pub fn add_operator(
+    workspace: &mut Lent<u64>,
+    count: u64,
+    variables: &Lent<u64>,
+    befores: &Lent<u64>,
+    afters: &Lent<u64>,
+) -> u64 {
+    // SAFETY: all slices are alive and apart; only the workspace is lent for writing.
+    unsafe {
+        florumeja_add_operator(
+            workspace.pointer_for_writing(),
+            workspace.length(),
+            count,
+            variables.pointer(),
+            variables.length(),
+            befores.pointer(),
+            befores.length(),
+            afters.pointer(),
+            afters.length(),
+        )
+    }
+}
+
+pub fn replace_start(workspace: &mut Lent<u64>, values: &Lent<u64>) -> u64 {
+    // SAFETY: both slices are alive and apart; only the workspace is lent for writing.
+    unsafe {
+        florumeja_replace_start(
+            workspace.pointer_for_writing(),
+            workspace.length(),
+            values.pointer(),
+            values.length(),
+        )
+    }
+}
+
+pub fn replace_goal(workspace: &mut Lent<u64>, values: &Lent<u64>) -> u64 {
+    // SAFETY: both slices are alive and apart; only the workspace is lent for writing.
+    unsafe {
+        florumeja_replace_goal(
+            workspace.pointer_for_writing(),
+            workspace.length(),
+            values.pointer(),
+            values.length(),
+        )
+    }
+}
+
+pub fn build(bay: &Lent<u8>, room: &mut Lent<u8>) -> u64 {
+    // SAFETY: both slices are alive and apart; only the room is lent for writing.
+    unsafe {
+        florumeja_build(
+            bay.pointer(),
+            bay.length(),
+            room.pointer_for_writing(),
+            room.length(),
+        )
+    }
+}
+
+pub fn line(input: &Lent<u8>, room: &mut Lent<u8>) -> u64 {
+    // SAFETY: both slices are alive and apart; only the room is lent for writing.
+    unsafe {
+        florumeja_line(
+            input.pointer(),
+            input.length(),
+            room.pointer_for_writing(),
+            room.length(),
+        )
+    }
+}

@@ -1,0 +1,117 @@
+//! Compares every call of the proved library with the reference on many random inputs.
+//!
+//! `compare` runs all cases, `compare quick` a twentieth, `compare trace` shows each seed before
+//! its case, and `compare GROUP SEED` runs one case again.
+
+mod both;
+#[cfg(feature = "selftest")]
+mod fake;
+mod groups;
+mod lent;
+mod library;
+mod run;
+mod tally;
+
+use groups::{Group, GROUPS};
+use run::{run_all, run_case, Plan, FIRST_SEED};
+use std::process::ExitCode;
+use tally::Tally;
+
+/// What the arguments ask for.
+enum Wish {
+    All(Plan),
+    One(&'static Group, u64),
+}
+
+const WHOLE: Plan = Plan {
+    share: 1,
+    trace: false,
+    stop: false,
+};
+
+fn hexadecimal(text: &str) -> Option<u64> {
+    u64::from_str_radix(text.strip_prefix("0x")?, 16).ok()
+}
+
+fn wish(arguments: &[String]) -> Option<Wish> {
+    let words: Vec<&str> = arguments.iter().map(String::as_str).collect();
+    match words[..] {
+        [] => Some(Wish::All(WHOLE)),
+        ["quick"] => Some(Wish::All(Plan { share: 20, ..WHOLE })),
+        ["trace"] => Some(Wish::All(Plan {
+            trace: true,
+            ..WHOLE
+        })),
+        [name, seed] => {
+            let group = GROUPS.iter().find(|group| group.name == name)?;
+            Some(Wish::One(group, hexadecimal(seed)?))
+        }
+        _ => None,
+    }
+}
+
+fn main() -> ExitCode {
+    let arguments: Vec<String> = std::env::args().skip(1).collect();
+    let Some(wish) = wish(&arguments) else {
+        eprintln!("compare [quick | trace | GROUP SEED]");
+        return ExitCode::from(2);
+    };
+    #[cfg(feature = "selftest")]
+    fake::plant_from_environment();
+    let mut tally = Tally::default();
+    match wish {
+        Wish::All(plan) => {
+            println!("seeds from {FIRST_SEED:#018x}");
+            run_all(&mut tally, plan);
+        }
+        Wish::One(group, seed) => run_case(&mut tally, group, seed),
+    }
+    tally.report();
+    if tally.failed() == 0 {
+        ExitCode::SUCCESS
+    } else {
+        ExitCode::FAILURE
+    }
+}
+
+#[cfg(all(test, feature = "selftest"))]
+mod tests {
+    use super::fake::{plant, Fault, FAULTS};
+    use super::*;
+
+    fn silent() -> Tally {
+        let mut tally = Tally::default();
+        tally.silent = true;
+        tally
+    }
+
+    #[test]
+    fn no_difference_without_a_fault() {
+        let mut tally = silent();
+        run_all(&mut tally, Plan { share: 50, ..WHOLE });
+        assert_eq!(tally.failed(), 0);
+        assert!(tally.passed() > 5_000, "{}", tally.passed());
+    }
+
+    /// Whether a run of one of so many cases meets a difference.
+    fn found(share: usize) -> bool {
+        let mut tally = silent();
+        let plan = Plan {
+            share,
+            stop: true,
+            ..WHOLE
+        };
+        run_all(&mut tally, plan);
+        tally.failed() > 0
+    }
+
+    #[test]
+    fn every_planted_fault_is_found() {
+        for fault in FAULTS {
+            plant(fault);
+            // Most faults show at once; only the rarer ones need more cases.
+            assert!(found(400) || found(50) || found(10), "{fault:?}");
+        }
+        plant(Fault::Nothing);
+    }
+}

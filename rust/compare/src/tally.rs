@@ -1,0 +1,180 @@
+//! Counts of comparisons and differences, and how differences are shown.
+
+use crate::lent::Item;
+use std::collections::BTreeMap;
+use std::fmt::Write;
+
+/// The kinds of comparison, in the order of the report.
+pub const KINDS: [&str; 9] = [
+    "check",
+    "open",
+    "find",
+    "add_operator",
+    "replace_start",
+    "replace_goal",
+    "build",
+    "line",
+    "fresh",
+];
+
+/// More items than this are shown only where they differ.
+const MOST_SHOWN: usize = 4_096;
+
+/// More differences than this are only counted.
+const MOST_DIFFERENCES: usize = 10;
+
+/// What one side handed back and left in lent memory.
+#[derive(Clone, Debug, PartialEq, Eq)]
+pub struct Outcome<Kind> {
+    pub number: u64,
+    pub memory: Vec<Kind>,
+}
+
+impl<Kind> Outcome<Kind> {
+    /// Runs a call on a copy of the memory.
+    pub fn of(memory: &[Kind], call: impl FnOnce(&mut [Kind]) -> u64) -> Self
+    where
+        Kind: Clone,
+    {
+        let mut memory = memory.to_vec();
+        let number = call(&mut memory);
+        Outcome { number, memory }
+    }
+}
+
+/// What is compared, and how to rebuild and show it.
+pub struct Comparison<'a> {
+    pub kind: &'static str,
+    /// The reference's answer in the rules' words.
+    pub answer: String,
+    pub source: &'a str,
+    /// The inputs are written out only on a difference.
+    pub inputs: &'a dyn Fn() -> Vec<(&'static str, String)>,
+    /// Whether memory that was not lent for writing stayed.
+    pub outside_kept: bool,
+}
+
+#[derive(Default)]
+struct Count {
+    passed: usize,
+    failed: usize,
+    answers: BTreeMap<String, usize>,
+}
+
+#[derive(Default)]
+pub struct Tally {
+    counts: BTreeMap<&'static str, Count>,
+    /// Differences are shown unless a test only wants to know that there are some.
+    pub silent: bool,
+}
+
+/// A result in the rules' words.
+pub fn answer(number: u64) -> String {
+    let value = number & 0xFFFF_FFFF;
+    match number >> 32 {
+        0 => "done".to_string(),
+        1 => "alike or none".to_string(),
+        2 if value == 0 => "first operator".to_string(),
+        2 => "later operator".to_string(),
+        3 => format!("refused {value}"),
+        case => format!("case {case}"),
+    }
+}
+
+pub fn hexadecimal<Kind: Item>(items: &[Kind]) -> String {
+    let mut text = String::new();
+    for item in items {
+        write!(text, "{item:0digits$x} ", digits = Kind::DIGITS).expect("text grows");
+    }
+    text.trim_end().to_string()
+}
+
+/// The items, or how many there are where they would fill pages.
+pub fn shown<Kind: Item>(items: &[Kind]) -> String {
+    if items.len() <= MOST_SHOWN {
+        hexadecimal(items)
+    } else {
+        format!("{} items, rebuilt by running this seed again", items.len())
+    }
+}
+
+/// The first places where the two sides left different items.
+fn places<Kind: Item>(expected: &[Kind], found: &[Kind]) -> String {
+    let mut text = String::new();
+    let pairs = expected.iter().zip(found).enumerate();
+    let different = pairs.filter(|(_, (left, right))| left != right);
+    for (place, (left, right)) in different.take(8) {
+        write!(text, "{place}: {left:x} against {right:x}; ").expect("text grows");
+    }
+    text
+}
+
+fn show<Kind: Item>(comparison: &Comparison, expected: &Outcome<Kind>, found: &Outcome<Kind>) {
+    println!("difference in {}, {}", comparison.kind, comparison.source);
+    for (name, text) in (comparison.inputs)() {
+        println!("  {name}: {text}");
+    }
+    for (side, outcome) in [("reference", expected), ("library", found)] {
+        let (number, memory) = (outcome.number, shown(&outcome.memory));
+        println!("  {side}: {number:#x}, {}; memory {memory}", answer(number));
+    }
+    let different = places(&expected.memory, &found.memory);
+    println!("  places of memory that differ: {different}");
+    if !comparison.outside_kept {
+        println!("  memory that was not lent for writing was changed");
+    }
+}
+
+impl Tally {
+    /// Counts a comparison; on a difference shows where it came from and both outcomes.
+    pub fn judge<Kind: Item>(
+        &mut self,
+        comparison: &Comparison,
+        expected: &Outcome<Kind>,
+        found: &Outcome<Kind>,
+    ) {
+        let count = self.counts.entry(comparison.kind).or_default();
+        *count.answers.entry(comparison.answer.clone()).or_default() += 1;
+        if expected == found && comparison.outside_kept {
+            count.passed += 1;
+            return;
+        }
+        count.failed += 1;
+        if !self.silent && self.failed() <= MOST_DIFFERENCES {
+            show(comparison, expected, found);
+        }
+    }
+
+    pub fn passed(&self) -> usize {
+        self.counts.values().map(|count| count.passed).sum()
+    }
+
+    pub fn failed(&self) -> usize {
+        self.counts.values().map(|count| count.failed).sum()
+    }
+
+    /// One line for each kind of comparison, with the answers that were met.
+    pub fn report(&self) {
+        for kind in KINDS {
+            let Some(count) = self.counts.get(kind) else {
+                continue;
+            };
+            let answers: Vec<String> = count
+                .answers
+                .iter()
+                .map(|(answer, times)| format!("{answer}: {times}"))
+                .collect();
+            println!(
+                "{kind}: {} comparisons, {} differences ({})",
+                count.passed + count.failed,
+                count.failed,
+                answers.join(", ")
+            );
+        }
+        println!(
+            "compare: {} passed, {} failed",
+            self.passed(),
+            self.failed()
+        );
+    }
+}

@@ -1,0 +1,131 @@
+//! The public calls, with the numbers that they hand back and the memory that they leave.
+
+use crate::bay::read_bay;
+use crate::feature_set::words_for;
+use crate::line::line as finder_line;
+use crate::refusal::Refusal;
+use crate::separation::{verdict, Verdict};
+use crate::task::read_task;
+use crate::weights::read_weights;
+use crate::workspace::{Record, Workspace};
+
+/// One step between the cases of a result.
+const CASE: u64 = 1 << 32;
+
+/// Accepted, opened, separated, edited, built or written.
+pub fn done(value: usize) -> u64 {
+    value as u64
+}
+
+/// Ends alike, or none.
+pub fn denied() -> u64 {
+    CASE
+}
+
+/// The operator that breaks.
+pub fn broken(operator: usize) -> u64 {
+    2 * CASE + operator as u64
+}
+
+pub fn refused(refusal: Refusal) -> u64 {
+    3 * CASE + refusal.number()
+}
+
+fn settle(result: Result<u64, Refusal>) -> u64 {
+    result.unwrap_or_else(refused)
+}
+
+/// Copies what is due into lent room, and leaves the rest of the room.
+fn fill<Item: Copy>(room: &mut [Item], due: &[Item]) -> Result<(), Refusal> {
+    let (filled, _) = room.split_at_mut_checked(due.len()).ok_or(Refusal::Room)?;
+    filled.copy_from_slice(due);
+    Ok(())
+}
+
+pub fn check(task: &[u8], weights: &[u8]) -> u64 {
+    settle(try_check(task, weights))
+}
+
+fn try_check(task: &[u8], weights: &[u8]) -> Result<u64, Refusal> {
+    let task = read_task(task)?;
+    let weights = read_weights(weights, task.pairing().features.count())?;
+    Ok(match verdict(&task, &weights) {
+        Verdict::Accepted => done(0),
+        Verdict::EndsAlike => denied(),
+        Verdict::Operator(place) => broken(place),
+    })
+}
+
+pub fn open(task: &[u8], room: &mut [u64]) -> u64 {
+    settle(try_open(task, room))
+}
+
+fn try_open(task: &[u8], room: &mut [u64]) -> Result<u64, Refusal> {
+    let words = Workspace::of(&read_task(task)?).words();
+    fill(room, &words)?;
+    Ok(done(words.len()))
+}
+
+pub fn find(workspace: &[u64], room: &mut [u64]) -> u64 {
+    settle(try_find(workspace, room))
+}
+
+fn try_find(workspace: &[u64], room: &mut [u64]) -> Result<u64, Refusal> {
+    let workspace = Workspace::read(workspace)?;
+    // The room is judged even where the answer is none.
+    if room.len() < words_for(workspace.slots.len()) {
+        return Err(Refusal::Room);
+    }
+    match workspace.find() {
+        Some(weights) => {
+            fill(room, weights.words())?;
+            Ok(done(0))
+        }
+        None => Ok(denied()),
+    }
+}
+
+/// Reads a workspace, edits it, and writes it back over its own words.
+fn edit<Change>(words: &mut [u64], change: Change) -> u64
+where
+    Change: FnOnce(&mut Workspace) -> Result<(), Refusal>,
+{
+    settle(try_edit(words, change))
+}
+
+fn try_edit<Change>(words: &mut [u64], change: Change) -> Result<u64, Refusal>
+where
+    Change: FnOnce(&mut Workspace) -> Result<(), Refusal>,
+{
+    let mut workspace = Workspace::read(words)?;
+    change(&mut workspace)?;
+    fill(words, &workspace.words())?;
+    Ok(done(0))
+}
+
+pub fn add_operator(words: &mut [u64], record: &Record) -> u64 {
+    edit(words, |workspace| workspace.add_operator(record))
+}
+
+pub fn replace_start(words: &mut [u64], values: &[u64]) -> u64 {
+    edit(words, |workspace| workspace.replace_start(values))
+}
+
+pub fn replace_goal(words: &mut [u64], values: &[u64]) -> u64 {
+    edit(words, |workspace| workspace.replace_goal(values))
+}
+
+pub fn build(bay: &[u8], room: &mut [u8]) -> u64 {
+    settle(try_build(bay, room))
+}
+
+fn try_build(bay: &[u8], room: &mut [u8]) -> Result<u64, Refusal> {
+    let file = read_bay(bay)?.task().file();
+    fill(room, &file)?;
+    Ok(done(file.len()))
+}
+
+pub fn line(input: &[u8], room: &mut [u8]) -> u64 {
+    let text = finder_line(input);
+    settle(fill(room, text.as_bytes()).map(|()| done(text.len())))
+}

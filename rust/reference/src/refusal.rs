@@ -1,0 +1,32 @@
+//! The refusal numbers.
+
+/// Why a call is refused; the discriminants are document 01's numbers.
+#[derive(Clone, Copy, Debug, PartialEq, Eq, PartialOrd, Ord)]
+pub enum Refusal {
+    /// Input ends inside what is due, or a number is badly formed.
+    Input = 1,
+    /// The number of variables, a size, N, or a bay dimension breaks its limit.
+    Limit = 2,
+    /// A value, variable, entry count, feature or label is outside its range.
+    Range = 3,
+    /// Entries, pairs or weights don't increase.
+    Order = 4,
+    /// Bytes are left over.
+    LeftOver = 5,
+    /// The start holds a listed pair.
+    StartHoldsPair = 6,
+    /// The pairs aren't closed under an operator.
+    NotClosed = 7,
+    /// Lent room is too small.
+    Room = 8,
+    /// A workspace isn't well formed.
+    Workspace = 9,
+    /// A bay list misses or repeats a label.
+    Labels = 10,
+}
+
+impl Refusal {
+    pub fn number(self) -> u64 {
+        self as u64
+    }
+}

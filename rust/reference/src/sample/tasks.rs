@@ -1,0 +1,377 @@
+//! Random sizes, operators, tasks and weights.
+
+use super::Generator;
+use crate::feature_set::FeatureSet;
+use crate::features::{count_features, Atom, Feature, Features, State};
+use crate::forced::{generators, Generators};
+use crate::operators::{conditions, Entry, Operator, Pairing};
+use crate::separation::keeps_by_changes;
+use crate::task::Task;
+
+/// How large a random task may be.
+#[derive(Clone, Copy, Debug)]
+pub struct Scale {
+    pub most_features: usize,
+    pub most_variables: usize,
+    pub most_values: usize,
+    pub most_operators: usize,
+}
+
+/// Small enough to enumerate all sets of features.
+pub const TINY: Scale = Scale {
+    most_features: 12,
+    most_variables: 4,
+    most_values: 6,
+    most_operators: 5,
+};
+
+/// One or two words for each set.
+pub const SMALL: Scale = Scale {
+    most_features: 80,
+    most_variables: 5,
+    most_values: 5,
+    most_operators: 10,
+};
+
+/// Several words for each set.
+pub const MEDIUM: Scale = Scale {
+    most_features: 300,
+    most_variables: 9,
+    most_values: 12,
+    most_operators: 16,
+};
+
+/// Many variables of one value or two, so that operators have many entries.
+pub const WIDE: Scale = Scale {
+    most_features: 1_000,
+    most_variables: 40,
+    most_values: 2,
+    most_operators: 8,
+};
+
+/// Up to the limit of features.
+pub const LARGE: Scale = Scale {
+    most_features: 4_096,
+    most_variables: 64,
+    most_values: 64,
+    most_operators: 12,
+};
+
+/// Sizes whose numbers of features lie at the edges of words: 63, 64, 65, 127, 128, 129.
+pub const WORD_EDGES: [&[usize]; 8] = [
+    &[63],
+    &[64],
+    &[7, 7],
+    &[4, 12],
+    &[5, 10],
+    &[7, 15],
+    &[2, 42],
+    &[9, 12],
+];
+
+/// Sizes at the program's limit: 639, 640 and 641 features.
+pub const PROGRAM_EDGES: [&[usize]; 5] = [
+    &[19, 14, 10],
+    &[15, 5, 8, 13],
+    &[9, 33, 7],
+    &[17, 4, 15, 6],
+    &[18, 22, 5],
+];
+
+/// Sizes at the library's limit: 4,095 and 4,096 features, and those that document 01 names.
+pub const LIBRARY_EDGES: [&[usize]; 6] = [
+    &[63, 63],
+    &[36, 24, 52],
+    &[19, 20, 11, 12, 8, 2, 11, 14],
+    &[1, 21, 56, 35],
+    &[64, 62],
+    &[1; 64],
+];
+
+/// Sizes just past the library's limit: 4,097 and 4,159 features, and far more.
+pub const PAST_EDGES: [&[usize]; 4] = [&[38, 54, 21], &[33, 24, 18, 29], &[64, 63], &[64; 64]];
+
+pub fn sizes(generator: &mut Generator, scale: Scale) -> Vec<usize> {
+    loop {
+        let variables = generator.between(1, scale.most_variables);
+        // Short ranges are frequent, so that many variables fit under the limit.
+        let most = generator.between(2, scale.most_values);
+        let most = if generator.once_in(16) { 1 } else { most };
+        let sizes: Vec<usize> = (0..variables).map(|_| generator.between(1, most)).collect();
+        if count_features(&sizes) <= scale.most_features {
+            return sizes;
+        }
+    }
+}
+
+pub fn state(generator: &mut Generator, sizes: &[usize]) -> State {
+    sizes.iter().map(|size| generator.below(*size)).collect()
+}
+
+fn entry(generator: &mut Generator, variable: usize, size: usize) -> Entry {
+    let before = generator.below(size);
+    // Kept values are a kind of their own, so they are made more frequent.
+    let kept = generator.once_in(5);
+    Entry {
+        variable,
+        before,
+        after: if kept { before } else { generator.below(size) },
+    }
+}
+
+/// Some variables, increasing.
+fn some_variables(generator: &mut Generator, variables: usize, count: usize) -> Vec<usize> {
+    let mut all: Vec<usize> = (0..variables).collect();
+    generator.shuffle(&mut all);
+    all.truncate(count);
+    all.sort_unstable();
+    all
+}
+
+pub fn operator(generator: &mut Generator, sizes: &[usize]) -> Operator {
+    let most = if generator.once_in(4) {
+        sizes.len()
+    } else {
+        sizes.len().min(3)
+    };
+    let count = generator.between(1, most);
+    let named = some_variables(generator, sizes.len(), count);
+    let entries = named
+        .into_iter()
+        .map(|variable| entry(generator, variable, sizes[variable]))
+        .collect();
+    Operator { entries }
+}
+
+fn loose_operators(generator: &mut Generator, sizes: &[usize], most: usize) -> Vec<Operator> {
+    let count = generator.between(0, most);
+    (0..count).map(|_| operator(generator, sizes)).collect()
+}
+
+/// A family as in case B: each combination of values of some variables is turned the same way.
+fn turning_operators(generator: &mut Generator, sizes: &[usize]) -> Vec<Operator> {
+    let count = generator.between(1, sizes.len().min(2));
+    let named = some_variables(generator, sizes.len(), count);
+    let mut operators = vec![Operator {
+        entries: Vec::new(),
+    }];
+    for variable in named {
+        let mut turned: Vec<usize> = (0..sizes[variable]).collect();
+        generator.shuffle(&mut turned);
+        let mut longer = Vec::new();
+        for operator in &operators {
+            for (before, after) in turned.iter().enumerate().take(4) {
+                let mut extended = operator.clone();
+                extended.entries.push(Entry {
+                    variable,
+                    before,
+                    after: *after,
+                });
+                longer.push(extended);
+            }
+        }
+        operators = longer;
+    }
+    operators
+}
+
+/// Swaps of two values between two variables, as pallets change places with the gap.
+fn swapping_operators(generator: &mut Generator, sizes: &[usize], most: usize) -> Vec<Operator> {
+    let mut operators = Vec::new();
+    for _ in 0..generator.between(1, most) {
+        let named = some_variables(generator, sizes.len(), 2);
+        let common = named.iter().map(|each| sizes[*each]).min().unwrap_or(1);
+        let (one, other) = (generator.below(common), generator.below(common));
+        let entries = named
+            .iter()
+            .zip([(one, other), (other, one)])
+            .map(|(variable, (before, after))| Entry {
+                variable: *variable,
+                before,
+                after,
+            })
+            .collect();
+        operators.push(Operator { entries });
+    }
+    operators
+}
+
+/// Only operators that keep the parity of weights made of a few atoms.
+fn keeping_operators(generator: &mut Generator, sizes: &[usize], most: usize) -> Vec<Operator> {
+    let pairing = Pairing::new(sizes, &[]);
+    let count = pairing.features.count();
+    let mut weights = FeatureSet::empty(count);
+    for single in 0..pairing.features.singles() {
+        if generator.once_in(2) {
+            weights.insert(single);
+        }
+    }
+    let mut operators = loose_operators(generator, sizes, 2 * most);
+    operators.retain(|operator| keeps_by_changes(&pairing, operator, &weights));
+    operators
+}
+
+/// Operators of one kind or of several.
+fn operators(generator: &mut Generator, sizes: &[usize], most: usize) -> Vec<Operator> {
+    match generator.below(6) {
+        0 => turning_operators(generator, sizes),
+        1 => swapping_operators(generator, sizes, most),
+        2 | 3 => keeping_operators(generator, sizes, most),
+        4 => {
+            let mut mixed = turning_operators(generator, sizes);
+            mixed.extend(loose_operators(generator, sizes, 2));
+            generator.shuffle(&mut mixed);
+            mixed
+        }
+        _ => loose_operators(generator, sizes, most),
+    }
+}
+
+/// Two-variable features, each listed once in so many times.
+fn loose_pairs(generator: &mut Generator, features: &Features, times: usize) -> Vec<usize> {
+    (features.singles()..features.count())
+        .filter(|_| generator.once_in(times))
+        .collect()
+}
+
+/// The features that put one value in two variables, as in bays.
+fn label_pairs(features: &Features) -> Vec<usize> {
+    let sizes = features.sizes();
+    let mut pairs = Vec::new();
+    for first in 0..sizes.len() {
+        for second in first + 1..sizes.len() {
+            for value in 0..sizes[first].min(sizes[second]) {
+                let atom = |variable| Atom { variable, value };
+                pairs.extend(features.mixed(atom(first), atom(second)));
+            }
+        }
+    }
+    pairs.sort_unstable();
+    pairs
+}
+
+/// Any list of pairs, increasing; long ones make most operators idle, so they are rarer.
+pub fn pairs(generator: &mut Generator, features: &Features) -> Vec<usize> {
+    match generator.below(12) {
+        0 => loose_pairs(generator, features, 1),
+        1 => loose_pairs(generator, features, 2),
+        2 => loose_pairs(generator, features, 4),
+        3 | 4 => label_pairs(features),
+        5..=8 => loose_pairs(generator, features, 12),
+        _ => Vec::new(),
+    }
+}
+
+/// A task that may be refused 6 or 7, but for nothing before.
+pub fn loose_task(generator: &mut Generator, sizes: &[usize], most_operators: usize) -> Task {
+    let features = Features::new(sizes);
+    Task {
+        sizes: sizes.to_vec(),
+        start: state(generator, sizes),
+        goal: state(generator, sizes),
+        pairs: pairs(generator, &features),
+        operators: operators(generator, sizes, most_operators),
+    }
+}
+
+/// Drops the pairs that the start holds.
+fn free_start(task: &mut Task) {
+    let features = Features::new(&task.sizes);
+    let start = task.start.clone();
+    task.pairs
+        .retain(|pair| !features.feature(*pair).holds(&start));
+}
+
+/// The pairs by which a list isn't closed under an operator.
+fn open_pairs(pairing: &Pairing, operator: &Operator) -> Vec<usize> {
+    let (befores, afters) = (operator.before_atoms(), operator.after_atoms());
+    let kept_out = |atom: Atom| befores.iter().any(|before| pairing.paired(*before, atom));
+    let mut open = Vec::new();
+    for after in &afters {
+        for number in pairing.listed.members() {
+            let Feature::Mixed(one, other) = pairing.features.feature(number) else {
+                continue;
+            };
+            let partner = match *after {
+                atom if atom == one => other,
+                atom if atom == other => one,
+                _ => continue,
+            };
+            let named = operator.names(partner.variable);
+            if named && afters.contains(&partner) || !named && !kept_out(partner) {
+                open.push(number);
+            }
+        }
+    }
+    open
+}
+
+/// Drops pairs until the list is closed under every operator.
+fn close_pairs(task: &mut Task) {
+    loop {
+        let pairing = task.pairing();
+        let open = task
+            .operators
+            .iter()
+            .find(|operator| !pairing.closed(operator))
+            .map(|operator| open_pairs(&pairing, operator));
+        match open {
+            Some(open) => task.pairs.retain(|pair| !open.contains(pair)),
+            None => return,
+        }
+    }
+}
+
+/// A task that is accepted: pairs are dropped, or operators that they aren't closed under.
+pub fn accepted_task(generator: &mut Generator, sizes: &[usize], most_operators: usize) -> Task {
+    let mut task = loose_task(generator, sizes, most_operators);
+    free_start(&mut task);
+    if generator.once_in(2) {
+        close_pairs(&mut task);
+    } else {
+        let pairing = task.pairing();
+        task.operators.retain(|operator| pairing.closed(operator));
+    }
+    task
+}
+
+/// An accepted task of some scale.
+pub fn scaled_task(generator: &mut Generator, scale: Scale) -> Task {
+    let sizes = sizes(generator, scale);
+    accepted_task(generator, &sizes, scale.most_operators)
+}
+
+/// All conditions of a task.
+pub fn task_conditions(task: &Task) -> Vec<FeatureSet> {
+    let pairing = task.pairing();
+    task.operators
+        .iter()
+        .flat_map(|operator| conditions(&pairing, operator))
+        .collect()
+}
+
+/// Generators of the weight lists that meet all of a task's conditions.
+pub fn task_generators(task: &Task) -> Generators {
+    generators(count_features(&task.sizes), &task_conditions(task))
+}
+
+/// A random list that meets all of a task's conditions.
+pub fn meeting_weights(generator: &mut Generator, task: &Task) -> FeatureSet {
+    let count = count_features(&task.sizes);
+    let meeting = task_generators(task);
+    let mut weights = FeatureSet::empty(count);
+    for number in (0..count).filter(|number| meeting.live(*number)) {
+        if generator.once_in(2) {
+            weights.combine(&meeting.list(number));
+        }
+    }
+    weights
+}
+
+/// Any list, listed pairs among its members.
+pub fn loose_weights(generator: &mut Generator, count: usize) -> FeatureSet {
+    let times = generator.choose(&[2, 3, 8, 1 + count / 2]);
+    let mut weights = FeatureSet::empty(count);
+    weights.extend((0..count).filter(|_| generator.once_in(times)));
+    weights
+}

@@ -1,0 +1,71 @@
+//! When weights separate, and the checker's verdict.
+
+use crate::feature_set::FeatureSet;
+use crate::features::Features;
+use crate::operators::{
+    changes_from, combined_states, deviating_states, few_states, Operator, Pairing,
+};
+use crate::task::Task;
+
+/// The checker's answer for an accepted task and weight file.
+#[derive(Clone, Copy, Debug, PartialEq, Eq)]
+pub enum Verdict {
+    Accepted,
+    EndsAlike,
+    /// The least operator that breaks, counted from 0 with idle ones.
+    Operator(usize),
+}
+
+/// The parity of a state: whether the number of listed features true in it is odd.
+pub fn odd(features: &Features, weights: &FeatureSet, state: &[usize]) -> bool {
+    let listed = weights.members();
+    let held = |number: &&usize| features.feature(**number).holds(state);
+    listed.iter().filter(held).count() % 2 == 1
+}
+
+/// Whether an operator keeps parity from every considered state, by trying each one.
+pub fn keeps_by_states(pairing: &Pairing, operator: &Operator, weights: &FeatureSet) -> bool {
+    let features = &pairing.features;
+    pairing.idle(operator)
+        || combined_states(&pairing.considered_values(operator))
+            .iter()
+            .all(|state| {
+                odd(features, weights, state) == odd(features, weights, &operator.applied(state))
+            })
+}
+
+/// The same, by the changes from a base state and its deviations.
+pub fn keeps_by_changes(pairing: &Pairing, operator: &Operator, weights: &FeatureSet) -> bool {
+    pairing.idle(operator) || {
+        let states = deviating_states(&pairing.considered_values(operator));
+        changes_from(pairing, operator, &states)
+            .iter()
+            .all(|change| !change.meets_oddly(weights))
+    }
+}
+
+fn keeps(pairing: &Pairing, operator: &Operator, weights: &FeatureSet) -> bool {
+    if few_states(&pairing.considered_values(operator)) {
+        keeps_by_states(pairing, operator, weights)
+    } else {
+        keeps_by_changes(pairing, operator, weights)
+    }
+}
+
+/// Judges the ends first, then the operators in order.
+pub fn verdict(task: &Task, weights: &FeatureSet) -> Verdict {
+    let pairing = task.pairing();
+    let features = &pairing.features;
+    if odd(features, weights, &task.start) == odd(features, weights, &task.goal) {
+        return Verdict::EndsAlike;
+    }
+    let breaks = |operator| !keeps(&pairing, operator, weights);
+    match task.operators.iter().position(breaks) {
+        Some(place) => Verdict::Operator(place),
+        None => Verdict::Accepted,
+    }
+}
+
+pub fn separates(task: &Task, weights: &FeatureSet) -> bool {
+    verdict(task, weights) == Verdict::Accepted
+}

@@ -1,0 +1,25 @@
+//! Weight files.
+
+use crate::feature_set::FeatureSet;
+use crate::numbers::{encode, Reader};
+use crate::refusal::Refusal;
+
+/// Reads a weight file for a task of so many features.
+pub fn read_weights(bytes: &[u8], count: usize) -> Result<FeatureSet, Refusal> {
+    let mut reader = Reader::new(bytes);
+    let listed = reader.increasing_list(&(0..count))?;
+    reader.finish()?;
+    Ok(FeatureSet::of(count, &listed))
+}
+
+/// The numbers of a weight file, in order.
+pub fn weight_numbers(weights: &FeatureSet) -> Vec<usize> {
+    let members = weights.members();
+    let mut numbers = vec![members.len()];
+    numbers.extend(members);
+    numbers
+}
+
+pub fn weight_file(weights: &FeatureSet) -> Vec<u8> {
+    encode(&weight_numbers(weights))
+}

@@ -1,0 +1,249 @@
+//! Document 01's cases A to L and its worked bytes and words.
+
+use reference::bay::Bay;
+use reference::calls;
+use reference::feature_set::FeatureSet;
+use reference::features::{count_features, Features};
+use reference::line::line;
+use reference::operators::{Entry, Operator};
+use reference::refusal::Refusal;
+use reference::sample::tasks::{LIBRARY_EDGES, PAST_EDGES};
+use reference::separation::{verdict, Verdict};
+use reference::task::{read_task, Task};
+use reference::weights::weight_file;
+use reference::workspace::{words_due, Workspace};
+
+/// Case B's file as printed.
+const CASE_B: [u8; 37] = [
+    0x02, 0x02, 0x02, 0x00, 0x00, 0x00, 0x01, 0x00, 0x04, 0x02, 0x00, 0x00, 0x01, 0x01, 0x00, 0x01,
+    0x02, 0x00, 0x00, 0x01, 0x01, 0x01, 0x00, 0x02, 0x00, 0x01, 0x00, 0x01, 0x01, 0x00, 0x02, 0x00,
+    0x01, 0x00, 0x01, 0x00, 0x01,
+];
+
+fn operator(entries: &[(usize, usize, usize)]) -> Operator {
+    let entry = |&(variable, before, after)| Entry {
+        variable,
+        before,
+        after,
+    };
+    Operator {
+        entries: entries.iter().map(entry).collect(),
+    }
+}
+
+fn lift() -> Operator {
+    operator(&[(0, 0, 1)])
+}
+
+fn flips() -> Vec<Operator> {
+    vec![
+        operator(&[(0, 0, 1), (1, 0, 1)]),
+        operator(&[(0, 0, 1), (1, 1, 0)]),
+        operator(&[(0, 1, 0), (1, 1, 0)]),
+        operator(&[(0, 1, 0), (1, 0, 1)]),
+    ]
+}
+
+fn task(start: [usize; 2], goal: [usize; 2], pairs: &[usize], operators: Vec<Operator>) -> Task {
+    Task {
+        sizes: vec![2, 2],
+        start: start.to_vec(),
+        goal: goal.to_vec(),
+        pairs: pairs.to_vec(),
+        operators,
+    }
+}
+
+/// The finder's answer by way of the calls, which the program's line must agree with.
+fn found(task: &Task) -> Result<Option<Vec<usize>>, u64> {
+    let mut words = vec![0; words_due(&task.sizes)];
+    let opened = calls::open(&task.file(), &mut words);
+    if opened >> 32 == 3 {
+        let number = opened & 0xFFFF_FFFF;
+        assert_eq!(line(&task.file()), format!("refused {number}\n"));
+        return Err(number);
+    }
+    let mut answer = [0];
+    if calls::find(&words, &mut answer) == calls::denied() {
+        assert_eq!(line(&task.file()), "none\n");
+        return Ok(None);
+    }
+    let members = FeatureSet::from_words(&answer).members();
+    let numbers: Vec<String> = members.iter().map(usize::to_string).collect();
+    let printed = format!("separated {} {}\n", members.len(), numbers.join(" "));
+    assert_eq!(line(&task.file()), printed);
+    Ok(Some(members))
+}
+
+fn case_b() -> Task {
+    task([0, 0], [0, 1], &[], flips())
+}
+
+#[test]
+fn case_a() {
+    assert_eq!(found(&task([0, 0], [0, 1], &[], vec![])), Ok(Some(vec![2])));
+}
+
+#[test]
+fn case_b_and_its_bytes() {
+    // The printed file fixes the order of the four operators.
+    let read = read_task(&CASE_B).expect("case B is accepted");
+    assert_eq!(read.file(), CASE_B);
+    assert_eq!(found(&read), Ok(Some(vec![0, 2])));
+    assert_eq!(line(&CASE_B), "separated 2 0 2\n");
+    assert_eq!(found(&case_b()), Ok(Some(vec![0, 2])));
+}
+
+#[test]
+fn case_b_workspace_words() {
+    let words = Workspace::of(&read_task(&CASE_B).expect("accepted")).words();
+    let printed = [2, 2, 2, 0, 0, 0, 1, 0, 111, 0, 0, 0, 240, 0, 0, 0];
+    assert_eq!(words, printed);
+    let mut room = [7; 18];
+    assert_eq!(calls::open(&CASE_B, &mut room), 16);
+    assert_eq!(room[..16], printed);
+    assert_eq!(room[16..], [7, 7]);
+}
+
+#[test]
+fn case_c() {
+    let case = task([0, 0], [0, 1], &[], vec![lift()]);
+    assert_eq!(found(&case), Ok(Some(vec![2])));
+}
+
+#[test]
+fn case_d() {
+    assert_eq!(found(&task([0, 0], [1, 0], &[], vec![lift()])), Ok(None));
+}
+
+#[test]
+fn case_e() {
+    assert_eq!(found(&task([1, 0], [0, 0], &[], vec![lift()])), Ok(None));
+}
+
+#[test]
+fn case_f() {
+    assert_eq!(found(&task([0, 0], [0, 0], &[], vec![])), Ok(None));
+}
+
+#[test]
+fn case_g() {
+    assert_eq!(found(&task([0, 0], [1, 0], &[7], vec![lift()])), Err(7));
+}
+
+#[test]
+fn case_h() {
+    assert_eq!(found(&task([1, 1], [0, 0], &[7], vec![])), Err(6));
+}
+
+#[test]
+fn case_i() {
+    let guarded = operator(&[(0, 0, 1), (1, 0, 0)]);
+    let case = task([0, 0], [1, 1], &[7], vec![guarded]);
+    assert_eq!(found(&case), Ok(Some(vec![2])));
+}
+
+#[test]
+fn cases_j_and_k() {
+    let read = read_task(&CASE_B).expect("accepted");
+    let weights = |members: &[usize]| FeatureSet::of(8, members);
+    assert_eq!(verdict(&read, &weights(&[0])), Verdict::EndsAlike);
+    assert_eq!(verdict(&read, &weights(&[2])), Verdict::Operator(0));
+    assert_eq!(verdict(&read, &weights(&[0, 2])), Verdict::Accepted);
+    assert_eq!(calls::check(&CASE_B, &[1, 0]), 1 << 32);
+    assert_eq!(calls::check(&CASE_B, &[1, 2]), 2 << 32);
+    assert_eq!(calls::check(&CASE_B, &[2, 0, 2]), 0);
+    assert_eq!(weight_file(&weights(&[0, 2])), [2, 0, 2]);
+}
+
+#[test]
+fn case_l() {
+    let case = task([1, 0], [0, 0], &[4, 5], vec![lift()]);
+    assert!(case.pairing().idle(&lift()));
+    assert_eq!(found(&case), Ok(Some(vec![0])));
+}
+
+#[test]
+fn smallest_bay() {
+    let printed = [
+        0x02, 0x02, 0x02, 0x00, 0x01, 0x01, 0x00, 0x02, 0x04, 0x07, 0x02, 0x02, 0x00, 0x00, 0x01,
+        0x01, 0x01, 0x00, 0x02, 0x00, 0x01, 0x00, 0x01, 0x00, 0x01,
+    ];
+    let bay = Bay {
+        rows: 1,
+        columns: 2,
+        start: vec![0, 1],
+        goal: vec![1, 0],
+    };
+    assert_eq!(bay.file(), [1, 2, 0, 1, 1, 0]);
+    let mut room = [9; 27];
+    assert_eq!(calls::build(&bay.file(), &mut room), 25);
+    assert_eq!(room[..25], printed);
+    assert_eq!(room[25..], [9, 9]);
+}
+
+#[test]
+fn three_by_three_has_192_operators() {
+    let bay = Bay {
+        rows: 3,
+        columns: 3,
+        start: (0..9).collect(),
+        goal: (0..9).rev().collect(),
+    };
+    assert_eq!(bay.task().operators.len(), 192);
+    assert_eq!(read_task(&bay.task().file()), Ok(bay.task()));
+}
+
+#[test]
+fn limits_of_features() {
+    assert_eq!(count_features(&[64, 62]), 4_094);
+    assert_eq!(count_features(&[64, 63]), 4_159);
+    assert_eq!(count_features(&[1; 64]), 2_080);
+    for sizes in [vec![64, 62], vec![1; 64], vec![2, 2], vec![3, 1, 4]] {
+        let features = Features::new(&sizes);
+        assert_eq!(features.count(), count_features(&sizes));
+        assert_eq!(features.singles(), sizes.iter().sum::<usize>());
+    }
+    let plain = |sizes: &[usize]| Task {
+        sizes: sizes.to_vec(),
+        start: vec![0; sizes.len()],
+        goal: vec![0; sizes.len()],
+        pairs: vec![],
+        operators: vec![],
+    };
+    assert_eq!(count_features(LIBRARY_EDGES[1]), 4_096);
+    assert_eq!(count_features(PAST_EDGES[0]), 4_097);
+    for sizes in LIBRARY_EDGES {
+        assert!(read_task(&plain(sizes).file()).is_ok());
+    }
+    for sizes in PAST_EDGES {
+        assert_eq!(read_task(&plain(sizes).file()), Err(Refusal::Limit));
+    }
+}
+
+/// The grid of kinds, held against two states.
+#[test]
+fn grid_of_kinds() {
+    let (absent, kept, made, used) = (0, 1, 2, 3);
+    let grid = [[0, 0, 0, 0], [0, 0, 1, 1], [0, 1, 1, 0], [0, 1, 0, 1]];
+    let kind = |value: usize, before: usize, after: usize| match (value == before, value == after) {
+        (false, false) => absent,
+        (true, true) => kept,
+        (false, true) => made,
+        (true, false) => used,
+    };
+    let features = Features::new(&[3, 3]);
+    for code in 0..81 {
+        let (before, after) = ([code % 3, code / 3 % 3], [code / 9 % 3, code / 27]);
+        let changed = features.changed(&before, &after);
+        for number in features.singles()..features.count() {
+            let place = number - features.singles();
+            let kinds = [
+                kind(place / 3, before[0], after[0]),
+                kind(place % 3, before[1], after[1]),
+            ];
+            let expected = grid[kinds[0]][kinds[1]] == 1;
+            assert_eq!(changed.contains(number), expected, "{before:?} {after:?}");
+        }
+    }
+}

@@ -1,0 +1,222 @@
+-- What the judge's answer and the words that it leaves say of a task file; what an answer tells, and what makes one.
+use Prim.Native.Nat.{ℕ, _-_, _≤_}
+use mathlib.Core.Path.{_≡_, refl, sym, ap, ap₂, _∙_}
+use mathlib.Core.List.{List, []}
+use native.Mathlib.Omega.{arith}
+use lib.ListN.{length, take, drop, length-append}
+use Rattle.meaning.specs.Limits.{mostVariables, mostFeatures}
+use Rattle.meaning.specs.Sets.{listed}
+use Rattle.meaning.specs.Task.{Operator, Task, State}
+use Rattle.meaning.specs.Feature.{features}
+use Rattle.meaning.specs.Number as meaning
+use Rattle.meaning.specs.Number.{Read, got, fault}
+use Rattle.meaning.specs.File.{operatorsOf, judgedTask, Writable}
+use Rattle.meaning.specs.Workspace.{sizesAt, startAt, goalAt, pairsAt, slotsAt, has}
+use Rattle.theory.specs.Parts.{operators-said}
+use Rattle.theory.specs.Accepted.{accepted}
+use Rattle.number.specs.Answers.{reasonOf, declaredOf, reason-declared, declared-reason, placeOf, place-next, place-faulted}
+use Rattle.number.specs.declared.Reason.{Reason}
+use Rattle.number.specs.declared.Step.{Step}
+use Rattle.number.specs.declared.Step.the-variants as step
+use Rattle.number.specs.declared.Step.the-variants.{Next}
+use Rattle.reader.specs.declared.Header.{Header}
+use Rattle.reader.specs.declared.Header.the-variants.{Got, Fault}
+use Rattle.reader.specs.Answer.{begun}
+use Rattle.reader.specs.Front.{Front, frontOf, frontWords, HeaderInto, taskWith}
+use Rattle.pairs.specs.Ready.{Listed}
+use Rattle.task.specs.declared.Judged.{Judged}
+use Rattle.task.specs.declared.Judged.the-variants.{Accepted, Refused}
+use Rattle.task.specs.Header.{headerWords, pairWords, Headed, front-header, front-headed, header-length, header-listed, header-has, sizes-part, start-part, pairs-part}
+use Rattle.task.specs.Rest.{restOf, behind, front-unread, judged-behind, rest-operators}
+
+-- The front of a task: all but its operators, and how many they are.
+abbrev pub frontIn : Task → Front
+frontIn T = record { states = record { sizes = T .sizes; start = T .start; goal = T .goal }; pairs = T .pairs; count = length (T .operators) }
+
+-- An accepted task: the answer has its counts and the place after its front, where its operators are read, and the words left begin with its header.
+pub record AcceptedInto (bytes words : List ℕ) (T : Task) (next : ℕ) (answer : Judged) (left : List ℕ) : Type 0 where
+  pub at : ℕ
+  pub counts : answer ≡ Accepted (length (T .sizes)) (features (T .sizes)) (length (T .operators)) at
+  pub front : frontOf bytes 0 ≡ got (frontIn T) at
+  pub operators : operatorsOf (T .sizes) (length (T .operators)) bytes at ≡ got (T .operators) next
+  pub header : left ≡ begun words (headerWords T)
+
+-- Where a task is accepted, that; otherwise the answer is the fault, and nothing is said of the words.
+unfoldable pub JudgedInto : Read Task → List ℕ → List ℕ → Judged → List ℕ → Type 0
+JudgedInto (got T next) bytes words answer left = AcceptedInto bytes words T next answer left
+JudgedInto (fault reason place) bytes words answer left = answer ≡ Refused (declaredOf reason) place
+
+-- ---- what an answer tells
+
+-- What is known of an accepted file, by the counts and the place of the answer.
+pub record Known (bytes words left : List ℕ) (v n count at : ℕ) : Type 0 where
+  pub task : Task
+  pub next : ℕ
+  pub judged : judgedTask bytes ≡ got task next
+  pub writable : Writable task
+  pub variables : v ≡ length (task .sizes)
+  pub total : n ≡ features (task .sizes)
+  pub many : count ≡ length (task .operators)
+  pub front : frontOf bytes 0 ≡ got (frontIn task) at
+  pub operators : operatorsOf (task .sizes) count bytes at ≡ got (task .operators) next
+  pub header : left ≡ begun words (headerWords task)
+
+pub known-headed : {bytes words left : List ℕ} {v n count at : ℕ} (known : Known bytes words left v n count at) → Headed (known .task)
+known-headed known = let a = known .writable .acceptable in record { limits = a .limits; start = a .start; goal = a .goal; pairs = a .pairs }
+
+module _ (bytes words : List ℕ) (answer : Judged) (left : List ℕ) where
+  pub judged-accepted : (v n count at : ℕ) → JudgedInto (judgedTask bytes) bytes words answer left → answer ≡ Accepted v n count at → Known bytes words left v n count at
+  unfolding JudgedInto
+  judged-accepted v n count at h e = by (judgedTask bytes) refl h
+    where
+      by : (read : Read Task) → judgedTask bytes ≡ read → JudgedInto read bytes words answer left → Known bytes words left v n count at
+      by (got T next) q k =
+          let same : Accepted (length (T .sizes)) (features (T .sizes)) (length (T .operators)) (k .at) ≡ Accepted v n count at = sym (k .counts) ∙ e in
+          let first : v ≡ length (T .sizes) = cc in
+          let second : n ≡ features (T .sizes) = cc in
+          let third : count ≡ length (T .operators) = cc in
+          let fourth : k .at ≡ at = cc in
+          record {
+            task = T;
+            next = next;
+            judged = q;
+            writable = accepted bytes T next q;
+            variables = first;
+            total = second;
+            many = third;
+            front = k .front ∙ ap (got (frontIn T)) fourth;
+            operators = rw (third, ← fourth) (k .operators);
+            header = k .header;
+          }
+      by (fault reason place) q k = absurd (let same : Refused (declaredOf reason) place ≡ Accepted v n count at = sym k ∙ e in let z : _≡_ {A = ℕ} 0 1 = cc in omega arith)
+
+  pub judged-refused : (reason : Reason) (place : ℕ) → JudgedInto (judgedTask bytes) bytes words answer left → answer ≡ Refused reason place
+      → judgedTask bytes ≡ fault (reasonOf reason) place
+  unfolding JudgedInto
+  judged-refused reason place h e = by (judgedTask bytes) h
+    where
+      by : (read : Read Task) → JudgedInto read bytes words answer left → read ≡ fault (reasonOf reason) place
+      by (got T next) k = absurd (let same : Accepted (length (T .sizes)) (features (T .sizes)) (length (T .operators)) (k .at) ≡ Refused reason place = sym (k .counts) ∙ e in
+          let z : _≡_ {A = ℕ} 0 1 = cc in omega arith)
+      by (fault other there) k =
+          let same : Refused (declaredOf other) there ≡ Refused reason place = sym k ∙ e in
+          let p : declaredOf other ≡ reason = cc in
+          let q : there ≡ place = cc in
+          ap₂ fault (sym (reason-declared other) ∙ ap reasonOf p) q
+
+-- ---- what makes an answer
+
+-- What is known once the front was read, by the counts and the place that the reader answers.
+pub record Fronted (bytes words left : List ℕ) (v n count at : ℕ) : Type 0 where
+  pub front : Front
+  pub read : frontOf bytes 0 ≡ got front at
+  pub variables : v ≡ length (front .states .sizes)
+  pub total : n ≡ features (front .states .sizes)
+  pub many : count ≡ front .count
+  pub words-are : left ≡ begun words (frontWords front)
+
+-- Where the parts of the words begin and end.
+pub record Cuts (v n start goal pairs end : ℕ) : Type 0 where
+  pub start-is : start ≡ startAt v
+  pub goal-is : goal ≡ goalAt v
+  pub pairs-is : pairs ≡ pairsAt v
+  pub end-is : end ≡ slotsAt v n
+
+module _ (bytes words left : List ℕ) where
+  pub answer-refused : (reason : Reason) (place : ℕ) → judgedTask bytes ≡ fault (reasonOf reason) place → JudgedInto (judgedTask bytes) bytes words (Refused reason place) left
+  unfolding JudgedInto
+  answer-refused reason place e = rw e (ap (λ r. Refused r place) (sym (declared-reason reason)))
+
+  module _ (answer : Header) (h : HeaderInto (frontOf bytes 0) words answer left) where
+    pub front-told : (v n count at : ℕ) → answer ≡ Got v n count at → Fronted bytes words left v n count at
+    unfolding HeaderInto
+    front-told v n count at e = by (frontOf bytes 0) refl h
+      where
+        by : (read : Read Front) → frontOf bytes 0 ≡ read → HeaderInto read words answer left → Fronted bytes words left v n count at
+        by (got front next) q k =
+            let same : Got (length (front .states .sizes)) (features (front .states .sizes)) (front .count) next ≡ Got v n count at = sym (k .0) ∙ e in
+            let fourth : next ≡ at = cc in
+            record { front = front; read = q ∙ ap (got front) fourth; variables = cc; total = cc; many = cc; words-are = k .1 }
+        by (fault reason place) q k = absurd (let same : Fault (declaredOf reason) place ≡ Got v n count at = sym k ∙ e in let z : _≡_ {A = ℕ} 0 1 = cc in omega arith)
+
+    pub front-refused : (reason : Reason) (place : ℕ) → answer ≡ Fault reason place → JudgedInto (judgedTask bytes) bytes words (Refused reason place) left
+    unfolding HeaderInto
+    front-refused reason place e = answer-refused reason place (front-unread bytes (reasonOf reason) place (by (frontOf bytes 0) h))
+      where
+        by : (read : Read Front) → HeaderInto read words answer left → read ≡ fault (reasonOf reason) place
+        by (got front next) k =
+            absurd (let same : Got (length (front .states .sizes)) (features (front .states .sizes)) (front .count) next ≡ Fault reason place = sym (k .0) ∙ e in
+            let z : _≡_ {A = ℕ} 0 1 = cc in omega arith)
+        by (fault other there) k =
+            let same : Fault (declaredOf other) there ≡ Fault reason place = sym k ∙ e in
+            let p : declaredOf other ≡ reason = cc in
+            let q : there ≡ place = cc in
+            ap₂ fault (sym (reason-declared other) ∙ ap reasonOf p) q
+
+  module _ (v n count at : ℕ) (known : Fronted bytes words left v n count at) where
+    -- A task with this front, and its header.
+    abbrev begins : List Operator → Task
+    begins operators = taskWith (known .front) operators
+
+    headed : (operators : List Operator) → Headed (begins operators)
+    headed operators = front-headed bytes (known .front) at operators (known .read)
+
+    header-words : (operators : List Operator) → left ≡ begun words (headerWords (begins operators))
+    header-words operators = known .words-are ∙ ap (begun words) (front-header (known .front) operators)
+
+    pub fronted-limits : (v ≤ mostVariables) × (n ≤ mostFeatures)
+    fronted-limits = (omega (arith, known .variables, headed [] .limits .variables), omega (arith, known .total, headed [] .limits .total))
+
+    pub fronted-room : slotsAt v n ≤ length left
+    fronted-room = omega (arith, known .variables, known .total, header-length (begins []) (headed []), ap length (header-words []), length-append (headerWords (begins [])) (drop (length (headerWords (begins []))) words))
+
+    module _ (start goal pairs end : ℕ) (cuts : Cuts v n start goal pairs end) where
+      -- Sizes, start and pairs, as the code lends them.
+      abbrev lentSizes : List ℕ
+      lentSizes = take (start - sizesAt) (drop sizesAt left)
+
+      abbrev lentStart : List ℕ
+      lentStart = take (goal - start) (drop start left)
+
+      abbrev lentPairs : List ℕ
+      lentPairs = take (end - pairs) (drop pairs left)
+
+      lent : (lentSizes ≡ known .front .states .sizes) × (lentStart ≡ known .front .states .start) × (lentPairs ≡ pairWords (begins []))
+      lent = rw (cuts .start-is, cuts .goal-is, cuts .pairs-is, cuts .end-is) (
+        sizes-part (begins []) (headed []) words left (header-words []) v n (known .variables) (known .total),
+        start-part (begins []) (headed []) words left (header-words []) v n (known .variables) (known .total),
+        pairs-part (begins []) (headed []) words left (header-words []) v n (known .variables) (known .total),
+      )
+
+      pub lent-ready : Listed lentSizes lentPairs × State lentSizes lentStart
+      lent-ready = rw (lent .0, lent .1, lent .2) (header-listed (begins []) (headed []), headed [] .start)
+
+      lent-behind : restOf lentSizes (has lentPairs) lentStart count bytes at ≡ behind bytes (known .front) at
+      lent-behind = rw (lent .0, lent .1, lent .2, header-has (begins []) (headed []), known .many)
+
+      module _ (answer : Step) (told : answer ≡ placeOf (restOf lentSizes (has lentPairs) lentStart count bytes at)) where
+        pub rest-refused : (reason : Reason) (place : ℕ) → answer ≡ step.Fault reason place → JudgedInto (judgedTask bytes) bytes words (Refused reason place) left
+        rest-refused reason place e =
+            let found : behind bytes (known .front) at ≡ fault (reasonOf reason) place
+            = sym lent-behind ∙ place-faulted (restOf lentSizes (has lentPairs) lentStart count bytes at) reason place (sym told ∙ e) in
+            answer-refused reason place (judged-behind bytes (known .front) at (known .read) ∙ rw found)
+
+        pub rest-accepted : (next : ℕ) → answer ≡ Next next → JudgedInto (judgedTask bytes) bytes words (Accepted v n count at) left
+        unfolding JudgedInto
+        rest-accepted next e = let (operators, read) = place-next (restOf lentSizes (has lentPairs) lentStart count bytes at) next (sym told ∙ e) in passed operators (sym lent-behind ∙ read)
+          where
+            made : (operators : List Operator) → operatorsOf (known .front .states .sizes) (known .front .count) bytes at ≡ got operators next → length operators ≡ known .front .count
+                → AcceptedInto bytes words (begins operators) next (Accepted v n count at) left
+            made operators read long = record {
+              at = at;
+              counts = rw (known .variables, known .total, known .many, long) refl;
+              front = known .read ∙ ap (λ k. got (record { states = known .front .states; pairs = known .front .pairs; count = k }) at) (sym long);
+              operators = rw long read;
+              header = header-words operators;
+            }
+
+            passed : (operators : List Operator) → behind bytes (known .front) at ≡ got operators next → JudgedInto (judgedTask bytes) bytes words (Accepted v n count at) left
+            passed operators found =
+                let whole : judgedTask bytes ≡ got (begins operators) next = judged-behind bytes (known .front) at (known .read) ∙ rw found in
+                let read = rest-operators (known .front .states .sizes) (listed (known .front .pairs)) (known .front .states .start) (known .front .count) bytes at operators next found in
+                rw whole (made operators read (operators-said bytes (known .front .states .sizes) (known .front .count) .gives at operators next read .known .0))

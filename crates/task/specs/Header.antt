@@ -1,0 +1,111 @@
+-- The header of a task in words: where each part is read back, and what is known of a front that was read.
+use Prim.Native.Nat.{ℕ, _+_, _-_, _<_, _≤_}
+use mathlib.Core.Path.{_≡_, refl, sym, ap, _∙_, fun-ext}
+use mathlib.Core.Bool.{false}
+use mathlib.Core.List.{List, [], _∷_, _++_, append-assoc}
+use native.Mathlib.Omega.{arith}
+use lib.ListN.{length, getD, take, drop, length-append}
+use lib.Seq.{take-at, drop-at}
+use Rattle.meaning.specs.Sets.{Slots, listed, flat}
+use Rattle.meaning.specs.Task.{Operator, Task, State, Run}
+use Rattle.meaning.specs.Feature.{atoms, features}
+use Rattle.meaning.specs.Number.{got, number}
+use Rattle.meaning.specs.File.{InLimits}
+use Rattle.meaning.specs.Workspace.{wordsFor, sizesAt, startAt, goalAt, pairsAt, slotsAt, has, packed, wordsOf, contentOf}
+use Rattle.theory.specs.Search.{listed-in}
+use Rattle.theory.specs.Numbering.{atoms-room}
+use Rattle.theory.specs.Run.{run-in}
+use Rattle.theory.specs.Truth.{on, off, test}
+use Rattle.theory.specs.Words.{length-packed, packed-holds}
+use Rattle.theory.specs.Spent.{Gives, gives-then, gives-map}
+use Rattle.theory.specs.Parts.{header-said, values-said, feature-list-said, number-said}
+use Rattle.reader.specs.Answer.{begun, featureWords}
+use Rattle.reader.specs.Front.{States, Front, statesOf, frontOf, stateWords, frontWords, taskWith}
+use Rattle.reader.specs.States.{statesWith}
+use Rattle.pairs.specs.Ready.{Listed}
+
+-- "v; v sizes; v start values; v goal values; W words of listed pairs".
+unfoldable pub headerWords : Task → List ℕ
+headerWords T = length (T .sizes) ∷ (T .sizes ++ (T .start ++ (T .goal ++ featureWords (features (T .sizes)) (T .pairs))))
+
+pub front-header : (front : Front) (operators : List Operator) → frontWords front ≡ headerWords (taskWith front operators)
+unfolding frontWords stateWords headerWords
+front-header front operators = simp append-assoc
+
+-- The words of a task's content are its header and then its slots.
+pub header-content : (T : Task) (slots : Slots) → let n = features (T .sizes) in wordsOf (contentOf T slots) ≡ headerWords T ++ flat n (λ i. packed n (slots i))
+unfolding wordsOf headerWords
+header-content T slots = simp append-assoc
+
+-- A part of a list, from place a on and before place b.
+part-at : (left front part rest : List ℕ) (a b : ℕ) → left ≡ front ++ (part ++ rest) → length front ≡ a → a + length part ≡ b → take (b - a) (drop a left) ≡ part
+part-at left front part rest a b e h k = rw (e, drop-at front (part ++ rest) a h) (take-at part rest (b - a) (omega arith))
+
+-- What is known of the header of a task that is read, before its operators are.
+pub record Headed (T : Task) : Type 0 where
+  pub limits : InLimits (T .sizes)
+  pub start : State (T .sizes) (T .start)
+  pub goal : State (T .sizes) (T .goal)
+  pub pairs : Run (atoms (T .sizes)) (T .pairs) (features (T .sizes))
+
+-- The words of its pairs.
+abbrev pub pairWords : Task → List ℕ
+pairWords T = featureWords (features (T .sizes)) (T .pairs)
+
+module _ (T : Task) (known : Headed T) where
+  pub header-listed : Listed (T .sizes) (pairWords T)
+  header-listed = record { limits = known .limits; due = length-packed (features (T .sizes)) (listed (T .pairs)) }
+
+  pub header-has : has (pairWords T) ≡ listed (T .pairs)
+  header-has = fun-ext (λ f. packed-holds (features (T .sizes)) (listed (T .pairs)) f (past f))
+    where
+      past : (f : ℕ) → features (T .sizes) ≤ f → listed (T .pairs) f ≡ false
+      past f l = elim (test (listed (T .pairs) f)) [ on e ↦ absurd (omega (arith, run-in (atoms (T .sizes)) (features (T .sizes)) (T .pairs) f (known .pairs) (listed-in (T .pairs) f e))) | off e ↦ e ]
+
+  pub header-length : length (headerWords T) ≡ slotsAt (length (T .sizes)) (features (T .sizes))
+  unfolding headerWords
+  header-length = rw (length-append (T .sizes) (T .start ++ (T .goal ++ pairWords T)), length-append (T .start) (T .goal ++ pairWords T), length-append (T .goal) (pairWords T))
+      (omega (arith, known .start .full, known .goal .full, length-packed (features (T .sizes)) (listed (T .pairs))))
+
+  -- Words that begin with the header, part by part.
+  module _ (words left : List ℕ) (e : left ≡ begun words (headerWords T)) (v n : ℕ) (many : v ≡ length (T .sizes)) (total : n ≡ features (T .sizes)) where
+    abbrev further : List ℕ
+    further = drop (length (headerWords T)) words
+
+    pub count-word : getD left 0 0 ≡ v
+    unfolding headerWords
+    count-word = rw (e, many) refl
+
+    pub sizes-part : take (startAt v - sizesAt) (drop sizesAt left) ≡ T .sizes
+    unfolding headerWords
+    sizes-part = part-at left (length (T .sizes) ∷ []) (T .sizes) ((T .start ++ (T .goal ++ pairWords T)) ++ further) sizesAt (startAt v) (e ∙ simp append-assoc) refl (omega arith)
+
+    pub start-part : take (goalAt v - startAt v) (drop (startAt v) left) ≡ T .start
+    unfolding headerWords
+    start-part = part-at left (length (T .sizes) ∷ T .sizes) (T .start) ((T .goal ++ pairWords T) ++ further) (startAt v) (goalAt v) (e ∙ simp append-assoc) (omega arith)
+        (omega (arith, known .start .full))
+
+    pub goal-part : take (pairsAt v - goalAt v) (drop (goalAt v) left) ≡ T .goal
+    unfolding headerWords
+    goal-part = part-at left (length (T .sizes) ∷ (T .sizes ++ T .start)) (T .goal) (pairWords T ++ further) (goalAt v) (pairsAt v) (e ∙ simp append-assoc)
+        (omega (arith, known .start .full, length-append (T .sizes) (T .start))) (omega (arith, known .goal .full))
+
+    pub pairs-part : take (slotsAt v n - pairsAt v) (drop (pairsAt v) left) ≡ pairWords T
+    unfolding headerWords
+    pairs-part = part-at left (length (T .sizes) ∷ (T .sizes ++ (T .start ++ T .goal))) (pairWords T) further (pairsAt v) (slotsAt v n) (e ∙ simp append-assoc)
+        (omega (arith, known .start .full, known .goal .full, length-append (T .sizes) (T .start ++ T .goal), length-append (T .start) (T .goal)))
+        (omega (arith, length-packed (features (T .sizes)) (listed (T .pairs))))
+
+-- ---- a front that was read
+
+front-said : (bytes : List ℕ) → Gives bytes frontOf (λ front l. Headed (taskWith front []))
+unfolding frontOf statesOf
+front-said bytes = gives-then _ _
+    (gives-then _ (λ states l. InLimits (states .sizes) × State (states .sizes) (states .start) × State (states .sizes) (states .goal)) (header-said bytes) (λ sizes l h.
+    gives-then _ _ (values-said bytes sizes) (λ start m g. gives-map (statesWith sizes start) _ (values-said bytes sizes) (λ goal k r. (h .0, g .0, r .0)))))
+    (λ states l s. gives-then _ _ (feature-list-said bytes (atoms (states .sizes)) (features (states .sizes)) (atoms-room (states .sizes))) (λ pairs m p.
+    gives-map (λ count. record { states = states; pairs = pairs; count = count }) _ (number-said bytes) (λ count k c. record { limits = s .0; start = s .1; goal = s .2; pairs = p .0 })))
+
+pub front-headed : (bytes : List ℕ) (front : Front) (at : ℕ) (operators : List Operator) → frontOf bytes 0 ≡ got front at → Headed (taskWith front operators)
+front-headed bytes front at operators e = let known = front-said bytes .gives 0 front at e .known in
+    record { limits = known .limits; start = known .start; goal = known .goal; pairs = known .pairs }

@@ -1,0 +1,199 @@
+// Judges a task file: its first fault in the order of the paper, or that it is accepted.
+ghost use mathlib.Core.Path.{_≡_};
+ghost use Prim.Native.Nat.{_≤_};
+ghost use lib.ListN.{length, replicate};
+ghost use Rattle.meaning.specs.Limits.{mostVariables, mostFeatures};
+ghost use Rattle.meaning.specs.Task.{State};
+ghost use Rattle.meaning.specs.File.{operatorsOf, judgedTask};
+ghost use Rattle.meaning.specs.Workspace.{startAt, goalAt, pairsAt, slotsAt, has};
+ghost use Rattle.number.specs.Answers.{placeOf};
+ghost use Rattle.pairs.specs.Ready.{Listed};
+ghost use Rattle.task.specs.Walk.{closedFrom};
+ghost use Rattle.task.specs.Rest.{restOf};
+ghost use Rattle.task.specs.Answer.{JudgedInto};
+use number::Reason;
+use number::Step;
+use reader::Header;
+use words::WORD_BITS;
+
+// What a task file is judged to be: accepted, with how many variables, features and operators it has and the place of the first operator; or the
+// first fault.
+pub enum Judged {
+    Accepted {
+        variables: usize,
+        features: usize,
+        operators: usize,
+        at: usize,
+    },
+    Refused(Reason, usize),
+}
+
+// Room for the largest header: v, sizes, start, goal and the words of listed pairs.
+pub const HEADER_WORDS: usize = 257;
+
+// Where the sizes begin.
+pub const SIZES_AT: usize = 1;
+
+// Room for a bit for each feature of a task.
+const FEATURE_WORDS: usize = 64;
+
+// Reads so many operators.
+fn operators_at(bytes: &[u8], at: usize, count: usize, sizes: &[u64]) -> Step
+    requires { ⌜ length (now sizes) ≤ mostVariables ⌝ }
+    ensures { λ r. ⌜ r ≡ placeOf (operatorsOf (now (sizes .entry)) count (now (bytes .entry)) at) ⌝ }
+{
+    let mut next = at;
+    let mut k = 0;
+    while k < count {
+        let read = operator::read_operator(bytes, next, sizes);
+        let step = read.step;
+        match step {
+            Step::Next(after) => {
+                next = after;
+            }
+            Step::Fault(reason, place) => {
+                return Step::Fault(reason, place);
+            }
+        }
+        k += 1;
+    }
+    Step::Next(next)
+}
+
+// Whether the list is closed under each of so many operators, as far as they can be read. The first variable that has anything against it decides.
+fn are_closed(bytes: &[u8], at: usize, count: usize, sizes: &[u64], pairs: &[u64]) -> bool
+    requires { ⌜ Listed (now sizes) (now pairs) ⌝ }
+    ensures { λ r. ⌜ r ≡ closedFrom (now (sizes .entry)) (has (now (pairs .entry))) count (now (bytes .entry)) at ⌝ }
+{
+    let mut possible = [0u64; FEATURE_WORDS];
+    let mut closed = true;
+    let mut next = at;
+    let mut k = 0;
+    'walk: while k < count {
+        let read = operator::read_operator(bytes, next, sizes);
+        let step = read.step;
+        let Step::Next(after) = step else {
+            break 'walk;
+        };
+        let n = read.operator.count;
+        let all_variables = read.operator.variables;
+        let all_befores = read.operator.befores;
+        let all_afters = read.operator.afters;
+        let variables = &all_variables[..n];
+        let befores = &all_befores[..n];
+        let afters = &all_afters[..n];
+        pairs::fill_possible(sizes, pairs, variables, befores, afters, &mut possible);
+        if !pairs::is_idle(sizes, pairs, variables, befores, afters, &possible) {
+            let mut u = 0;
+            while u < sizes.len() {
+                if pairs::is_unclosed_at(sizes, pairs, variables, befores, afters, &possible, u) {
+                    closed = false;
+                    break 'walk;
+                }
+                u += 1;
+            }
+        }
+        next = after;
+        k += 1;
+    }
+    closed
+}
+
+// Judges what stands behind the header: the operators, that nothing follows, the start, and last whether the list is closed.
+fn judge_rest(
+    bytes: &[u8],
+    at: usize,
+    count: usize,
+    sizes: &[u64],
+    start: &[u64],
+    pairs: &[u64],
+) -> Step
+    requires { ⌜ Listed (now sizes) (now pairs) × State (now sizes) (now start) ⌝ }
+    ensures { λ r. ⌜ r ≡ placeOf (restOf (now (sizes .entry)) (has (now (pairs .entry))) (now (start .entry)) count (now (bytes .entry)) at) ⌝ }
+{
+    match operators_at(bytes, at, count, sizes) {
+        Step::Next(next) => {
+            if next < bytes.len() {
+                return Step::Fault(Reason::LeftOver, next);
+            }
+            if pairs::holds(sizes, pairs, start) {
+                return Step::Fault(Reason::Held, 0);
+            }
+            if !are_closed(bytes, at, count, sizes, pairs) {
+                return Step::Fault(Reason::Unclosed, 0);
+            }
+            Step::Next(next)
+        }
+        Step::Fault(reason, place) => Step::Fault(reason, place),
+    }
+}
+
+// Where the start values begin.
+pub fn start_at(v: usize) -> usize
+    requires { ⌜ v ≤ mostVariables ⌝ }
+    ensures { λ r. ⌜ r ≡ startAt v ⌝ }
+{
+    SIZES_AT + v
+}
+
+// Where the goal values begin.
+pub fn goal_at(v: usize) -> usize
+    requires { ⌜ v ≤ mostVariables ⌝ }
+    ensures { λ r. ⌜ r ≡ goalAt v ⌝ }
+{
+    SIZES_AT + v + v
+}
+
+// Where the listed pairs begin.
+pub fn pairs_at(v: usize) -> usize
+    requires { ⌜ v ≤ mostVariables ⌝ }
+    ensures { λ r. ⌜ r ≡ pairsAt v ⌝ }
+{
+    SIZES_AT + v + v + v
+}
+
+// Where the slots of a task with n features begin.
+pub fn slots_at(v: usize, n: usize) -> usize
+    requires { ⌜ (v ≤ mostVariables) × (n ≤ mostFeatures) ⌝ }
+    ensures { λ r. ⌜ r ≡ slotsAt v n ⌝ }
+{
+    pairs_at(v) + (n + (WORD_BITS - 1)) / WORD_BITS
+}
+
+// Judges a task file, and leaves the header of an accepted one in words that are all 0.
+pub fn judge(bytes: &[u8], header: &mut [u64]) -> Judged
+    requires { ⌜ (slotsAt mostVariables mostFeatures ≤ length (now header)) × (now header ≡ replicate (length (now header)) 0) ⌝ }
+    ensures { λ r. ⌜ JudgedInto (judgedTask (now (bytes .entry))) (now (bytes .entry)) (now (header .entry)) r (now (header .exit)) ⌝ }
+{
+    match reader::read_header(bytes, &mut *header) {
+        Header::Got {
+            variables,
+            features,
+            operators,
+            next,
+        } => {
+            let start = start_at(variables);
+            let goal = goal_at(variables);
+            let pairs = pairs_at(variables);
+            let end = slots_at(variables, features);
+            let words = &header[..];
+            match judge_rest(
+                bytes,
+                next,
+                operators,
+                &words[SIZES_AT..start],
+                &words[start..goal],
+                &words[pairs..end],
+            ) {
+                Step::Next(_) => Judged::Accepted {
+                    variables: variables,
+                    features: features,
+                    operators: operators,
+                    at: next,
+                },
+                Step::Fault(reason, place) => Judged::Refused(reason, place),
+            }
+        }
+        Header::Fault(reason, place) => Judged::Refused(reason, place),
+    }
+}

@@ -5,14 +5,17 @@ ghost use mathlib.Core.Bool.{true, false};
 ghost use Prim.Native.Nat.{ℕ, _*_, _<_, _≤_};
 ghost use lib.ListN.{length, replicate};
 ghost use Rattle.meaning.specs.Sets.{Set};
-ghost use Rattle.meaning.specs.Limits.{wordBits};
+ghost use Rattle.meaning.specs.Limits.{wordBits, mostFeatures};
+ghost use Rattle.meaning.specs.Slot.{Reduced};
 ghost use Rattle.meaning.specs.Task.{State, applies, size};
 ghost use Rattle.meaning.specs.Feature.{atoms, features};
 ghost use Rattle.meaning.specs.File.{InLimits};
 ghost use Rattle.meaning.specs.Pair.{idle};
-ghost use Rattle.meaning.specs.Workspace.{wordsFor, has, packed};
+ghost use Rattle.meaning.specs.Workspace.{wordsFor, wordsDue, has, packed};
 ghost use Rattle.theory.specs.Possible.{entriesIn};
-ghost use Rattle.theory.specs.Rows.{change, base, allowed};
+ghost use Rattle.theory.specs.Rows.{change, base, rowsOf, allowed};
+ghost use Rattle.theory.specs.Insert.{insert};
+ghost use Rattle.theory.specs.InsertAll.{insertAll};
 ghost use Rattle.theory.specs.Finder.{difference};
 ghost use Rattle.pairs.specs.Ready.{Ready, HoldsPossible};
 ghost use Rattle.words.specs.Toggled.{toggledAll};
@@ -20,7 +23,8 @@ ghost use Rattle.rows.specs.Moves.{Room};
 ghost use Rattle.rows.specs.Given.{Given};
 ghost use Rattle.rows.specs.Apart.{wantedBy, wantedFrom, placesFrom};
 ghost use Rattle.condition.specs.Ends.{trueAtoms, truePairsOf, truePairs, trueFeatures};
-ghost use Rattle.condition.specs.Walk.{Prepared, rowAt, rowsBy, allEven};
+ghost use Rattle.condition.specs.Walk.{Prepared, RowFor, rowAt, rowsBy, allEven};
+ghost use Rattle.condition.specs.Slotted.{sizeWords, pairWords, heldSlots, slotted, Opened};
 
 // As many words as the most features take, and a place for each variable.
 const MOST_WORDS: usize = 64;
@@ -254,4 +258,89 @@ pub fn is_allowed(
         &mut state[..v],
         &mut row[..w],
     )
+}
+
+// Inserts a row into the slots of a workspace: only the slot area, which starts inside the workspace, is lent for writing. The row is spent.
+fn insert_row(workspace: &mut [u64], v: usize, n: usize, row: &mut [u64])
+    requires { ⌜ (wordsDue v n ≤ length (now workspace)) × Reduced n (heldSlots v n (now workspace)) × RowFor n (now row) × (n ≤ mostFeatures) ⌝ }
+    ensures { λ r. ⌜ now (workspace .exit) ≡ slotted v n (now (workspace .entry)) (insert n (heldSlots v n (now (workspace .entry))) (has (now (row .entry)))) ⌝ }
+{
+    let w = row.len();
+    let start = 1 + 3 * v + w;
+    let end = start + n * w;
+    slots::insert(&mut workspace[start..end], n, row);
+}
+
+// Inserts each row, from the first to the last.
+fn insert_rows(
+    workspace: &mut [u64],
+    v: usize,
+    n: usize,
+    variables: &[usize],
+    befores: &[usize],
+    afters: &[usize],
+    possible: &[u64],
+    state: &[usize],
+    row: &mut [u64],
+)
+    requires { ⌜ Opened v n (now workspace) (now variables) (now befores) (now afters)
+        × ((pairs : Set) × Prepared (sizeWords v (now workspace)) pairs (now variables) (now befores) (now afters) (now possible) (now state)) × (length (now row) ≡ wordsFor n) ⌝ }
+    ensures { λ r. ⌜ now (workspace .exit) ≡ slotted v n (now (workspace .entry)) (insertAll n (heldSlots v n (now (workspace .entry)))
+        (rowsBy (sizeWords v (now (workspace .entry))) (entriesIn (now (variables .entry)) (now (befores .entry)) (now (afters .entry))) (now (possible .entry)) (now (state .entry)))) ⌝ }
+{
+    let end = 1 + v;
+    first_row(&workspace[1..end], variables, befores, afters, state, row);
+    let mut u = 0;
+    let mut y = 0;
+    loop {
+        insert_row(workspace, v, n, row);
+        let place = next_row(&workspace[1..end], variables, befores, afters, possible, state, u, y, row);
+        match place {
+            Place::At(i, x) => {
+                u = i;
+                y = x + 1;
+            }
+            Place::Done => return,
+        }
+    }
+}
+
+// Inserts the operator's rows; an idle one has none. The table, the base state and the row have their room here.
+fn insert_condition(
+    workspace: &mut [u64],
+    v: usize,
+    n: usize,
+    variables: &[usize],
+    befores: &[usize],
+    afters: &[usize],
+    possible: &mut [u64],
+    state: &mut [usize],
+    row: &mut [u64],
+)
+    requires { ⌜ Opened v n (now workspace) (now variables) (now befores) (now afters)
+        × (length (now possible) ≡ wordsFor n) × (length (now state) ≡ v) × (length (now row) ≡ wordsFor n) ⌝ }
+    ensures { λ r. ⌜ now (workspace .exit) ≡ slotted v n (now (workspace .entry)) (insertAll n (heldSlots v n (now (workspace .entry)))
+        (rowsOf (sizeWords v (now (workspace .entry))) (has (pairWords v n (now (workspace .entry)))) (entriesIn (now (variables .entry)) (now (befores .entry)) (now (afters .entry))))) ⌝ }
+{
+    let w = row.len();
+    let end = 1 + v;
+    let start = 1 + 3 * v;
+    let stop = start + w;
+    if prepare(&workspace[1..end], &workspace[start..stop], variables, befores, afters, possible, state) {
+        return;
+    }
+    insert_rows(workspace, v, n, variables, befores, afters, possible, state, row);
+}
+
+// Inserts the operator's rows into the slots of a workspace for v variables and n features.
+pub fn add_rows(workspace: &mut [u64], v: usize, n: usize, variables: &[usize], befores: &[usize], afters: &[usize])
+    requires { ⌜ Opened v n (now workspace) (now variables) (now befores) (now afters) ⌝ }
+    ensures { λ r. ⌜ now (workspace .exit) ≡ slotted v n (now (workspace .entry)) (insertAll n (heldSlots v n (now (workspace .entry)))
+        (rowsOf (sizeWords v (now (workspace .entry))) (has (pairWords v n (now (workspace .entry)))) (entriesIn (now (variables .entry)) (now (befores .entry)) (now (afters .entry))))) ⌝ }
+{
+    let w = (n + (words::WORD_BITS - 1)) / words::WORD_BITS;
+    let mut possible = [0u64; MOST_WORDS];
+    let mut state = [0usize; MOST_VARIABLES];
+    let mut row = [0u64; MOST_WORDS];
+    insert_condition(workspace, v, n, variables, befores, afters, &mut possible[..w], &mut state[..v], &mut row[..w]);
 }

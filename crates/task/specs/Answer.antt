@@ -1,20 +1,19 @@
 -- What the judge's answer and the words that it leaves say of a task file; what an answer tells, and what makes one.
 use Prim.Native.Nat.{ℕ, _-_, _≤_}
-use mathlib.Core.Path.{_≡_, refl, sym, ap, ap₂, _∙_}
+use mathlib.Core.Path.{_≡_, refl, sym, ap, _∙_}
 use mathlib.Core.List.{List, []}
 use native.Mathlib.Omega.{arith}
-use lib.ListN.{length, take, drop, length-append}
+use lib.ListN.{length, take, drop}
 use Rattle.meaning.specs.Limits.{mostVariables, mostFeatures}
 use Rattle.meaning.specs.Sets.{listed}
 use Rattle.meaning.specs.Task.{Operator, Task, State}
 use Rattle.meaning.specs.Feature.{features}
-use Rattle.meaning.specs.Number as meaning
 use Rattle.meaning.specs.Number.{Read, got, fault}
 use Rattle.meaning.specs.File.{operatorsOf, judgedTask, Writable}
 use Rattle.meaning.specs.Workspace.{sizesAt, startAt, goalAt, pairsAt, slotsAt, has}
 use Rattle.theory.specs.Parts.{operators-said}
 use Rattle.theory.specs.Accepted.{accepted}
-use Rattle.number.specs.Answers.{reasonOf, declaredOf, reason-declared, declared-reason, placeOf, place-next, place-faulted}
+use Rattle.number.specs.Answers.{reasonOf, declaredOf, declared-reason, placeOf, place-next, place-faulted}
 use Rattle.number.specs.declared.Reason.{Reason}
 use Rattle.number.specs.declared.Step.{Step}
 use Rattle.number.specs.declared.Step.the-variants as step
@@ -26,7 +25,8 @@ use Rattle.reader.specs.Front.{Front, frontOf, frontWords, HeaderInto, taskWith
 use Rattle.pairs.specs.Ready.{Listed}
 use Rattle.task.specs.declared.Judged.{Judged}
 use Rattle.task.specs.declared.Judged.the-variants.{Accepted, Refused}
-use Rattle.task.specs.Header.{headerWords, pairWords, Headed, front-header, front-headed, header-length, header-listed, header-has, sizes-part, start-part, pairs-part}
+use Rattle.task.specs.Header.{headerWords, pairWords, Headed, front-header, front-headed, header-listed, header-has, header-room}
+use Rattle.task.specs.Header.{sizes-part, start-part, goal-part, pairs-part}
 use Rattle.task.specs.Rest.{restOf, behind, front-unread, judged-behind, rest-operators}
 
 -- The front of a task: all but its operators, and how many they are.
@@ -64,6 +64,17 @@ pub record Known (bytes words left : List ℕ) (v n count at : ℕ) : Type 0 whe
 pub known-headed : {bytes words left : List ℕ} {v n count at : ℕ} (known : Known bytes words left v n count at) → Headed (known .task)
 known-headed known = let a = known .writable .acceptable in record { limits = a .limits; start = a .start; goal = a .goal; pairs = a .pairs }
 
+-- The parts of the words that are left, as they are lent: sizes, start, goal and pairs.
+pub known-parts : {bytes words left : List ℕ} {v n count at : ℕ} (known : Known bytes words left v n count at)
+    → (take (startAt v - sizesAt) (drop sizesAt left) ≡ known .task .sizes) × (take (goalAt v - startAt v) (drop (startAt v) left) ≡ known .task .start)
+    × (take (pairsAt v - goalAt v) (drop (goalAt v) left) ≡ known .task .goal) × (take (slotsAt v n - pairsAt v) (drop (pairsAt v) left) ≡ pairWords (known .task))
+known-parts {words = words} {left = left} {v = v} {n = n} known = (
+  sizes-part (known .task) (known-headed known) words left (known .header) v n (known .variables) (known .total),
+  start-part (known .task) (known-headed known) words left (known .header) v n (known .variables) (known .total),
+  goal-part (known .task) (known-headed known) words left (known .header) v n (known .variables) (known .total),
+  pairs-part (known .task) (known-headed known) words left (known .header) v n (known .variables) (known .total),
+)
+
 module _ (bytes words : List ℕ) (answer : Judged) (left : List ℕ) where
   pub judged-accepted : (v n count at : ℕ) → JudgedInto (judgedTask bytes) bytes words answer left → answer ≡ Accepted v n count at → Known bytes words left v n count at
   unfolding JudgedInto
@@ -100,9 +111,8 @@ module _ (bytes words : List ℕ) (answer : Judged) (left : List ℕ) where
           let z : _≡_ {A = ℕ} 0 1 = cc in omega arith)
       by (fault other there) k =
           let same : Refused (declaredOf other) there ≡ Refused reason place = sym k ∙ e in
-          let p : declaredOf other ≡ reason = cc in
-          let q : there ≡ place = cc in
-          ap₂ fault (sym (reason-declared other) ∙ ap reasonOf p) q
+          let found : step.Fault (declaredOf other) there ≡ step.Fault reason place = cc in
+          place-faulted (fault other there) reason place found
 
 -- ---- what makes an answer
 
@@ -149,9 +159,8 @@ module _ (bytes words left : List ℕ) where
             let z : _≡_ {A = ℕ} 0 1 = cc in omega arith)
         by (fault other there) k =
             let same : Fault (declaredOf other) there ≡ Fault reason place = sym k ∙ e in
-            let p : declaredOf other ≡ reason = cc in
-            let q : there ≡ place = cc in
-            ap₂ fault (sym (reason-declared other) ∙ ap reasonOf p) q
+            let found : step.Fault (declaredOf other) there ≡ step.Fault reason place = cc in
+            place-faulted (fault other there) reason place found
 
   module _ (v n count at : ℕ) (known : Fronted bytes words left v n count at) where
     -- A task with this front, and its header.
@@ -168,7 +177,7 @@ module _ (bytes words left : List ℕ) where
     fronted-limits = (omega (arith, known .variables, headed [] .limits .variables), omega (arith, known .total, headed [] .limits .total))
 
     pub fronted-room : slotsAt v n ≤ length left
-    fronted-room = omega (arith, known .variables, known .total, header-length (begins []) (headed []), ap length (header-words []), length-append (headerWords (begins [])) (drop (length (headerWords (begins []))) words))
+    fronted-room = header-room (begins []) (headed []) words left (header-words []) v n (known .variables) (known .total)
 
     module _ (start goal pairs end : ℕ) (cuts : Cuts v n start goal pairs end) where
       -- Sizes, start and pairs, as the code lends them.

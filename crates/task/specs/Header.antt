@@ -1,6 +1,6 @@
 -- The header of a task in words: where each part is read back, and what is known of a front that was read.
-use Prim.Native.Nat.{ℕ, _+_, _-_, _<_, _≤_}
-use mathlib.Core.Path.{_≡_, refl, sym, ap, _∙_, fun-ext}
+use Prim.Native.Nat.{ℕ, _+_, _-_, _≤_}
+use mathlib.Core.Path.{_≡_, refl, ap, _∙_, fun-ext}
 use mathlib.Core.Bool.{false}
 use mathlib.Core.List.{List, [], _∷_, _++_, append-assoc}
 use native.Mathlib.Omega.{arith}
@@ -9,9 +9,9 @@ use lib.Seq.{take-at, drop-at}
 use Rattle.meaning.specs.Sets.{Slots, listed, flat}
 use Rattle.meaning.specs.Task.{Operator, Task, State, Run}
 use Rattle.meaning.specs.Feature.{atoms, features}
-use Rattle.meaning.specs.Number.{got, number}
+use Rattle.meaning.specs.Number.{got}
 use Rattle.meaning.specs.File.{InLimits}
-use Rattle.meaning.specs.Workspace.{wordsFor, sizesAt, startAt, goalAt, pairsAt, slotsAt, has, packed, wordsOf, contentOf}
+use Rattle.meaning.specs.Workspace.{sizesAt, startAt, goalAt, pairsAt, slotsAt, has, packed, wordsOf, contentOf}
 use Rattle.theory.specs.Search.{listed-in}
 use Rattle.theory.specs.Numbering.{atoms-room}
 use Rattle.theory.specs.Run.{run-in}
@@ -20,7 +20,7 @@ use Rattle.theory.specs.Words.{length-packed, packed-holds}
 use Rattle.theory.specs.Spent.{Gives, gives-then, gives-map}
 use Rattle.theory.specs.Parts.{header-said, values-said, feature-list-said, number-said}
 use Rattle.reader.specs.Answer.{begun, featureWords}
-use Rattle.reader.specs.Front.{States, Front, statesOf, frontOf, stateWords, frontWords, taskWith}
+use Rattle.reader.specs.Front.{Front, statesOf, frontOf, stateWords, frontWords, taskWith}
 use Rattle.reader.specs.States.{statesWith}
 use Rattle.pairs.specs.Ready.{Listed}
 
@@ -71,6 +71,13 @@ module _ (T : Task) (known : Headed T) where
   module _ (words left : List ℕ) (e : left ≡ begun words (headerWords T)) (v n : ℕ) (many : v ≡ length (T .sizes)) (total : n ≡ features (T .sizes)) where
     abbrev further : List ℕ
     further = drop (length (headerWords T)) words
+
+    -- The front of the words, and that they are as long.
+    pub header-front : take (slotsAt v n) left ≡ headerWords T
+    header-front = rw (e, many, total) (take-at (headerWords T) further (slotsAt (length (T .sizes)) (features (T .sizes))) header-length)
+
+    pub header-room : slotsAt v n ≤ length left
+    header-room = omega (arith, many, total, header-length, ap length e, length-append (headerWords T) further)
 
     pub count-word : getD left 0 0 ≡ v
     unfolding headerWords

@@ -9,57 +9,43 @@ use Rattle.meaning.specs.Number.{got}
 use Rattle.meaning.specs.File.{operatorsOf}
 use Rattle.number.specs.Answers.{placeOf, place-fault, place-next, place-faulted}
 use Rattle.task.specs.Rest.{rest-unread, rest-over, rest-held, rest-unclosed, rest-got}
-use borrow.Author.Needs.{needs}
 use Rattle.task.proofs.judge_rest.Statement.{statement}
 use Rattle.task.proofs.judge_rest.Tie as tie
-use Rattle.task.proofs.judge_rest.Reads as reads
-use Rattle.task.proofs.judge_rest.Lts as lts
-use Rattle.pairs.proofs.holds.Reads as holds-reads
-use Rattle.task.proofs.are_closed.Reads as are-closed-reads
-use Rattle.task.proofs.operators_at.Reads as operators-at-reads
 
 -- The operators, where all were read.
 read : (c : tie.After-next) → let a = c .before .before .before .before .before .before .before .args in
     (operators : List Operator) × (operatorsOf (a .sizes .now) (a .count) (a .bytes .now) (a .at) ≡ got operators (c .next .given .0 .0))
 read c = place-next _ _ (sym (c .before .before .operators-at .ensures) ∙ c .next .given .1)
 
--- src/lib.rt:114:11
 operators-at-requires : tie.Need-operators-at-requires
 operators-at-requires c κs = omega (arith, c .before .before .before .before .pre .0 .limits .variables)
 
--- src/lib.rt:115:20
 enum-known-next : tie.Need-enum-known-next
 enum-known-next c = search needs
 
--- src/lib.rt:117:17
 returns : tie.Need-returns
 returns c = sym (ap placeOf (rest-over _ _ _ _ _ _ _ _ (read (c .before .before) .1) (c .if1 .taken)))
 
--- src/lib.rt:119:16
 holds-requires : tie.Need-holds-requires
 holds-requires c κs = c .before .before .before .before .before .before .before .before .before .pre
 
--- src/lib.rt:120:17
 returns-2 : tie.Need-returns-2
 returns-2 c = sym (ap placeOf (rest-held _ _ _ _ _ _ _ _ (read (c .before .before .before .before) .1) (c .before .before .if1 .left) (sym (c .before .holds .ensures) ∙ c .if2 .taken)))
 
--- src/lib.rt:122:17
 are-closed-requires : tie.Need-are-closed-requires
 are-closed-requires c κs = c .before .before .before .before .before .before .before .before .before .before .before .pre .0
 
--- src/lib.rt:123:17
 returns-3 : tie.Need-returns-3
-returns-3 c = sym (ap placeOf (rest-unclosed _ _ _ _ _ _ _ _ (read (c .before .before .before .before .before .before) .1) (c .before .before .before .before .if1 .left) (sym (c .before .before .before .holds .ensures) ∙ c .before .before .if2 .left) (sym (c .before .are-closed .ensures) ∙ not-true _ (c .if3 .taken))))
+returns-3 c = sym (ap placeOf (rest-unclosed _ _ _ _ _ _ _ _ (read (c .before .before .before .before .before .before) .1) (c .before .before .before .before .if1 .left)
+    (sym (c .before .before .before .holds .ensures) ∙ c .before .before .if2 .left) (sym (c .before .are-closed .ensures) ∙ not-true _ (c .if3 .taken))))
 
--- src/lib.rt:127:21
 enum-known-reason : tie.Need-enum-known-reason
 enum-known-reason c = search needs
 
--- src/lib.rt:103:1
 returns-4 : tie.Need-returns-4
-returns-4 c = sym (ap placeOf (rest-got _ _ _ _ _ _ _ _ (read (c .before .before .before .before .before .before) .1) (c .before .before .before .before .if1 .left) (sym (c .before .before .before .holds .ensures) ∙ c .before .before .if2 .left) (sym (c .before .are-closed .ensures) ∙ not-false _ (c .if3 .left))))
+returns-4 c = sym (ap placeOf (rest-got _ _ _ _ _ _ _ _ (read (c .before .before .before .before .before .before) .1) (c .before .before .before .before .if1 .left)
+    (sym (c .before .before .before .holds .ensures) ∙ c .before .before .if2 .left) (sym (c .before .are-closed .ensures) ∙ not-false _ (c .if3 .left))))
 
--- src/lib.rt:103:1
 returns-5 : tie.Need-returns-5
 returns-5 c = sym (place-fault _ _ _ (rest-unread _ _ _ _ _ _ _ _ (place-faulted _ _ _ (sym (c .before .before .before .operators-at .ensures) ∙ c .before .reason .given .1))))
 

@@ -1,6 +1,6 @@
 -- `operators_at`: after each operator, those that are left lead to the same answer.
 use Prim.Native.Nat.{_≤_, _-_}
-use mathlib.Core.Path.{_≡_, refl, sym, ap, _∙_}
+use mathlib.Core.Path.{_≡_, sym, ap, _∙_}
 use native.Mathlib.Omega.{arith}
 use native.Mathlib.Nat.{sub-zero}
 use Rattle.meaning.specs.File.{operatorsOf}
@@ -10,9 +10,6 @@ use Rattle.task.specs.Walk.{place-more, operators-fault, operators-none}
 use borrow.Author.Needs.{needs}
 use Rattle.task.proofs.operators_at.Statement.{statement}
 use Rattle.task.proofs.operators_at.Tie as tie
-use Rattle.task.proofs.operators_at.Reads as reads
-use Rattle.task.proofs.operators_at.Lts as lts
-use Rattle.operator.proofs.read_operator.Reads as read-operator-reads
 
 abbrev Inv-loop : tie.InvT-loop
 Inv-loop bytes at count sizes next₀ k₀ next k =
@@ -21,39 +18,36 @@ Inv-loop bytes at count sizes next₀ k₀ next k =
 abbrev μ-loop : tie.MeasureT-loop
 μ-loop bytes at count sizes next₀ k₀ next k = count - k
 
--- src/lib.rt:24:5
 loop-holds : tie.Need-loop-holds Inv-loop μ-loop
 loop-holds c = (omega arith, simp sub-zero)
 
--- src/lib.rt:25:13
 read-operator-requires : tie.Need-read-operator-requires Inv-loop μ-loop
 read-operator-requires c κs = search needs
 
--- src/lib.rt:28:24
 enum-known-step : tie.Need-enum-known-step Inv-loop μ-loop
 enum-known-step c = search needs
 
--- src/lib.rt:31:25
 enum-known-step-2 : tie.Need-enum-known-step-2 Inv-loop μ-loop
 enum-known-step-2 c = search needs
 
--- src/lib.rt:32:17
 returns : tie.Need-returns Inv-loop μ-loop
-returns c = sym (c .before .before .before .before .before .loop .inv .1 ∙ place-fault _ _ _ (operators-fault _ _ _ _ _ _ _ (c .before .before .before .before .loop-test .taken) (read-faulted _ _ _ _ _ _ (c .before .before .before .read-operator .ensures) (c .before .step2 .given .1))))
+returns c = sym (c .before .before .before .before .before .loop .inv .1 ∙ place-fault _ _ _
+    (operators-fault _ _ _ _ _ _ _ (c .before .before .before .before .loop-test .taken)
+    (read-faulted _ _ _ _ _ _ (c .before .before .before .read-operator .ensures) (c .before .step2 .given .1))))
 
--- src/lib.rt:35:9
 add-k : tie.Need-add-k Inv-loop μ-loop
 add-k c = search needs
 
--- src/lib.rt:24:5
 loop-less : tie.Need-loop-less Inv-loop μ-loop
 loop-less c = omega arith
 
--- src/lib.rt:24:5
 loop-again : tie.Need-loop-again Inv-loop μ-loop
-loop-again c = (omega arith, c .before .before .before .before .before .loop .inv .1 ∙ place-more _ _ _ _ _ _ _ (c .before .before .before .before .loop-test .taken) (read-next _ _ _ _ _ (c .before .before .before .read-operator .ensures) (c .before .step .given .1)))
+loop-again c = (
+  omega arith,
+  c .before .before .before .before .before .loop .inv .1 ∙ place-more _ _ _ _ _ _ _ (c .before .before .before .before .loop-test .taken)
+      (read-next _ _ _ _ _ (c .before .before .before .read-operator .ensures) (c .before .step .given .1)),
+)
 
--- src/lib.rt:18:1
 returns-2 : tie.Need-returns-2 Inv-loop μ-loop
 returns-2 c = sym (c .before .loop .inv .1 ∙ ap placeOf (operators-none _ _ _ _ _ (c .loop-test .left)))
 

@@ -1,0 +1,65 @@
+-- A list that is made number by number, in the turns of a loop: what is left from a number on, and how it is written.
+use Prim.Native.Nat.{ℕ, zero, suc, _+_, _-_, _<_, _≤_}
+use mathlib.Core.Path.{_≡_, refl, sym, ap, ap₂, _∙_}
+use mathlib.Core.List.{List, [], _∷_, _++_, append-nil, append-assoc}
+use native.Mathlib.Omega.{arith}
+use native.Mathlib.Nat.{sub-zero, zero-add}
+use lib.ListN.{length, set, take, drop}
+use Rattle.meaning.specs.Sets.{flat}
+use Rattle.meaning.specs.File.{bytesOf}
+use Rattle.number.specs.Laws.{sets-all}
+use Rattle.writer.specs.Remains.{Remains, remains-all, remains-none}
+
+-- The lists for so many numbers from i on, one after another.
+unfoldable pub flatFrom : {A : Type 0} → ℕ → ℕ → (ℕ → List A) → List A
+flatFrom zero i lists = []
+flatFrom (suc k) i lists = lists i ++ flatFrom k (i + 1) lists
+
+module _ {A : Type 0} (lists : ℕ → List A) where
+  from-last : (k i : ℕ) → flatFrom k i lists ++ lists (i + k) ≡ flatFrom (suc k) i lists
+  unfolding flatFrom
+  from-last zero i = let z : i + 0 ≡ i = omega arith in rw z (sym (append-nil (lists i)))
+  from-last (suc k) i =
+      let z : i + suc k ≡ i + 1 + k = omega arith in
+      rw z (append-assoc (lists i) (flatFrom k (i + 1) lists) (lists (i + 1 + k)) ∙ ap (_++_ (lists i)) (from-last k (i + 1)))
+
+  flat-from : (n : ℕ) → flat n lists ≡ flatFrom n 0 lists
+  unfolding flat flatFrom
+  flat-from zero = refl
+  flat-from (suc n) = ap₂ (λ l k. l ++ lists k) (flat-from n) (sym (zero-add n)) ∙ from-last n 0
+
+  module _ (n i : ℕ) where
+    pub left-more : i < n → flatFrom (n - i) i lists ≡ lists i ++ flatFrom (n - (i + 1)) (i + 1) lists
+    unfolding flatFrom
+    left-more h = let k : n - i ≡ suc (n - (i + 1)) = omega arith in rw k refl
+
+    pub left-none : n ≤ i → flatFrom (n - i) i lists ≡ []
+    unfolding flatFrom
+    left-none h = let k : n - i ≡ 0 = omega arith in rw k refl
+
+-- Before the first turn all is left.
+pub remains-whole : (n : ℕ) (lists : ℕ → List ℕ) (room : List ℕ) (at : ℕ) (due : List ℕ) → due ≡ flat n lists → at + length due ≤ length room
+    → Remains room at due room at (flatFrom (n - 0) 0 lists)
+remains-whole n lists room at due e h = rw (sub-zero n, ← flat-from lists n, ← e) (remains-all room at due h)
+
+-- Where nothing is due, nothing is written.
+pub nothing-due : (room : List ℕ) (at : ℕ) (due : List ℕ) → at + length due ≤ length room → due ≡ []
+    → (at ≡ at + length due) × (room ≡ take at room ++ (due ++ drop at room))
+nothing-due room at due h e = remains-none (remains-all room at due h) e
+
+-- A part of one number is a store.
+pub stored : (room : List ℕ) (at f : ℕ) → at < length room → set room at f ≡ take at room ++ ((f ∷ []) ++ drop (at + 1) room)
+stored room at f h = sets-all room at (at + 1) (f ∷ []) refl (omega arith)
+
+-- ---- the bytes of such a list
+
+module _ {A : Type 0} (write : A → List ℕ) where
+  bytes-join : (l m : List A) → bytesOf write (l ++ m) ≡ bytesOf write l ++ bytesOf write m
+  unfolding bytesOf
+  bytes-join [] m = refl
+  bytes-join (a ∷ l) m = ap (_++_ (write a)) (bytes-join l m) ∙ sym (append-assoc (write a) (bytesOf write l) (bytesOf write m))
+
+  pub bytes-flat : (n : ℕ) (lists : ℕ → List A) → bytesOf write (flat n lists) ≡ flat n (λ i. bytesOf write (lists i))
+  unfolding flat bytesOf
+  bytes-flat zero lists = refl
+  bytes-flat (suc n) lists = bytes-join (flat n lists) (lists n) ∙ ap (λ l. l ++ bytesOf write (lists n)) (bytes-flat n lists)

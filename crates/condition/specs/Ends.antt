@@ -7,10 +7,10 @@ use native.Mathlib.Nat.{ne-of-lt}
 use lib.Dec.{eqb}
 use lib.ListN.{length, replicate}
 use Rattle.meaning.specs.Sets.{_⊕_, flat}
-use Rattle.meaning.specs.Task.{State, value, size}
-use Rattle.meaning.specs.Feature.{features, single, double, both, trueIn}
+use Rattle.meaning.specs.Task.{State, value}
+use Rattle.meaning.specs.Feature.{features, single, both, trueIn}
 use Rattle.meaning.specs.Workspace.{wordsFor, packed}
-use Rattle.theory.specs.Parity.{par, par-cong}
+use Rattle.theory.specs.Parity.{par-cong}
 use Rattle.theory.specs.Numbering.{atoms-room, single-below, both-below, both-less}
 use Rattle.theory.specs.Meets.{true-sum}
 use Rattle.theory.specs.Toggles.{toggles, toggles-one, toggles-join, toggles-flat, Below, below-join, below-flat}

@@ -294,7 +294,17 @@ fn insert_rows(
     let mut y = 0;
     loop {
         insert_row(workspace, v, n, row);
-        let place = next_row(&workspace[1..end], variables, befores, afters, possible, state, u, y, row);
+        let place = next_row(
+            &workspace[1..end],
+            variables,
+            befores,
+            afters,
+            possible,
+            state,
+            u,
+            y,
+            row,
+        );
         match place {
             Place::At(i, x) => {
                 u = i;
@@ -326,14 +336,39 @@ fn insert_condition(
     let end = 1 + v;
     let start = 1 + 3 * v;
     let stop = start + w;
-    if prepare(&workspace[1..end], &workspace[start..stop], variables, befores, afters, possible, state) {
+    if prepare(
+        &workspace[1..end],
+        &workspace[start..stop],
+        variables,
+        befores,
+        afters,
+        possible,
+        state,
+    ) {
         return;
     }
-    insert_rows(workspace, v, n, variables, befores, afters, possible, state, row);
+    insert_rows(
+        workspace,
+        v,
+        n,
+        variables,
+        befores,
+        afters,
+        possible,
+        state,
+        row,
+    );
 }
 
 // Inserts the operator's rows into the slots of a workspace for v variables and n features.
-pub fn add_rows(workspace: &mut [u64], v: usize, n: usize, variables: &[usize], befores: &[usize], afters: &[usize])
+pub fn add_rows(
+    workspace: &mut [u64],
+    v: usize,
+    n: usize,
+    variables: &[usize],
+    befores: &[usize],
+    afters: &[usize],
+)
     requires { ⌜ Opened v n (now workspace) (now variables) (now befores) (now afters) ⌝ }
     ensures { λ r. ⌜ now (workspace .exit) ≡ slotted v n (now (workspace .entry)) (insertAll n (heldSlots v n (now (workspace .entry)))
         (rowsOf (sizeWords v (now (workspace .entry))) (has (pairWords v n (now (workspace .entry)))) (entriesIn (now (variables .entry)) (now (befores .entry)) (now (afters .entry))))) ⌝ }
@@ -342,5 +377,15 @@ pub fn add_rows(workspace: &mut [u64], v: usize, n: usize, variables: &[usize], 
     let mut possible = [0u64; MOST_WORDS];
     let mut state = [0usize; MOST_VARIABLES];
     let mut row = [0u64; MOST_WORDS];
-    insert_condition(workspace, v, n, variables, befores, afters, &mut possible[..w], &mut state[..v], &mut row[..w]);
+    insert_condition(
+        workspace,
+        v,
+        n,
+        variables,
+        befores,
+        afters,
+        &mut possible[..w],
+        &mut state[..v],
+        &mut row[..w],
+    );
 }

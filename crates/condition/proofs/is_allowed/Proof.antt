@@ -1,42 +1,47 @@
+-- `is_allowed`: the local arrays have room for the table, the base state and a row.
 use native.Mathlib.Omega.{arith}
 use lib.ListN.{length-take}
-use Rattle.theory.specs.Numbering.{atoms-room}
 use borrow.Author.Needs.{needs}
+use Rattle.theory.specs.Numbering.{atoms-room}
 use Rattle.condition.proofs.is_allowed.Statement.{statement}
 use Rattle.condition.proofs.is_allowed.Tie as tie
-use Rattle.condition.proofs.is_allowed.Reads as reads
-use Rattle.condition.proofs.is_allowed.Lts as lts
-use Rattle.condition.proofs.meets_rows.Reads as meets-rows-reads
 
--- src/lib.rt:194:67
 array-borrow-prefix-possible : tie.Need-array-borrow-prefix-possible
 array-borrow-prefix-possible c = search needs
 
--- src/lib.rt:194:67
 slice-aggregate-meets-rows : tie.Need-slice-aggregate-meets-rows
-slice-aggregate-meets-rows c = simp length-take (omega (arith, c .before .before .before .before .before .before .before .pre .1, c .before .before .before .before .before .before .before .pre .0 .limits .total))
+slice-aggregate-meets-rows c = simp length-take (omega (
+  arith,
+  c .before .before .before .before .before .before .before .pre .1,
+  c .before .before .before .before .before .before .before .pre .0 .limits .total,
+))
 
--- src/lib.rt:194:87
 array-borrow-prefix-state : tie.Need-array-borrow-prefix-state
 array-borrow-prefix-state c = search needs
 
--- src/lib.rt:194:87
 slice-aggregate-meets-rows-2 : tie.Need-slice-aggregate-meets-rows-2
 slice-aggregate-meets-rows-2 c = simp length-take (omega (arith, c .before .before .before .before .before .before .before .before .pre .0 .limits .variables))
 
--- src/lib.rt:194:104
 array-borrow-prefix-row : tie.Need-array-borrow-prefix-row
 array-borrow-prefix-row c = search needs
 
--- src/lib.rt:194:104
 slice-aggregate-meets-rows-3 : tie.Need-slice-aggregate-meets-rows-3
-slice-aggregate-meets-rows-3 c = simp length-take (omega (arith, c .before .before .before .before .before .before .before .before .before .pre .1, c .before .before .before .before .before .before .before .before .before .pre .0 .limits .total))
+slice-aggregate-meets-rows-3 c = simp length-take (omega (
+  arith,
+  c .before .before .before .before .before .before .before .before .before .pre .1,
+  c .before .before .before .before .before .before .before .before .before .pre .0 .limits .total,
+))
 
--- src/lib.rt:194:5
 meets-rows-requires : tie.Need-meets-rows-requires
-meets-rows-requires c κs = let (r, e, past) = c .before .before .before .before .before .before .before .before .before .pre in (r, e, past, simp length-take (omega (arith, e, r .limits .total, atoms-room (c .before .before .before .before .before .before .before .before .before .args .sizes .now))), simp length-take (omega (arith, r .limits .variables)), simp length-take (omega (arith, e, r .limits .total)))
+meets-rows-requires c κs = let (r, e, past) = c .before .before .before .before .before .before .before .before .before .pre in (
+  r,
+  e,
+  past,
+  simp length-take (omega (arith, e, r .limits .total, atoms-room (c .before .before .before .before .before .before .before .before .before .args .sizes .now))),
+  simp length-take (omega (arith, r .limits .variables)),
+  simp length-take (omega (arith, e, r .limits .total)),
+)
 
--- src/lib.rt:184:1
 returns : tie.Need-returns
 returns c = search needs
 

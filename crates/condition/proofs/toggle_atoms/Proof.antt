@@ -1,5 +1,6 @@
+-- `toggle_atoms`: after i turns the atoms of the first i variables are toggled.
 use Prim.Native.Nat.{_≤_, _-_}
-use mathlib.Core.Path.{_≡_, sym, ap, _∙_}
+use mathlib.Core.Path.{_≡_, sym, _∙_}
 use mathlib.Core.List.{[], _∷_}
 use native.Mathlib.Omega.{arith}
 use lib.ListN.{length}
@@ -12,10 +13,6 @@ use Rattle.rows.specs.Moves.{room-toggled, single-room}
 use Rattle.condition.specs.Ends.{trueAtoms}
 use Rattle.condition.proofs.toggle_atoms.Statement.{statement}
 use Rattle.condition.proofs.toggle_atoms.Tie as tie
-use Rattle.condition.proofs.toggle_atoms.Reads as reads
-use Rattle.condition.proofs.toggle_atoms.Lts as lts
-use Rattle.numbering.proofs.single.Reads as single-reads
-use Rattle.words.proofs.toggle.Reads as toggle-reads
 
 abbrev Inv-loop : tie.InvT-loop
 Inv-loop sizes state row₀ i₀ row i = (i ≤ length sizes) × (row ≡ toggledAll row₀ (flat i (λ k. single sizes k (value state k) ∷ [])))
@@ -23,43 +20,40 @@ Inv-loop sizes state row₀ i₀ row i = (i ≤ length sizes) × (row ≡ toggle
 abbrev μ-loop : tie.MeasureT-loop
 μ-loop sizes state row₀ i₀ row i = length sizes - i
 
--- src/lib.rt:35:5
 loop-holds : tie.Need-loop-holds Inv-loop μ-loop
 loop-holds c = (omega arith, toggled-start _ _)
 
--- src/lib.rt:36:56
 mul-single : tie.Need-mul-single Inv-loop μ-loop
 mul-single c = omega (arith, c .before .before .before .before .before .before .pre .1 .full)
 
--- src/lib.rt:36:56
 shared-slice-read-single : tie.Need-shared-slice-read-single Inv-loop μ-loop
 shared-slice-read-single c = omega (arith, c .before .before .before .before .before .before .before .pre .1 .full)
 
--- src/lib.rt:36:28
 single-requires : tie.Need-single-requires Inv-loop μ-loop
-single-requires c κs = let (r, s) = c .before .before .before .before .before .before .before .pre in (limits-small _ (r .limits), c .before .before .loop-test .taken, s .values _ (c .before .before .loop-test .taken))
+single-requires c κs = let (r, s) = c .before .before .before .before .before .before .before .pre in
+    (limits-small _ (r .limits), c .before .before .loop-test .taken, s .values _ (c .before .before .loop-test .taken))
 
--- src/lib.rt:36:9
 toggle-requires : tie.Need-toggle-requires Inv-loop μ-loop
-toggle-requires c κs = let (r, s) = c .before .before .before .before .before .before .before .before .pre in rw (c .single .ensures) (single-room _ _ _ _ (room-toggled _ _ _ _ r (c .before .before .before .before .loop .inv .1)) (s .values _ (c .before .before .before .loop-test .taken)))
+toggle-requires c κs = let (r, s) = c .before .before .before .before .before .before .before .before .pre in
+    rw (c .single .ensures) (single-room _ _ _ _ (room-toggled _ _ _ _ r (c .before .before .before .before .loop .inv .1)) (s .values _
+    (c .before .before .before .loop-test .taken)))
 
--- src/lib.rt:37:9
 add-i : tie.Need-add-i Inv-loop μ-loop
 add-i c = omega arith
 
--- src/lib.rt:35:5
 loop-less : tie.Need-loop-less Inv-loop μ-loop
 loop-less c = omega arith
 
--- src/lib.rt:35:5
 loop-again : tie.Need-loop-again Inv-loop μ-loop
-loop-again c = (omega arith, toggled-turn _ _ _ _ _ (c .before .before .before .before .before .before .before .loop .inv .1) (c .before .before .toggle .ensures ∙ rw (c .before .before .before .single .ensures) (sym (toggled-one _ _))))
+loop-again c = (
+  omega arith,
+  toggled-turn _ _ _ _ _ (c .before .before .before .before .before .before .before .loop .inv .1) (c .before .before .toggle .ensures ∙ rw
+      (c .before .before .before .single .ensures) (sym (toggled-one _ _))),
+)
 
--- src/lib.rt:30:1
 same-length : tie.Need-same-length Inv-loop μ-loop
 same-length c = length-next _ _ _ (c .before .loop .inv .1)
 
--- src/lib.rt:30:1
 returns : tie.Need-returns Inv-loop μ-loop
 unfolding trueAtoms
 returns c = let e : c .before .loop .i ≡ length (c .before .before .before .before .before .args .sizes .now) = omega arith in c .before .loop .inv .1 ∙ rw e

@@ -1,3 +1,4 @@
+-- `toggle_pairs`: after j turns the pairs among the first j variables are toggled.
 use Prim.Native.Nat.{_≤_, _-_}
 use mathlib.Core.Path.{_≡_, _∙_}
 use native.Mathlib.Omega.{arith}
@@ -8,9 +9,6 @@ use Rattle.rows.specs.Moves.{room-toggled}
 use Rattle.condition.specs.Ends.{truePairsOf, truePairs}
 use Rattle.condition.proofs.toggle_pairs.Statement.{statement}
 use Rattle.condition.proofs.toggle_pairs.Tie as tie
-use Rattle.condition.proofs.toggle_pairs.Reads as reads
-use Rattle.condition.proofs.toggle_pairs.Lts as lts
-use Rattle.condition.proofs.toggle_pairs_of.Reads as toggle-pairs-of-reads
 
 abbrev Inv-loop : tie.InvT-loop
 Inv-loop sizes state row₀ j₀ row j = (j ≤ length sizes) × (row ≡ toggledAll row₀ (flat j (truePairsOf sizes state)))
@@ -18,31 +16,28 @@ Inv-loop sizes state row₀ j₀ row j = (j ≤ length sizes) × (row ≡ toggle
 abbrev μ-loop : tie.MeasureT-loop
 μ-loop sizes state row₀ j₀ row j = length sizes - j
 
--- src/lib.rt:60:5
 loop-holds : tie.Need-loop-holds Inv-loop μ-loop
 loop-holds c = (omega arith, toggled-start _ _)
 
--- src/lib.rt:61:9
 toggle-pairs-of-requires : tie.Need-toggle-pairs-of-requires Inv-loop μ-loop
-toggle-pairs-of-requires c κs = (room-toggled _ _ _ _ (c .before .before .before .before .before .before .pre .0) (c .before .before .loop .inv .1), c .before .before .before .before .before .before .pre .1, c .before .loop-test .taken)
+toggle-pairs-of-requires c κs = (
+  room-toggled _ _ _ _ (c .before .before .before .before .before .before .pre .0) (c .before .before .loop .inv .1),
+  c .before .before .before .before .before .before .pre .1,
+  c .before .loop-test .taken,
+)
 
--- src/lib.rt:62:9
 add-j : tie.Need-add-j Inv-loop μ-loop
 add-j c = omega arith
 
--- src/lib.rt:60:5
 loop-less : tie.Need-loop-less Inv-loop μ-loop
 loop-less c = omega arith
 
--- src/lib.rt:60:5
 loop-again : tie.Need-loop-again Inv-loop μ-loop
 loop-again c = (omega arith, toggled-turn _ _ _ _ _ (c .before .before .before .before .before .loop .inv .1) (c .before .before .toggle-pairs-of .ensures))
 
--- src/lib.rt:55:1
 same-length : tie.Need-same-length Inv-loop μ-loop
 same-length c = length-next _ _ _ (c .before .loop .inv .1)
 
--- src/lib.rt:55:1
 returns : tie.Need-returns Inv-loop μ-loop
 unfolding truePairs
 returns c = let e : c .before .loop .j ≡ length (c .before .before .before .before .before .args .sizes .now) = omega arith in c .before .loop .inv .1 ∙ rw e

@@ -1,9 +1,9 @@
+-- `toggle_pairs_of`: after i turns the pairs of variable j's atom with those of the first i variables are toggled.
 use Prim.Native.Nat.{_≤_, _-_}
-use mathlib.Core.Path.{_≡_, sym, ap, _∙_}
+use mathlib.Core.Path.{_≡_, sym, _∙_}
 use mathlib.Core.List.{[], _∷_}
 use native.Mathlib.Omega.{arith}
 use native.Mathlib.Nat.{ne-of-lt}
-use lib.ListN.{length}
 use Rattle.meaning.specs.Sets.{flat}
 use Rattle.meaning.specs.Task.{value}
 use Rattle.meaning.specs.Feature.{both}
@@ -13,10 +13,6 @@ use Rattle.rows.specs.Moves.{room-toggled, both-room}
 use Rattle.condition.specs.Ends.{truePairsOf}
 use Rattle.condition.proofs.toggle_pairs_of.Statement.{statement}
 use Rattle.condition.proofs.toggle_pairs_of.Tie as tie
-use Rattle.condition.proofs.toggle_pairs_of.Reads as reads
-use Rattle.condition.proofs.toggle_pairs_of.Lts as lts
-use Rattle.numbering.proofs.both.Reads as both-reads
-use Rattle.words.proofs.toggle.Reads as toggle-reads
 
 abbrev Inv-loop : tie.InvT-loop
 Inv-loop sizes state j row₀ y i₀ row i = (i ≤ j) × (row ≡ toggledAll row₀ (flat i (λ k. both sizes k (value state k) j (value state j) ∷ [])))
@@ -24,51 +20,46 @@ Inv-loop sizes state j row₀ y i₀ row i = (i ≤ j) × (row ≡ toggledAll ro
 abbrev μ-loop : tie.MeasureT-loop
 μ-loop sizes state j row₀ y i₀ row i = j - i
 
--- src/lib.rt:46:13
 mul-y : tie.Need-mul-y Inv-loop μ-loop
 mul-y c = omega (arith, c .before .before .before .pre .1 .full)
 
--- src/lib.rt:46:13
 shared-slice-read-y : tie.Need-shared-slice-read-y Inv-loop μ-loop
 shared-slice-read-y c = omega (arith, c .before .before .before .before .pre .1 .full)
 
--- src/lib.rt:48:5
 loop-holds : tie.Need-loop-holds Inv-loop μ-loop
 loop-holds c = (omega arith, toggled-start _ _)
 
--- src/lib.rt:49:54
 mul-both : tie.Need-mul-both Inv-loop μ-loop
 mul-both c = omega (arith, c .before .before .before .before .before .before .before .pre .1 .full)
 
--- src/lib.rt:49:54
 shared-slice-read-both : tie.Need-shared-slice-read-both Inv-loop μ-loop
 shared-slice-read-both c = omega (arith, c .before .before .before .before .before .before .before .before .pre .1 .full)
 
--- src/lib.rt:49:28
 both-requires : tie.Need-both-requires Inv-loop μ-loop
-both-requires c κs = let (r, s, l) = c .before .before .before .before .before .before .before .before .pre in (limits-small _ (r .limits), ne-of-lt (c .before .before .loop-test .taken), omega arith, l, s .values _ (omega arith), s .values _ l)
+both-requires c κs = let (r, s, l) = c .before .before .before .before .before .before .before .before .pre in
+    (limits-small _ (r .limits), ne-of-lt (c .before .before .loop-test .taken), omega arith, l, s .values _ (omega arith), s .values _ l)
 
--- src/lib.rt:49:9
 toggle-requires : tie.Need-toggle-requires Inv-loop μ-loop
-toggle-requires c κs = let (r, s, l) = c .before .before .before .before .before .before .before .before .before .pre in rw (c .both .ensures) (both-room _ _ _ _ _ _ (room-toggled _ _ _ _ r (c .before .before .before .before .loop .inv .1)) (ne-of-lt (c .before .before .before .loop-test .taken)) (s .values _ (omega arith)) (s .values _ l))
+toggle-requires c κs = let (r, s, l) = c .before .before .before .before .before .before .before .before .before .pre in
+    rw (c .both .ensures) (both-room _ _ _ _ _ _ (room-toggled _ _ _ _ r (c .before .before .before .before .loop .inv .1)) (ne-of-lt
+    (c .before .before .before .loop-test .taken)) (s .values _ (omega arith)) (s .values _ l))
 
--- src/lib.rt:50:9
 add-i : tie.Need-add-i Inv-loop μ-loop
 add-i c = omega arith
 
--- src/lib.rt:48:5
 loop-less : tie.Need-loop-less Inv-loop μ-loop
 loop-less c = omega arith
 
--- src/lib.rt:48:5
 loop-again : tie.Need-loop-again Inv-loop μ-loop
-loop-again c = (omega arith, toggled-turn _ _ _ _ _ (c .before .before .before .before .before .before .before .loop .inv .1) (c .before .before .toggle .ensures ∙ rw (c .before .before .before .both .ensures) (sym (toggled-one _ _))))
+loop-again c = (
+  omega arith,
+  toggled-turn _ _ _ _ _ (c .before .before .before .before .before .before .before .loop .inv .1) (c .before .before .toggle .ensures ∙ rw
+      (c .before .before .before .both .ensures) (sym (toggled-one _ _))),
+)
 
--- src/lib.rt:42:1
 same-length : tie.Need-same-length Inv-loop μ-loop
 same-length c = length-next _ _ _ (c .before .loop .inv .1)
 
--- src/lib.rt:42:1
 returns : tie.Need-returns Inv-loop μ-loop
 unfolding truePairsOf
 returns c = let e : c .before .loop .i ≡ c .before .before .before .before .before .before .args .j = omega arith in c .before .loop .inv .1 ∙ rw e

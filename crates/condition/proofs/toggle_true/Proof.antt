@@ -1,27 +1,20 @@
-use mathlib.Core.Path.{sym, ap, _∙_}
-use Rattle.words.specs.Toggled.{toggledAll, toggled-join}
-use Rattle.condition.specs.Ends.{trueFeatures}
+-- `toggle_true`: the atoms and then the pairs are all features that are true in the state.
+use mathlib.Core.Path.{sym, _∙_}
 use borrow.Author.Needs.{needs}
+use Rattle.words.specs.Toggled.{toggled-join}
+use Rattle.condition.specs.Ends.{trueFeatures}
 use Rattle.condition.proofs.toggle_true.Statement.{statement}
 use Rattle.condition.proofs.toggle_true.Tie as tie
-use Rattle.condition.proofs.toggle_true.Reads as reads
-use Rattle.condition.proofs.toggle_true.Lts as lts
-use Rattle.condition.proofs.toggle_atoms.Reads as toggle-atoms-reads
-use Rattle.condition.proofs.toggle_pairs.Reads as toggle-pairs-reads
 
--- src/lib.rt:71:5
 toggle-atoms-requires : tie.Need-toggle-atoms-requires
 toggle-atoms-requires c κs = search needs
 
--- src/lib.rt:72:5
 toggle-pairs-requires : tie.Need-toggle-pairs-requires
 toggle-pairs-requires c κs = search needs
 
--- src/lib.rt:67:1
 same-length : tie.Need-same-length
 same-length c = search needs
 
--- src/lib.rt:67:1
 returns : tie.Need-returns
 unfolding trueFeatures
 returns c = c .before .before .toggle-pairs .ensures ∙ rw (c .before .before .before .before .before .before .toggle-atoms .ensures) (sym (toggled-join _ _ _))

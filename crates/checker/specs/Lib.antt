@@ -1,0 +1,4 @@
+-- What the checker answers.
+pub mod Breaking
+pub mod Answer
+pub mod Weigh

@@ -1,0 +1,86 @@
+-- What is left of the ends' difference, by the parts of a workspace.
+use Prim.Native.Nat.{ℕ, zero, suc, _-_, _*_, _≤_}
+use mathlib.Core.Path.{_≡_, refl, ap, sym, _∙_, fun-ext, subst}
+use mathlib.Core.Bool.{false}
+use mathlib.Core.List.{List, _∷_}
+use native.Mathlib.Omega.{arith}
+use lib.ListN.{length, replicate, take, drop}
+use Rattle.meaning.specs.Sets.{Set}
+use Rattle.meaning.specs.Limits.{mostFeatures}
+use Rattle.meaning.specs.Task.{State}
+use Rattle.meaning.specs.Feature.{features}
+use Rattle.meaning.specs.Slot.{Reduced}
+use Rattle.meaning.specs.File.{InLimits}
+use Rattle.meaning.specs.Workspace.{has, packed, wordsFor, sizesAt, startAt, goalAt, pairsAt, slotsAt, wordsDue, Proper}
+use Rattle.theory.specs.Walk.{true-past}
+use Rattle.theory.specs.Words.{length-packed, packed-holds}
+use Rattle.theory.specs.Reduce.{red}
+use Rattle.theory.specs.Contents.{contentIn}
+use Rattle.theory.specs.Finder.{difference}
+use Rattle.slots.specs.Area.{slotsIn}
+use Rattle.slots.specs.Reducing.{red-past}
+use Rattle.formed.specs.Parts.{contentFrom, Cut, Sized, sized-content, lent-content, lent-cut}
+
+-- What a search stands on: sizes within their limits, of n features, two states and n slots in reduced shape.
+pub record Searched (sizes start goal area : List ℕ) (n : ℕ) : Type 0 where
+  pub limits : InLimits sizes
+  pub total : n ≡ features sizes
+  pub starts : State sizes start
+  pub goals : State sizes goal
+  pub slots : Reduced n (slotsIn n area)
+  pub words : length area ≡ n * wordsFor n
+
+-- Parts of a proper content are such.
+pub cut-searched : {sizes start goal pairs area : List ℕ} {n : ℕ} → Cut sizes start goal pairs area n → Proper (contentFrom sizes start goal pairs area) → Searched sizes start goal area n
+cut-searched cut p = record {
+  limits = cut .limits;
+  total = cut .total;
+  starts = p .start;
+  goals = p .goal;
+  slots = rw (cut .total) (p .slots);
+  words = cut .slots;
+}
+
+-- The parts of a workspace as they are lent, from one place to the next, make its content.
+module _ (ws : List ℕ) (v n : ℕ) (s : Sized ws v n) where
+  pub lent-is : contentFrom (take (startAt v - sizesAt) (drop sizesAt ws)) (take (goalAt v - startAt v) (drop (startAt v) ws)) (take (pairsAt v - goalAt v) (drop (goalAt v) ws))
+      (take (slotsAt v n - pairsAt v) (drop (pairsAt v) ws)) (take (wordsDue v n - slotsAt v n) (drop (slotsAt v n) ws)) ≡ contentIn ws
+  lent-is = lent-content ws v n ∙ sized-content ws v n s
+
+  pub lent-searched : wordsDue v n ≤ length ws → Proper (contentIn ws) → Searched (take (startAt v - sizesAt) (drop sizesAt ws)) (take (goalAt v - startAt v) (drop (startAt v) ws))
+      (take (pairsAt v - goalAt v) (drop (goalAt v) ws)) (take (wordsDue v n - slotsAt v n) (drop (slotsAt v n) ws)) n
+  lent-searched due p = cut-searched (lent-cut ws v n s due) (subst Proper (sym lent-is) p)
+
+-- What is left of the ends' difference once it is reduced by the slots.
+unfoldable pub leftIn : List ℕ → List ℕ → List ℕ → List ℕ → ℕ → Set
+leftIn sizes start goal area n = red (slotsIn n area) n (difference sizes start goal)
+
+module _ {sizes start goal area : List ℕ} {n : ℕ} (s : Searched sizes start goal area n) where
+  pub searched-few : n ≤ mostFeatures
+  searched-few = omega (arith, s .total, s .limits .total)
+
+  difference-past : (f : ℕ) → n ≤ f → difference sizes start goal f ≡ false
+  unfolding difference
+  difference-past f l = let k : features sizes ≤ f = omega (arith, s .total) in rw (true-past sizes start f (s .starts) k, true-past sizes goal f (s .goals) k)
+
+  module _ (row : List ℕ) (e : row ≡ packed (features sizes) (difference sizes start goal)) where
+    -- The words of the difference hold it, and nothing past the last feature.
+    held : (f : ℕ) → has row f ≡ difference sizes start goal f
+    held f = ap (λ words. has words f) e ∙ packed-holds (features sizes) _ f (λ l. difference-past f (omega (arith, s .total)))
+
+    pub held-past : (f : ℕ) → n ≤ f → has row f ≡ false
+    held-past f l = held f ∙ difference-past f l
+
+    pub held-words : length row ≡ wordsFor n
+    held-words = ap length e ∙ length-packed (features sizes) _ ∙ ap wordsFor (sym (s .total))
+
+    -- Once they are reduced they hold what is left.
+    pub left-held : (row' : List ℕ) → row' ≡ packed n (red (slotsIn n area) n (has row)) → has row' ≡ leftIn sizes start goal area n
+    unfolding leftIn
+    left-held row' q = fun-ext (λ f. ap (λ words. has words f) (q ∙ ap (λ d. packed n (red (slotsIn n area) n d)) (fun-ext held)) ∙ packed-holds n (leftIn sizes start goal area n) f (red-past (s .slots) _ difference-past f))
+
+-- The front of words that hold nothing.
+pub front-none : (w k : ℕ) → w ≤ k → take {A = ℕ} w (replicate k 0) ≡ replicate w 0
+front-none zero k l = refl
+front-none (suc w) zero l = absurd (omega arith)
+front-none (suc w) (suc k) l = ap (_∷_ 0) (front-none w k (omega arith))

@@ -1,6 +1,6 @@
 -- What the answers say in the words of the meaning, and that what is found is what is to be found.
 use Prim.Native.Nat.{ℕ, _<_, _≤_}
-use mathlib.Core.Path.{_≡_, refl, ap, sym, _∙_, subst}
+use mathlib.Core.Path.{_≡_, refl, ap, _∙_, subst}
 use mathlib.Core.Logic.{inl, inr}
 use mathlib.Core.Bool.{Bool, true, false}
 use mathlib.Core.List.{List}
@@ -12,7 +12,7 @@ use Rattle.meaning.specs.Feature.{features}
 use Rattle.meaning.specs.Slot.{Reduced}
 use Rattle.meaning.specs.Number.{Small, Malformed, refusal}
 use Rattle.meaning.specs.Workspace.{wordsFor, Content, WellFormed}
-use Rattle.meaning.specs.Answer.{Answer, done, refused, Finding, none, separated, FindsIn, FindsBy, Finds}
+use Rattle.meaning.specs.Answer.{Answer, done, refused, Finding, none, separated, FindsIn, Finds}
 use Rattle.theory.specs.Words.{length-packed}
 use Rattle.theory.specs.Slots.{lead, lead-none, lead-least, wit, least, nothing, found as some}
 use Rattle.theory.specs.Finder.{left, none-left, least-left}
@@ -56,10 +56,10 @@ unfolding leftIn left
 searched-finds sizes start goal pairs area room lent n separates s e q =
     rw (e, q, s .total) (left-finds (contentFrom sizes start goal pairs area) room (rw (← (s .total)) (s .slots)))
 
--- ---- the three answers of a call
+-- ---- the answers of a call: 9, then 8, then what is found
 
-pub malformed : (workspace room : List ℕ) → (WellFormed workspace → ⊥) → Finds workspace room (record { answer = refused (refusal Malformed); lent = room })
-malformed workspace room d = inl (d, refl)
+pub malformed : (workspace room : List ℕ) (number : ℕ) → (WellFormed workspace → ⊥) → number ≡ refusal Malformed → Finds workspace room (record { answer = refused number; lent = room })
+malformed workspace room number d e = inl (d, rw e refl)
 
 module _ (workspace room : List ℕ) (v n : ℕ) (yes : FormedIs workspace (Yes v n)) where
   formed : WellFormed workspace
@@ -69,13 +69,13 @@ module _ (workspace room : List ℕ) (v n : ℕ) (yes : FormedIs workspace (Yes 
   unfolding FormedIs
   total = yes .2 ∙ ap (λ c. features (c .sizes)) (formed-content workspace formed)
 
-  pub small : length room < wordsFor n → Finds workspace room (record { answer = refused (refusal Small); lent = room })
-  small l = inr (formed, rw (lt-ltb (length room) (wordsFor (features (formed .content .sizes))) (omega (arith, total))) refl)
+  pub small : (number : ℕ) → length room < wordsFor n → number ≡ refusal Small → Finds workspace room (record { answer = refused number; lent = room })
+  small number l e = inr (formed, rw (e, lt-ltb (length room) (wordsFor (features (formed .content .sizes))) (omega (arith, total))) refl)
 
-  pub finds : (result : Finding) (lent : List ℕ) → wordsFor n ≤ length room → FindsIn (contentIn workspace) room (record { answer = done result; lent = lent })
-      → Finds workspace room (record { answer = done result; lent = lent })
-  finds result lent l h = inr (
+  pub finds : (separates answer : Bool) (lent : List ℕ) → wordsFor n ≤ length room → FindsIn (contentIn workspace) room (record { answer = done (findingOf separates); lent = lent })
+      → separates ≡ answer → Finds workspace room (record { answer = done (findingOf answer); lent = lent })
+  finds separates answer lent l h e = inr (
     formed,
-    rw (le-ltb (length room) (wordsFor (features (formed .content .sizes))) (omega (arith, total)))
-        (subst (λ c. FindsIn c room (record { answer = done result; lent = lent })) (formed-content workspace formed) h),
+    rw (le-ltb (length room) (wordsFor (features (formed .content .sizes))) (omega (arith, total)), ← e)
+        (subst (λ c. FindsIn c room (record { answer = done (findingOf separates); lent = lent })) (formed-content workspace formed) h),
   )

@@ -77,7 +77,8 @@ module _ {sizes start goal area : List ℕ} {n : ℕ} (s : Searched sizes start 
     -- Once they are reduced they hold what is left.
     pub left-held : (row' : List ℕ) → row' ≡ packed n (red (slotsIn n area) n (has row)) → has row' ≡ leftIn sizes start goal area n
     unfolding leftIn
-    left-held row' q = fun-ext (λ f. ap (λ words. has words f) (q ∙ ap (λ d. packed n (red (slotsIn n area) n d)) (fun-ext held)) ∙ packed-holds n (leftIn sizes start goal area n) f (red-past (s .slots) _ difference-past f))
+    left-held row' q = fun-ext (λ f. ap (λ words. has words f) (q ∙ ap (λ d. packed n (red (slotsIn n area) n d)) (fun-ext held))
+        ∙ packed-holds n (leftIn sizes start goal area n) f (red-past (s .slots) _ difference-past f))
 
 -- The front of words that hold nothing.
 pub front-none : (w k : ℕ) → w ≤ k → take {A = ℕ} w (replicate k 0) ≡ replicate w 0

@@ -1,12 +1,11 @@
 -- `finding::find`: one law for each answer; `formed` is what the workspace is where it is well formed.
-use mathlib.Core.Path.{sym, subst}
+use mathlib.Core.Path.{subst}
+use mathlib.Core.Bool.{true, false}
 use native.Mathlib.Omega.{arith}
-use Rattle.meaning.specs.Answer.{done, refused, none, separated, FindsIn, Finds}
-use Rattle.theory.specs.Contents.{contentIn}
 use Rattle.formed.specs.Parts.{sized-small}
 use Rattle.formed.specs.Formed.{FormedIs, no-formed, yes-sized, yes-due, yes-proper}
 use Rattle.formed.specs.declared.Formed.the-variants.{Yes}
-use Rattle.finding.specs.Found.{findingOf, malformed, small, finds}
+use Rattle.finding.specs.Found.{malformed, small, finds}
 use borrow.Author.Needs.{needs}
 use Rattle.finding.proofs.find.Statement.{statement}
 use Rattle.finding.proofs.find.Tie as tie
@@ -30,8 +29,7 @@ refusal-requires : tie.Need-refusal-requires
 refusal-requires c κs = search needs
 
 returns : tie.Need-returns
-returns c = let s = c .before .before .before .before .before .before .before .before in subst (λ number. Finds (s .args .workspace .now) (s .args .room .now) (record { answer = refused number; lent = s .args .room .now })) (sym (c .refusal .ensures))
-    (small _ _ _ _ (formed (c .before .before .before)) (c .before .if1 .taken))
+returns c = small _ _ _ _ (formed (c .before .before .before)) _ (c .before .if1 .taken) (c .refusal .ensures)
 
 find-in-requires : tie.Need-find-in-requires
 find-in-requires c κs = let yes = formed (c .before .before .before) in (yes-sized _ _ _ yes, yes-due _ _ _ yes, yes-proper _ _ _ yes, c .before .if1 .left)
@@ -40,8 +38,8 @@ same-length : tie.Need-same-length
 same-length c = search needs
 
 returns-2 : tie.Need-returns-2
-returns-2 c = let s = c .before .before .before .before .before .before .before .before .before .before .before .before in finds _ _ _ _ (formed (c .before .before .before .before .before .before .before)) separated _ (c .before .before .before .before .before .if1 .left)
-    (subst (λ r. FindsIn (contentIn (s .args .workspace .now)) (s .args .room .now) (record { answer = done (findingOf r); lent = c .before .before .before .find-in .last .1 .1 .1 .0 })) (c .if2 .taken) (c .before .before .before .find-in .ensures))
+returns-2 c = finds _ _ _ _ (formed (c .before .before .before .before .before .before .before)) _ true _ (c .before .before .before .before .before .if1 .left)
+    (c .before .before .before .find-in .ensures) (c .if2 .taken)
 
 enum-told : tie.Need-enum-told
 enum-told c = search needs
@@ -53,12 +51,12 @@ same-length-2 : tie.Need-same-length-2
 same-length-2 c = search needs
 
 returns-3 : tie.Need-returns-3
-returns-3 c = let s = c .before .before .before .before .before .before .before .before .before .before .before .before in finds _ _ _ _ (formed (c .before .before .before .before .before .before .before)) none _ (c .before .before .before .before .before .if1 .left)
-    (subst (λ r. FindsIn (contentIn (s .args .workspace .now)) (s .args .room .now) (record { answer = done (findingOf r); lent = c .before .before .before .find-in .last .1 .1 .1 .0 })) (c .if2 .left) (c .before .before .before .find-in .ensures))
+returns-3 c = finds _ _ _ _ (formed (c .before .before .before .before .before .before .before)) _ false _ (c .before .before .before .before .before .if1 .left)
+    (c .before .before .before .find-in .ensures) (c .if2 .left)
 
 returns-4 : tie.Need-returns-4
-returns-4 c = let s = c .before .before .before .before .before .before in subst (λ number. Finds (s .args .workspace .now) (s .args .room .now) (record { answer = refused number; lent = s .args .room .now })) (sym (c .refusal2 .ensures))
-    (malformed _ _ (no-formed _ (subst (FormedIs (s .args .workspace .now)) (c .before .enum-told .given .1) (c .before .before .before .well-formed .ensures))))
+returns-4 c = malformed _ _ _ (no-formed _ (subst (FormedIs (c .before .before .before .before .before .before .args .workspace .now)) (c .before .enum-told .given .1) (c .before .before .before .well-formed .ensures)))
+    (c .refusal2 .ensures)
 
 pub find-spec : {M : Type 1} → statement M
 find-spec =

@@ -88,7 +88,8 @@ slice-aggregate-search : tie.Need-slice-aggregate-search
 slice-aggregate-search c = simp length-take (omega (arith, sized-small _ _ _ (c .before .before .before .before .before .before .before .pre .0)))
 
 search-requires : tie.Need-search-requires
-search-requires c κs = let (s, due, proper, room) = c .before .before .before .before .before .before .before .before .pre in (lent-searched _ _ _ s due proper, front-none (wordsFor (c .before .before .before .before .before .before .before .before .args .n)) 64 (omega (arith, sized-small _ _ _ s)), room)
+search-requires c κs = let a = c .before .before .before .before .before .before .before .before in let (s, due, proper, room) = a .pre in
+    (lent-searched _ _ _ s due proper, front-none (wordsFor (a .args .n)) 64 (omega (arith, sized-small _ _ _ s)), room)
 
 same-length : tie.Need-same-length
 same-length c = search needs

@@ -20,7 +20,8 @@ reduce-requires c κs = let (s, e, room) = c .before .before .before .before .be
     let filled = c .before .before .before .fill-difference .ensures in (s .slots, s .words, held-words s _ filled, searched-few s, held-past s _ filled)
 
 find-requires : tie.Need-find-requires
-find-requires c κs = let (s, e, room) = c .before .before .before .before .before .before .before .before .before .before .before .before .before .before .before .before .pre in (s .slots, s .words, ap length (c .before .before .before .before .reduce .ensures) ∙ length-packed _ _, searched-few s, room)
+find-requires c κs = let (s, e, room) = c .before .before .before .before .before .before .before .before .before .before .before .before .before .before .before .before .pre in
+    (s .slots, s .words, ap length (c .before .before .before .before .reduce .ensures) ∙ length-packed _ _, searched-few s, room)
 
 same-length : tie.Need-same-length
 same-length c = search needs
@@ -30,8 +31,11 @@ same-length-2 c = search needs
 
 returns : tie.Need-returns
 returns c = let s = c .before .before .before .before .before .before .before .before .before .before .before .before .before .before .before .before .before .before .before in let n = s .args .n in
-    subst (λ left. (c .before .before .find .result ≡ ltb (lead n left) n) × (c .before .before .find .last .1 .1 .1 .0 ≡ found n (slotsIn n (s .args .area .now)) left (s .args .room .now)))
-    (left-held (s .pre .0) _ (c .before .before .before .before .before .before .before .before .before .before .before .fill-difference .ensures) _ (c .before .before .before .before .before .before .before .reduce .ensures)) (c .before .before .find .ensures)
+    let found-so = c .before .before .find in
+    let filled = c .before .before .before .before .before .before .before .before .before .before .before .fill-difference .ensures in
+    let reduced = c .before .before .before .before .before .before .before .reduce .ensures in
+    subst (λ left. (found-so .result ≡ ltb (lead n left) n) × (found-so .last .1 .1 .1 .0 ≡ found n (slotsIn n (s .args .area .now)) left (s .args .room .now)))
+    (left-held (s .pre .0) _ filled _ reduced) (found-so .ensures)
 
 pub search-spec : {M : Type 1} → statement M
 search-spec =

@@ -1,0 +1,161 @@
+-- What an edit of a well formed workspace leaves: the same words where it is refused, the words of the changed content where it is done.
+use Prim.Native.Nat.{ℕ, _+_, _-_, _*_, _≤_}
+use mathlib.Core.Path.{_≡_, refl, ap, ap₂, sym, _∙_, subst}
+use mathlib.Core.Logic.{inl, inr, Iff·trans}
+use mathlib.Core.List.{List, _++_}
+use native.Mathlib.Omega.{arith}
+use lib.Dec.{eqb}
+use lib.ListN.{length, take, drop}
+use lib.Seq.{drop-drop}
+use Rattle.meaning.specs.Sets.{Set, Slots}
+use Rattle.meaning.specs.Limits.{mostVariables, mostFeatures, wordBits}
+use Rattle.meaning.specs.Task.{Operator}
+use Rattle.meaning.specs.Feature.{features}
+use Rattle.meaning.specs.Slot.{Reduced, SlotsOf, Stored}
+use Rattle.meaning.specs.Weight.{Allows}
+use Rattle.meaning.specs.Number.{Reason, Range, Malformed, refusal}
+use Rattle.meaning.specs.Workspace.{has, wordsFor, sizesAt, startAt, goalAt, pairsAt, slotsAt, wordsDue, Content, wordsOf, Proper, WellFormed}
+use Rattle.meaning.specs.Answer.{OperatorRecord, operatorIn, Edit, addOperator, replaceStart, replaceGoal, Judged, fine, faulty, need, valuesJudged, editJudged, Changes, EditsIn, Edits, done, refused}
+use Rattle.theory.specs.SlotsOf.{slots-of-stored}
+use Rattle.theory.specs.Rows.{rowsOf, allows-rows}
+use Rattle.theory.specs.InsertAll.{insertAll, insertAll-reduced, insertAll-stored}
+use Rattle.theory.specs.Operands.{add-fine}
+use Rattle.theory.specs.Contents.{formed-content, withStart, withGoal, withSlots, start-changed, goal-changed, slots-changed, edit-proper, edit-further}
+use Rattle.pairs.specs.Ready.{Listed, Ready}
+use Rattle.slots.specs.Area.{slotsIn}
+use Rattle.condition.specs.Slotted.{heldSlots, slotted, Opened, area-slotted}
+use Rattle.formed.specs.declared.Formed.the-variants.{Yes, No}
+use Rattle.formed.specs.Parts.{sizesPart, pairsPart, slotsPart, contentParts, cut-listed, lent, length-part, sized-small}
+use Rattle.formed.specs.Formed.{FormedIs, no-formed, yes-formed, yes-content, yes-sized, yes-due, yes-cut}
+use Rattle.editing.specs.Operand.{goalJudged, startJudged, operatorJudged, values-long}
+
+-- The sizes and the listed pairs as they are lent, from one place to the next.
+abbrev pub sizesLent : ℕ → List ℕ → List ℕ
+sizesLent v ws = take (startAt v - sizesAt) (drop sizesAt ws)
+
+abbrev pub pairsLent : ℕ → ℕ → List ℕ → List ℕ
+pairsLent v n ws = take (slotsAt v n - pairsAt v) (drop (pairsAt v) ws)
+
+-- Values written over a part that was lent.
+part-written : (ws values new : List ℕ) (at v : ℕ) → new ≡ values → take at ws ++ (new ++ drop (at + v - at) (drop at ws)) ≡ take at ws ++ (values ++ drop (at + v) ws)
+part-written ws values new at v e = let q : at + v - at ≡ v = omega arith in rw (e, q, drop-drop v at ws)
+
+-- Words that are not well formed.
+pub edit-malformed : (ws : List ℕ) (edit : Edit) (number : ℕ) → FormedIs ws No → number ≡ refusal Malformed → Edits ws edit (record { answer = refused number; lent = ws })
+edit-malformed ws edit number is-not e = inl (no-formed ws is-not, ap (λ k. record { answer = refused k; lent = ws }) e)
+
+module _ (ws : List ℕ) (v n : ℕ) (yes : FormedIs ws (Yes v n)) where
+  pub whole : yes-formed ws v n yes .content ≡ contentParts v n ws
+  whole = sym (formed-content ws (yes-formed ws v n yes)) ∙ sym (yes-content ws v n yes)
+
+  -- The workspace is well formed with the content that its parts make.
+  abbrev pub formed-parts : WellFormed ws
+  formed-parts = record {
+    content = contentParts v n ws;
+    further = yes-formed ws v n yes .further;
+    words = yes-formed ws v n yes .words ∙ ap (λ c. wordsOf c ++ yes-formed ws v n yes .further) whole;
+    proper = subst Proper whole (yes-formed ws v n yes .proper);
+  }
+
+  pub edit-refused : (edit : Edit) (reason : Reason) (number : ℕ) → editJudged (contentParts v n ws) edit ≡ faulty reason → number ≡ refusal reason
+      → Edits ws edit (record { answer = refused number; lent = ws })
+  edit-refused edit reason number e q = inr (
+    formed-parts,
+    subst (λ j. EditsIn j ws (contentParts v n ws) edit (record { answer = refused number; lent = ws })) (sym e)
+        (ap (λ k. record { answer = refused k; lent = ws }) q),
+  )
+
+  edit-done : (edit : Edit) (c' : Content) (exit : List ℕ) → editJudged (contentParts v n ws) edit ≡ fine → Changes (contentParts v n ws) edit c'
+      → exit ≡ wordsOf c' ++ formed-parts .further → Edits ws edit (record { answer = done tt; lent = exit })
+  edit-done edit c' exit e h q = inr (
+    formed-parts,
+    subst (λ j. EditsIn j ws (contentParts v n ws) edit (record { answer = done tt; lent = exit })) (sym e)
+        (c', h, ap (λ l. record { answer = done tt; lent = l }) (q ∙ ap (λ l. wordsOf c' ++ l) further)),
+  )
+    where
+      further : formed-parts .further ≡ drop (length (wordsOf c')) ws
+      further = sym (ap (drop (length (wordsOf c'))) (formed-parts .words)
+          ∙ edit-further (contentParts v n ws) c' edit (formed-parts .further) (formed-parts .proper) (edit-proper (contentParts v n ws) c' edit (formed-parts .proper) e h) h)
+
+  -- All places are within the words, and small.
+  pub places : (v ≤ mostVariables) × (n ≤ mostFeatures) × (n * wordsFor n ≤ mostFeatures * wordBits) × (wordsDue v n ≤ length ws)
+  places = let s = sized-small ws v n (yes-sized ws v n yes) in (s .0, s .1, s .2, yes-due ws v n yes)
+
+  count : length (sizesPart v ws) ≡ v
+  count = length-part sizesAt v ws (yes-sized ws v n yes .room)
+
+  -- What was judged by the parts that were lent.
+  pub goal-judged : (values : List ℕ) (found : Judged) → found ≡ goalJudged (sizesLent v ws) values → editJudged (contentParts v n ws) (replaceGoal values) ≡ found
+  goal-judged values found e = sym (rw (lent sizesAt v ws) at e)
+
+  pub start-judged : (values : List ℕ) (found : Judged) → found ≡ startJudged (sizesLent v ws) (has (pairsLent v n ws)) values → editJudged (contentParts v n ws) (replaceStart values) ≡ found
+  start-judged values found e = sym (rw (lent sizesAt v ws, lent (pairsAt v) (wordsFor n) ws) at e)
+
+  pub operator-judged : (r : OperatorRecord) (found : Judged) → found ≡ operatorJudged (sizesLent v ws) (has (pairsLent v n ws)) r → editJudged (contentParts v n ws) (addOperator r) ≡ found
+  operator-judged r found e = sym (rw (lent sizesAt v ws, lent (pairsAt v) (wordsFor n) ws) at e)
+
+  pub parts-listed : Listed (sizesLent v ws) (pairsLent v n ws)
+  parts-listed = rw (lent sizesAt v ws, lent (pairsAt v) (wordsFor n) ws) (cut-listed (yes-cut ws v n yes))
+
+  -- The part for v values from a place on is as long as values that are found fine.
+  pub part-long : (values : List ℕ) (rest : Judged) (at : ℕ) → at + v ≤ wordsDue v n → need (eqb (length values) (length (sizesLent v ws))) Range (valuesJudged (sizesLent v ws) values rest) ≡ fine
+      → length (take (at + v - at) (drop at ws)) ≡ length values
+  part-long values rest at h e = ap length (lent at v ws) ∙ length-part at v ws (omega (arith, yes-due ws v n yes))
+      ∙ sym (values-long (sizesLent v ws) values rest e ∙ ap length (lent sizesAt v ws) ∙ count)
+
+  pub goal-done : (values new : List ℕ) → editJudged (contentParts v n ws) (replaceGoal values) ≡ fine → new ≡ values
+      → Edits ws (replaceGoal values) (record { answer = done tt; lent = take (goalAt v) ws ++ (new ++ drop (pairsAt v - goalAt v) (drop (goalAt v) ws)) })
+  goal-done values new e q = edit-done (replaceGoal values) (withGoal (contentParts v n ws) values) _ e refl (part-written ws values new (goalAt v) v q ∙ sym written)
+    where
+      written : wordsOf (withGoal (contentParts v n ws) values) ++ formed-parts .further ≡ take (goalAt v) ws ++ (values ++ drop (pairsAt v) ws)
+      written = goal-changed (contentParts v n ws) (formed-parts .further) (formed-parts .proper .start .full) (formed-parts .proper .goal .full) values
+          ∙ ap₂ (λ k l. take (goalAt k) l ++ (values ++ drop (pairsAt k) l)) count (sym (formed-parts .words))
+
+  pub start-done : (values new : List ℕ) → editJudged (contentParts v n ws) (replaceStart values) ≡ fine → new ≡ values
+      → Edits ws (replaceStart values) (record { answer = done tt; lent = take (startAt v) ws ++ (new ++ drop (goalAt v - startAt v) (drop (startAt v) ws)) })
+  start-done values new e q = edit-done (replaceStart values) (withStart (contentParts v n ws) values) _ e refl (part-written ws values new (startAt v) v q ∙ sym written)
+    where
+      written : wordsOf (withStart (contentParts v n ws) values) ++ formed-parts .further ≡ take (startAt v) ws ++ (values ++ drop (goalAt v) ws)
+      written = start-changed (contentParts v n ws) (formed-parts .further) (formed-parts .proper .start .full) values
+          ∙ ap₂ (λ k l. take (startAt k) l ++ (values ++ drop (goalAt k) l)) count (sym (formed-parts .words))
+
+  -- ---- one more operator
+
+  total : n ≡ features (sizesPart v ws)
+  total = yes-cut ws v n yes .total
+
+  -- The words with other slots are those of the content with other slots.
+  slots-written : (m : ℕ) (slots : ℕ → Slots) → m ≡ features (sizesPart v ws)
+      → wordsOf (withSlots (contentParts v n ws) (slots (features (sizesPart v ws)))) ++ formed-parts .further ≡ slotted v m ws (slots m)
+  slots-written m slots q = rw q (slots-changed (contentParts v n ws) (formed-parts .further) (formed-parts .proper .start .full) (formed-parts .proper .goal .full) (slots (features (sizesPart v ws)))
+      ∙ ap₂ (λ k l. slotted k (features (sizesPart v ws)) l (slots (features (sizesPart v ws)))) count (sym (formed-parts .words)))
+
+  pub added-opened : (variables befores afters : List ℕ) → Ready (sizesLent v ws) (pairsLent v n ws) variables befores afters → Opened v n ws variables befores afters
+  added-opened variables befores afters ready = record {
+    counted = total;
+    due = yes-due ws v n yes;
+    ready = rw (lent sizesAt v ws, lent (pairsAt v) (wordsFor n) ws) at ready;
+    filled = ap (λ l. take (n * wordsFor n) (drop (slotsAt v n) l)) own ∙ area-slotted v n ws (yes-due ws v n yes) (heldSlots v n ws);
+    reduced = subst (λ m. Reduced m (slotsIn m (slotsPart v n ws))) (sym total) (formed-parts .proper .slots);
+  }
+    where
+      own : ws ≡ slotted v n ws (heldSlots v n ws)
+      own = formed-parts .words ∙ slots-written n (λ m. slotsIn m (slotsPart v n ws)) total
+
+  -- The slots after an operator's rows were inserted stand for what was stored and for the operator's condition.
+  pub operator-done : (r : OperatorRecord) (o : Operator) (exit : List ℕ) → editJudged (contentParts v n ws) (addOperator r) ≡ fine → operatorIn r ≡ o
+      → exit ≡ slotted v n ws (insertAll n (heldSlots v n ws) (rowsOf (sizesPart v ws) (has (pairsPart v n ws)) o)) → Edits ws (addOperator r) (record { answer = done tt; lent = exit })
+  operator-done r o exit e h q = edit-done (addOperator r) (withSlots (contentParts v n ws) slots) exit e (slots, stands, refl)
+      (q ∙ ap (λ p. slotted v n ws (insertAll n (heldSlots v n ws) (rowsOf (sizesPart v ws) (has (pairsPart v n ws)) p))) (sym h) ∙ sym (slots-written n (λ m. insertAll m (slotsIn m (slotsPart v n ws)) rows) total))
+    where
+      rows : List Set
+      rows = rowsOf (sizesPart v ws) (has (pairsPart v n ws)) (operatorIn r)
+
+      slots : Slots
+      slots = insertAll (features (sizesPart v ws)) (contentParts v n ws .slots) rows
+
+      stands : SlotsOf (features (sizesPart v ws))
+          (λ weights. Stored (features (sizesPart v ws)) (contentParts v n ws .slots) weights × Allows (sizesPart v ws) (has (pairsPart v n ws)) weights (operatorIn r)) slots
+      stands = slots-of-stored _ (insertAll-reduced (formed-parts .proper .slots) rows) (λ w.
+          let own = allows-rows (sizesPart v ws) (has (pairsPart v n ws)) (operatorIn r) (add-fine (contentParts v n ws) r e .1) w in
+          Iff·trans (insertAll-stored (formed-parts .proper .slots) rows w) (λ k. (k .0, own .1 (k .1)), λ k. (k .0, own .0 (k .1))))

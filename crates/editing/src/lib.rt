@@ -1,0 +1,194 @@
+// Edits of a workspace: another goal, another start, one more operator. A refused edit changes no word.
+use formed::Formed;
+use number::Reason;
+use operator::Judgement;
+use operator::Operator;
+use words::WORD_BITS;
+ghost use mathlib.Core.Path.{_≡_};
+ghost use Rattle.meaning.specs.Pair.{closed};
+ghost use Rattle.meaning.specs.Workspace.{has};
+ghost use Rattle.meaning.specs.Answer.{Edits, addOperator, replaceStart, replaceGoal};
+ghost use Rattle.theory.specs.Possible.{entriesIn};
+ghost use Rattle.operator.specs.Records.{recordOf, judgementOf};
+ghost use Rattle.pairs.specs.Ready.{Listed, Ready};
+ghost use Rattle.editing.specs.Answers.{editedOf};
+ghost use Rattle.editing.specs.Operand.{goalJudged, startJudged, operatorJudged};
+
+// What an edit comes to: it is done, or refused with the paper's number.
+pub enum Edited {
+    Done,
+    Refused(u64),
+}
+
+// As many words as the most features take.
+const MOST_WORDS: usize = 64;
+
+// Where the sizes begin.
+const SIZES_AT: usize = 1;
+
+// Judges new values: their length, then each value.
+fn judge_values(sizes: &[u64], values: &[u64]) -> Judgement
+    ensures { λ r. ⌜ judgementOf r ≡ goalJudged (now (sizes .entry)) (now (values .entry)) ⌝ }
+{
+    if values.len() != sizes.len() {
+        return Judgement::Faulty(Reason::Range);
+    }
+    let mut i = 0;
+    while i < sizes.len() {
+        if sizes[i] <= values[i] {
+            return Judgement::Faulty(Reason::Range);
+        }
+        i += 1;
+    }
+    Judgement::Fine
+}
+
+// Judges a new start: its values, then that it holds no listed pair.
+fn judge_start(sizes: &[u64], pairs: &[u64], values: &[u64]) -> Judgement
+    requires { ⌜ Listed (now sizes) (now pairs) ⌝ }
+    ensures { λ r. ⌜ judgementOf r ≡ startJudged (now (sizes .entry)) (has (now (pairs .entry))) (now (values .entry)) ⌝ }
+{
+    match judge_values(sizes, values) {
+        Judgement::Fine => {
+            if pairs::holds(sizes, pairs, values) {
+                return Judgement::Faulty(Reason::Held);
+            }
+            Judgement::Fine
+        }
+        Judgement::Faulty(reason) => Judgement::Faulty(reason),
+    }
+}
+
+// Whether the list is closed under the operator. The table of its possible atoms has its room here.
+fn is_closed(
+    sizes: &[u64],
+    pairs: &[u64],
+    variables: &[usize],
+    befores: &[usize],
+    afters: &[usize],
+) -> bool
+    requires { ⌜ Ready (now sizes) (now pairs) (now variables) (now befores) (now afters) ⌝ }
+    ensures { λ r. ⌜ r ≡ closed (now (sizes .entry)) (has (now (pairs .entry))) (entriesIn (now (variables .entry)) (now (befores .entry)) (now (afters .entry))) ⌝ }
+{
+    let mut possible = [0u64; MOST_WORDS];
+    pairs::fill_possible(sizes, pairs, variables, befores, afters, &mut possible);
+    pairs::is_closed(sizes, pairs, variables, befores, afters, &possible)
+}
+
+// Judges an operator: in file order, then that the list is closed under it.
+fn judge_operator(sizes: &[u64], pairs: &[u64], operator: Operator) -> Judgement
+    requires { ⌜ Listed (now sizes) (now pairs) ⌝ }
+    ensures { λ r. ⌜ judgementOf r ≡ operatorJudged (now (sizes .entry)) (has (now (pairs .entry))) (recordOf operator) ⌝ }
+{
+    let count = operator.count;
+    let variables = operator.variables;
+    let befores = operator.befores;
+    let afters = operator.afters;
+    match operator::judge_operator(operator, sizes) {
+        Judgement::Fine => {
+            if !is_closed(
+                sizes,
+                pairs,
+                &variables[..count],
+                &befores[..count],
+                &afters[..count],
+            ) {
+                return Judgement::Faulty(Reason::Unclosed);
+            }
+            Judgement::Fine
+        }
+        Judgement::Faulty(reason) => Judgement::Faulty(reason),
+    }
+}
+
+// Puts other values in the place of the goal's. Any words and values are taken.
+pub fn replace_goal(workspace: &mut [u64], values: &[u64]) -> Edited
+    ensures { λ r. ⌜ Edits (now (workspace .entry)) (replaceGoal (now (values .entry))) (record { answer = editedOf r; lent = now (workspace .exit) }) ⌝ }
+{
+    match formed::well_formed(workspace) {
+        Formed::Yes {
+            variables,
+            features: _,
+        } => {
+            let start = SIZES_AT + variables;
+            let goal = start + variables;
+            let pairs = goal + variables;
+            match judge_values(&workspace[SIZES_AT..start], values) {
+                Judgement::Fine => {
+                    words::copy(&mut workspace[goal..pairs], values);
+                    Edited::Done
+                }
+                Judgement::Faulty(reason) => Edited::Refused(number::refusal(reason)),
+            }
+        }
+        Formed::No => Edited::Refused(number::refusal(Reason::Malformed)),
+    }
+}
+
+// Puts other values in the place of the start's. Any words and values are taken.
+pub fn replace_start(workspace: &mut [u64], values: &[u64]) -> Edited
+    ensures { λ r. ⌜ Edits (now (workspace .entry)) (replaceStart (now (values .entry))) (record { answer = editedOf r; lent = now (workspace .exit) }) ⌝ }
+{
+    match formed::well_formed(workspace) {
+        Formed::Yes {
+            variables,
+            features,
+        } => {
+            let start = SIZES_AT + variables;
+            let goal = start + variables;
+            let pairs = goal + variables;
+            let slots = pairs + (features + (WORD_BITS - 1)) / WORD_BITS;
+            match judge_start(
+                &workspace[SIZES_AT..start],
+                &workspace[pairs..slots],
+                values,
+            ) {
+                Judgement::Fine => {
+                    words::copy(&mut workspace[start..goal], values);
+                    Edited::Done
+                }
+                Judgement::Faulty(reason) => Edited::Refused(number::refusal(reason)),
+            }
+        }
+        Formed::No => Edited::Refused(number::refusal(Reason::Malformed)),
+    }
+}
+
+// Adds the condition of one more operator to the slots. Any words and any record are taken.
+pub fn add_operator(workspace: &mut [u64], operator: Operator) -> Edited
+    ensures { λ r. ⌜ Edits (now (workspace .entry)) (addOperator (recordOf operator)) (record { answer = editedOf r; lent = now (workspace .exit) }) ⌝ }
+{
+    match formed::well_formed(workspace) {
+        Formed::Yes {
+            variables,
+            features,
+        } => {
+            let start = SIZES_AT + variables;
+            let pairs = start + variables + variables;
+            let slots = pairs + (features + (WORD_BITS - 1)) / WORD_BITS;
+            let count = operator.count;
+            let named = operator.variables;
+            let befores = operator.befores;
+            let afters = operator.afters;
+            match judge_operator(
+                &workspace[SIZES_AT..start],
+                &workspace[pairs..slots],
+                operator,
+            ) {
+                Judgement::Fine => {
+                    condition::add_rows(
+                        workspace,
+                        variables,
+                        features,
+                        &named[..count],
+                        &befores[..count],
+                        &afters[..count],
+                    );
+                    Edited::Done
+                }
+                Judgement::Faulty(reason) => Edited::Refused(number::refusal(reason)),
+            }
+        }
+        Formed::No => Edited::Refused(number::refusal(Reason::Malformed)),
+    }
+}

@@ -1,0 +1,166 @@
+-- Operators read one after another, and their rows inserted into the slots of a workspace.
+use Prim.Native.Nat.{ℕ, zero, suc, _+_, _-_, _<_, _≤_}
+use mathlib.Core.Path.{_≡_, sym, ap, _∙_, fun-ext}
+use mathlib.Core.List.{List, [], _∷_, _++_}
+use native.Mathlib.Omega.{arith}
+use lib.ListN.{length, length-append}
+use Rattle.meaning.specs.Limits.{mostVariables, mostFeatures}
+use Rattle.meaning.specs.Sets.{Slots}
+use Rattle.meaning.specs.Task.{Operator}
+use Rattle.meaning.specs.Feature.{features}
+use Rattle.meaning.specs.Number.{Read, got, fault}
+use Rattle.meaning.specs.File.{operatorOf, operatorsOf}
+use Rattle.meaning.specs.Slot.{Reduced}
+use Rattle.meaning.specs.Workspace.{wordsFor, wordsDue, has, packed, Content, wordsOf, Proper}
+use Rattle.theory.specs.Words.{length-packed, packed-holds}
+use Rattle.theory.specs.Contents.{slotWords, length-words, read-sizes, read-pairs, pairs-past, withSlots, slots-changed}
+use Rattle.theory.specs.InsertAll.{insertAll, insertAll-join, insertAll-reduced}
+use Rattle.theory.specs.Rows.{rowsOf, rowsAll}
+use mathlib.Core.List.{flatMap}
+use Rattle.number.specs.Answers.{placeOf, place-next, place-faulted, reasonOf}
+use Rattle.number.specs.declared.Reason.{Reason}
+use Rattle.number.specs.declared.Step.{Step}
+use Rattle.number.specs.declared.Step.the-variants.{Next, Fault}
+use Rattle.pairs.specs.Ready.{Listed, Ready}
+use Rattle.task.specs.Walk.{operators-step}
+use Rattle.condition.specs.Slotted.{sizeWords, pairWords, slotArea, heldSlots, slotted, area-slotted, held-slotted as slots-back, Opened}
+
+-- The words of a proper content for v variables and n features, with further words behind them; and a workspace that holds some.
+pub record Holds (v n : ℕ) (c : Content) (further ws : List ℕ) : Type 0 where
+  pub words : ws ≡ wordsOf c ++ further
+  pub proper : Proper c
+  pub variables : v ≡ length (c .sizes)
+  pub total : n ≡ features (c .sizes)
+
+abbrev pub Workable : ℕ → ℕ → List ℕ → Type 0
+Workable v n ws = (c : Content) × (further : List ℕ) × Holds v n c further ws
+
+-- A workspace with the rows of an operator inserted.
+unfoldable pub withRows : ℕ → ℕ → Operator → List ℕ → List ℕ
+withRows v n o ws = slotted v n ws (insertAll n (heldSlots v n ws) (rowsOf (sizeWords v ws) (has (pairWords v n ws)) o))
+
+-- The same for an operator that was read; where there is a fault, the workspace as it was.
+abbrev pub withRead : ℕ → ℕ → Read Operator → List ℕ → List ℕ
+withRead v n (got o next) ws = withRows v n o ws
+withRead v n (fault reason place) ws = ws
+
+-- What is done with an operator that was read and the place after it.
+abbrev pub afterRead : Read Operator → List ℕ → (Operator → ℕ → List ℕ) → List ℕ
+afterRead (got o next) ws further = further o next
+afterRead (fault reason place) ws further = ws
+
+-- The rows of so many operators inserted, as far as they can be read.
+unfoldable pub addedFrom : ℕ → ℕ → ℕ → List ℕ → ℕ → List ℕ → List ℕ
+addedFrom v n zero bytes at ws = ws
+addedFrom v n (suc k) bytes at ws = afterRead (operatorOf (sizeWords v ws) bytes at) ws (λ o next. addedFrom v n k bytes next (withRows v n o ws))
+
+-- ---- the parts of a workspace
+
+module _ (v n : ℕ) (c : Content) (further ws : List ℕ) (h : Holds v n c further ws) where
+  pub held-sizes : sizeWords v ws ≡ c .sizes
+  held-sizes = rw (h .variables, h .words) (read-sizes c further)
+
+  held-pairs : pairWords v n ws ≡ packed (features (c .sizes)) (c .pairs)
+  held-pairs = rw (h .variables, h .total, h .words) (read-pairs c further (h .proper .start .full) (h .proper .goal .full))
+
+  held-has : has (pairWords v n ws) ≡ c .pairs
+  held-has = ap has held-pairs ∙ fun-ext (λ f. packed-holds (features (c .sizes)) (c .pairs) f (pairs-past (h .proper) f))
+
+  pub held-due : wordsDue v n ≤ length ws
+  held-due = rw (h .variables, h .total, h .words) (omega (arith, length-append (wordsOf c) further, length-words c (h .proper .start .full) (h .proper .goal .full)))
+
+  pub held-limits : (v ≤ mostVariables) × (n ≤ mostFeatures)
+  held-limits = (omega (arith, h .variables, h .proper .limits .variables), omega (arith, h .total, h .proper .limits .total))
+
+  -- Other slots in their place are those of the content.
+  pub held-slotted : (slots : Slots) → slotted v n ws slots ≡ wordsOf (withSlots c slots) ++ further
+  held-slotted slots = rw (h .variables, h .total, h .words) (sym (slots-changed c further (h .proper .start .full) (h .proper .goal .full) slots))
+
+  held-reduced : Reduced n (c .slots)
+  held-reduced = rw (h .total) (h .proper .slots)
+
+  own : slotted v n ws (c .slots) ≡ ws
+  own = held-slotted (c .slots) ∙ sym (h .words)
+
+  held-slots : heldSlots v n ws ≡ c .slots
+  held-slots = ap (heldSlots v n) (sym own) ∙ slots-back v n ws held-due (c .slots) held-reduced
+
+  -- It is ready for the rows of an operator in three slices.
+  pub held-opened : (vs xs ys : List ℕ) → Ready (sizeWords v ws) (pairWords v n ws) vs xs ys → Opened v n ws vs xs ys
+  held-opened vs xs ys r = record {
+    counted = h .total ∙ ap features (sym held-sizes);
+    due = held-due;
+    ready = r;
+    filled = ap (slotArea v n) (sym own) ∙ area-slotted v n ws held-due (c .slots) ∙ ap (slotWords n) (sym held-slots);
+    reduced = rw held-slots held-reduced;
+  }
+
+  pub held-listed : Listed (sizeWords v ws) (pairWords v n ws)
+  held-listed = record {
+    limits = rw held-sizes (h .proper .limits);
+    due = rw (held-pairs, held-sizes) (length-packed (features (c .sizes)) (c .pairs));
+  }
+
+  -- With other slots of the reduced shape it holds those.
+  pub held-again : (slots : Slots) → Reduced n slots → Holds v n (withSlots c slots) further (slotted v n ws slots)
+  held-again slots R = record {
+    words = held-slotted slots;
+    proper = record {
+      limits = h .proper .limits;
+      start = h .proper .start;
+      goal = h .proper .goal;
+      pairs = h .proper .pairs;
+      free = h .proper .free;
+      slots = rw (← (h .total)) R;
+    };
+    variables = h .variables;
+    total = h .total;
+  }
+
+  -- The slots with the rows of an operator inserted, and the workspace with them.
+  abbrev inserted : Operator → Slots
+  inserted o = insertAll n (c .slots) (rowsOf (c .sizes) (c .pairs) o)
+
+  pub held-rows : (o : Operator) → Holds v n (withSlots c (inserted o)) further (withRows v n o ws)
+  unfolding withRows
+  held-rows o = rw (held-slots, held-sizes, held-has) (held-again (inserted o) (insertAll-reduced held-reduced _))
+
+-- ---- operators one after another
+
+module _ (v n : ℕ) (bytes : List ℕ) where
+  module _ (count k at : ℕ) (ws : List ℕ) where
+    pub added-end : count ≤ k → addedFrom v n (count - k) bytes at ws ≡ ws
+    unfolding addedFrom
+    added-end h = let none : count - k ≡ 0 = omega arith in rw none
+
+    module _ (more : k < count) (answer : Step) (left : List ℕ) (place : answer ≡ placeOf (operatorOf (sizeWords v ws) bytes at))
+        (rows : left ≡ withRead v n (operatorOf (sizeWords v ws) bytes at) ws) where
+      pub added-more : (next : ℕ) → answer ≡ Next next → addedFrom v n (count - k) bytes at ws ≡ addedFrom v n (count - (k + 1)) bytes next left
+      unfolding addedFrom
+      added-more next e = let turn : count - k ≡ suc (count - (k + 1)) = omega arith in
+          let (o, read) = place-next (operatorOf (sizeWords v ws) bytes at) next (sym place ∙ e) in
+          rw (turn, rows, read)
+
+      pub added-unread : (reason : Reason) (there : ℕ) → answer ≡ Fault reason there → addedFrom v n (count - k) bytes at ws ≡ left
+      unfolding addedFrom
+      added-unread reason there e = let turn : count - k ≡ suc (count - (k + 1)) = omega arith in
+          let read = place-faulted (operatorOf (sizeWords v ws) bytes at) reason there (sym place ∙ e) in
+          rw (turn, rows, read)
+
+      pub read-workable : Workable v n ws → Workable v n left
+      read-workable (c, further, h) = rw rows (by (operatorOf (sizeWords v ws) bytes at))
+        where
+          by : (read : Read Operator) → Workable v n (withRead v n read ws)
+          by (got o next) = (_, further, held-rows v n c further ws h o)
+          by (fault reason place) = (c, further, h)
+
+  -- Where the operators were read, the rows of all of them are inserted.
+  pub added-all : (os : List Operator) (at next : ℕ) (c : Content) (further ws : List ℕ) → Holds v n c further ws → operatorsOf (c .sizes) (length os) bytes at ≡ got os next
+      → addedFrom v n (length os) bytes at ws ≡ wordsOf (withSlots c (insertAll n (c .slots) (rowsAll (c .sizes) (c .pairs) os))) ++ further
+  unfolding addedFrom rowsAll flatMap insertAll
+  added-all [] at next c further ws h e = h .words
+  added-all (o ∷ os) at next c further ws h e =
+      let (middle, first, rest) = operators-step (c .sizes) bytes (length os) at o os next .0 e in
+      let read : operatorOf (sizeWords v ws) bytes at ≡ got o middle = rw (held-sizes v n c further ws h) first in
+      rw read (added-all os middle next _ further (withRows v n o ws) (held-rows v n c further ws h o) rest)
+      ∙ ap (λ slots. wordsOf (withSlots c slots) ++ further) (sym (insertAll-join n (c .slots) (rowsOf (c .sizes) (c .pairs) o) (rowsAll (c .sizes) (c .pairs) os)))

@@ -1,0 +1,150 @@
+-- A workspace whose slots are still empty, and what it becomes once all operators' rows are inserted.
+use Prim.Native.Nat.{ℕ, zero, suc, _+_, _-_, _*_, _<_, _≤_}
+use mathlib.Core.Path.{_≡_, refl, sym, ap, ap₂, _∙_}
+use mathlib.Core.Logic.{Iff·symm}
+use mathlib.Core.Bool.{false, _&&_}
+use mathlib.Core.List.{List, _++_, append-assoc}
+use native.Mathlib.Omega.{arith}
+use native.Mathlib.Nat.{mul-le-mul}
+use lib.Dec.{ltb}
+use lib.ListN.{length, take, drop, replicate, length-drop, length-replicate, replicate-append-replicate}
+use lib.Seq.{take-at, drop-at, drop-drop, take-append-le, length-take-le}
+use borrow.Author.Tests.{lt-ltb, le-ltb}
+use Rattle.meaning.specs.Limits.{mostVariables, mostFeatures}
+use Rattle.meaning.specs.Sets.{Slots, flat, listed}
+use Rattle.meaning.specs.Task.{Task}
+use Rattle.meaning.specs.Feature.{features}
+use Rattle.meaning.specs.Number.{got, fault, Reason, refusal, Small}
+use Rattle.meaning.specs.File.{judgedTask, operatorsOf}
+use Rattle.meaning.specs.Slot.{SlotsOf}
+use Rattle.meaning.specs.Weight.{Meets}
+use Rattle.meaning.specs.Workspace.{wordsFor, slotsAt, wordsDue, packed, wordsOf, contentOf}
+use Rattle.meaning.specs.Answer.{Outcome, done, refused, Opens}
+use Rattle.theory.specs.Search.{and-none-right}
+use Rattle.theory.specs.Words.{packed-is}
+use Rattle.theory.specs.Contents.{slotWords, length-words, opened-proper}
+use Rattle.theory.specs.InsertAll.{bare, bare-reduced, insertAll, MeetsRows, rows-slots}
+use Rattle.theory.specs.Rows.{rowsAll, meets-rows}
+use Rattle.theory.specs.SlotsOf.{slots-along}
+use Rattle.words.specs.Part.{has-none, words-none}
+use Rattle.reader.specs.Answer.{begun}
+use Rattle.task.specs.Header.{headerWords, header-content, header-length}
+use Rattle.task.specs.Answer.{Known, known-headed}
+use Rattle.opening.specs.Adding.{Holds, Workable, addedFrom, added-all}
+
+-- ---- two parts written one after the other
+
+-- A front is copied, and the words from its end to the place `due` are cleared.
+pub begin-made : (room front copied cleared : List ℕ) (due : ℕ) → let end = length front in let middle = copied ++ drop end room in end ≤ due → due ≤ length room → copied ≡ front
+    → cleared ≡ replicate (length (take (due - end) (drop end middle))) 0
+    → take end middle ++ (cleared ++ drop (due - end) (drop end middle)) ≡ front ++ (replicate (due - end) 0 ++ drop due room)
+begin-made room front copied cleared due h k q z =
+    let end = length front in
+    let back : drop end (front ++ drop end room) ≡ drop end room = drop-at front (drop end room) end refl in
+    let rest : end + (due - end) ≡ due = omega arith in
+    let long : length (take (due - end) (drop end room)) ≡ due - end = length-take-le (due - end) (drop end room) (rw (length-drop end room) (omega arith)) in
+    let zeros : cleared ≡ replicate (due - end) 0 = rw (back, long) at (rw q at z) in
+    rw (q, take-at front (drop end room) end refl, back, drop-drop (due - end) end room, rest, zeros)
+
+-- ---- how many words are due
+
+pub slots-few : (n : ℕ) → n ≤ mostFeatures → n * wordsFor n ≤ mostFeatures * wordsFor mostFeatures
+slots-few n h = mul-le-mul h (let k : wordsFor n ≤ wordsFor mostFeatures = omega arith in k)
+
+-- ---- empty slots
+
+zeros-slot : (n i : ℕ) → packed n (bare i) ≡ replicate (wordsFor n) 0
+unfolding bare
+zeros-slot n i = packed-is n (bare i) (replicate (wordsFor n) 0) (length-replicate (wordsFor n) 0) (words-none (wordsFor n)) (λ f. has-none (wordsFor n) f ∙ sym (and-none-right (ltb f n) false refl))
+
+zeros-flat : (k w : ℕ) (g : ℕ → List ℕ) → ((i : ℕ) → g i ≡ replicate w 0) → flat k g ≡ replicate (k * w) 0
+unfolding flat
+zeros-flat zero w g h = let e : zero * w ≡ 0 = omega arith in rw e
+zeros-flat (suc k) w g h = let e : suc k * w ≡ k * w + w = omega arith in
+    ap₂ _++_ (zeros-flat k w g h) (h k) ∙ replicate-append-replicate (k * w) w 0 ∙ ap (λ m. replicate m 0) (sym e)
+
+-- Words that are all 0 are those of empty slots.
+pub zeros-slots : (n : ℕ) → replicate (n * wordsFor n) 0 ≡ slotWords n bare
+zeros-slots n = sym (zeros-flat n (wordsFor n) (λ i. packed n (bare i)) (zeros-slot n))
+
+-- ---- a task that was accepted
+
+-- Refused with a number, and the room as it came.
+abbrev refusedWith : List ℕ → ℕ → Outcome ℕ
+refusedWith room number = record { answer = refused number; lent = room }
+
+module _ (bytes words left room : List ℕ) (v n count at : ℕ) (known : Known bytes words left v n count at) where
+  abbrev task : Task
+  task = known .task
+
+  pub known-limits : (v ≤ mostVariables) × (n ≤ mostFeatures)
+  known-limits = let limits = known .writable .acceptable .limits in (omega (arith, known .variables, limits .variables), omega (arith, known .total, limits .total))
+
+  header-long : length (headerWords task) ≡ slotsAt v n
+  header-long = header-length task (known-headed known) ∙ sym (ap₂ slotsAt (known .variables) (known .total))
+
+  -- The front of the words left is the header.
+  pub known-header : take (slotsAt v n) left ≡ headerWords task
+  known-header = ap (take (slotsAt v n)) (known .header) ∙ take-at (headerWords task) _ (slotsAt v n) header-long
+
+  -- A workspace that has the header in front, and empty slots behind it.
+  module _ (due slots : ℕ) (ws : List ℕ) (due-is : due ≡ wordsDue v n) (slots-is : slots ≡ slotsAt v n)
+      (made : ws ≡ take slots left ++ (replicate (due - length (take slots left)) 0 ++ drop due room)) where
+    zeros : replicate (wordsDue v n - slotsAt v n) 0 ≡ slotWords (features (task .sizes)) bare
+    zeros = let k : wordsDue v n - slotsAt v n ≡ n * wordsFor n = omega arith in ap (λ m. replicate m 0) k ∙ zeros-slots n ∙ ap (λ m. slotWords m bare) (known .total)
+
+    front : take slots left ≡ headerWords task
+    front = ap (λ k. take k left) slots-is ∙ known-header
+
+    behind : replicate (due - length (take slots left)) 0 ≡ slotWords (features (task .sizes)) bare
+    behind = ap₂ (λ a b. replicate (a - b) 0) due-is (ap length front ∙ header-long) ∙ zeros
+
+    held : ws ≡ wordsOf (contentOf task bare) ++ drop due room
+    held = made ∙ ap₂ (λ a b. a ++ (b ++ drop due room)) front behind ∙ sym (append-assoc (headerWords task) (slotWords (features (task .sizes)) bare) (drop due room))
+        ∙ ap (λ l. l ++ drop due room) (sym (header-content task bare))
+
+    holds : Holds v n (contentOf task bare) (drop due room) ws
+    holds = record {
+      words = held;
+      proper = opened-proper task bare (known .writable .acceptable) (bare-reduced (features (task .sizes)));
+      variables = known .variables;
+      total = known .total;
+    }
+
+    pub begun-workable : Workable v n ws
+    begun-workable = (contentOf task bare, drop due room, holds)
+
+    pub begun-added : (exit : List ℕ) → exit ≡ addedFrom v n count bytes at ws → exit
+        ≡ wordsOf (contentOf task (insertAll (features (task .sizes)) bare (rowsAll (task .sizes) (listed (task .pairs)) (task .operators)))) ++ drop due room
+    begun-added exit e = e ∙ ap (λ k. addedFrom v n k bytes at ws) (known .many)
+        ∙ added-all v n bytes (task .operators) at (known .next) (contentOf task bare) (drop due room) ws holds (ap (λ k. operatorsOf (task .sizes) k bytes at) (sym (known .many)) ∙ known .operators)
+        ∙ ap (λ m. wordsOf (contentOf task (insertAll m bare (rowsAll (task .sizes) (listed (task .pairs)) (task .operators)))) ++ drop due room) (known .total)
+
+  -- The slots of its operators.
+  abbrev operatorSlots : Slots
+  operatorSlots = insertAll (features (task .sizes)) bare (rowsAll (task .sizes) (listed (task .pairs)) (task .operators))
+
+  are-slots : SlotsOf (features (task .sizes)) (Meets (task .sizes) (listed (task .pairs)) (task .operators)) operatorSlots
+  are-slots = slots-along _ _ _ _ (λ w. Iff·symm (meets-rows (task .sizes) (listed (task .pairs)) (task .operators) (λ o i. known .writable .acceptable .operators o i .entries) w))
+      (rows-slots (features (task .sizes)) (rowsAll (task .sizes) (listed (task .pairs)) (task .operators)))
+
+  long : length (wordsOf (contentOf task operatorSlots)) ≡ wordsDue v n
+  long = length-words (contentOf task operatorSlots) (known .writable .acceptable .start .full) (known .writable .acceptable .goal .full) ∙ sym (ap₂ wordsDue (known .variables) (known .total))
+
+  due-for : wordsDue v n ≡ wordsDue (length (task .sizes)) (features (task .sizes))
+  due-for = ap₂ wordsDue (known .variables) (known .total)
+
+  -- Too little room.
+  pub opens-small : (due number : ℕ) → due ≡ wordsDue v n → length room < due → number ≡ refusal Small → Opens bytes room (record { answer = refused number; lent = room })
+  opens-small due number e h q = rw (known .judged, lt-ltb (length room) (wordsDue (length (task .sizes)) (features (task .sizes))) (omega (arith, e, due-for))) (ap (refusedWith room) q)
+
+  -- Enough of it.
+  pub opens-done : (due : ℕ) (exit : List ℕ) → due ≡ wordsDue v n → due ≤ length room → exit ≡ wordsOf (contentOf task operatorSlots) ++ drop due room
+      → Opens bytes room (record { answer = done due; lent = exit })
+  opens-done due exit e h x = rw (known .judged, le-ltb (length room) (wordsDue (length (task .sizes)) (features (task .sizes))) (omega (arith, e, due-for)))
+      (operatorSlots, are-slots, ap₂ (λ d l. record { answer = done d; lent = l }) (e ∙ due-for) (x ∙ ap (λ k. wordsOf (contentOf task operatorSlots) ++ drop k room) (e ∙ sym long)))
+
+-- A task that was refused.
+pub opens-refused : (bytes room : List ℕ) (reason : Reason) (place number : ℕ) → judgedTask bytes ≡ fault reason place → number ≡ refusal reason
+    → Opens bytes room (record { answer = refused number; lent = room })
+opens-refused bytes room reason place number e q = rw e (ap (refusedWith room) q)

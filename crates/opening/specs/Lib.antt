@@ -1,0 +1,5 @@
+-- What opening says of a workspace.
+pub mod Answer
+pub mod Adding
+pub mod Step
+pub mod Begin

@@ -11,13 +11,13 @@ use Rattle.meaning.specs.Feature.{features}
 use Rattle.meaning.specs.Number.{Read, got, fault}
 use Rattle.meaning.specs.File.{operatorOf, operatorsOf}
 use Rattle.meaning.specs.Slot.{Reduced}
-use Rattle.meaning.specs.Workspace.{wordsFor, wordsDue, has, packed, Content, wordsOf, Proper}
+use Rattle.meaning.specs.Workspace.{wordsDue, has, packed, Content, wordsOf, Proper}
 use Rattle.theory.specs.Words.{length-packed, packed-holds}
 use Rattle.theory.specs.Contents.{slotWords, length-words, read-sizes, read-pairs, pairs-past, withSlots, slots-changed}
 use Rattle.theory.specs.InsertAll.{insertAll, insertAll-join, insertAll-reduced}
 use Rattle.theory.specs.Rows.{rowsOf, rowsAll}
 use mathlib.Core.List.{flatMap}
-use Rattle.number.specs.Answers.{placeOf, place-next, place-faulted, reasonOf}
+use Rattle.number.specs.Answers.{placeOf, place-next, place-faulted}
 use Rattle.number.specs.declared.Reason.{Reason}
 use Rattle.number.specs.declared.Step.{Step}
 use Rattle.number.specs.declared.Step.the-variants.{Next, Fault}

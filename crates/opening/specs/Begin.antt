@@ -2,19 +2,19 @@
 use Prim.Native.Nat.{ℕ, zero, suc, _+_, _-_, _*_, _<_, _≤_}
 use mathlib.Core.Path.{_≡_, refl, sym, ap, ap₂, _∙_}
 use mathlib.Core.Logic.{Iff·symm}
-use mathlib.Core.Bool.{false, _&&_}
+use mathlib.Core.Bool.{false}
 use mathlib.Core.List.{List, _++_, append-assoc}
 use native.Mathlib.Omega.{arith}
 use native.Mathlib.Nat.{mul-le-mul}
 use lib.Dec.{ltb}
 use lib.ListN.{length, take, drop, replicate, length-drop, length-replicate, replicate-append-replicate}
-use lib.Seq.{take-at, drop-at, drop-drop, take-append-le, length-take-le}
+use lib.Seq.{take-at, drop-at, drop-drop, length-take-le}
 use borrow.Author.Tests.{lt-ltb, le-ltb}
 use Rattle.meaning.specs.Limits.{mostVariables, mostFeatures}
 use Rattle.meaning.specs.Sets.{Slots, flat, listed}
 use Rattle.meaning.specs.Task.{Task}
 use Rattle.meaning.specs.Feature.{features}
-use Rattle.meaning.specs.Number.{got, fault, Reason, refusal, Small}
+use Rattle.meaning.specs.Number.{fault, Reason, refusal, Small}
 use Rattle.meaning.specs.File.{judgedTask, operatorsOf}
 use Rattle.meaning.specs.Slot.{SlotsOf}
 use Rattle.meaning.specs.Weight.{Meets}
@@ -23,11 +23,10 @@ use Rattle.meaning.specs.Answer.{Outcome, done, refused, Opens}
 use Rattle.theory.specs.Search.{and-none-right}
 use Rattle.theory.specs.Words.{packed-is}
 use Rattle.theory.specs.Contents.{slotWords, length-words, opened-proper}
-use Rattle.theory.specs.InsertAll.{bare, bare-reduced, insertAll, MeetsRows, rows-slots}
+use Rattle.theory.specs.InsertAll.{bare, bare-reduced, insertAll, rows-slots}
 use Rattle.theory.specs.Rows.{rowsAll, meets-rows}
 use Rattle.theory.specs.SlotsOf.{slots-along}
 use Rattle.words.specs.Part.{has-none, words-none}
-use Rattle.reader.specs.Answer.{begun}
 use Rattle.task.specs.Header.{headerWords, header-content, header-length}
 use Rattle.task.specs.Answer.{Known, known-headed}
 use Rattle.opening.specs.Adding.{Holds, Workable, addedFrom, added-all}

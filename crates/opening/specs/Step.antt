@@ -2,7 +2,6 @@
 use Prim.Native.Nat.{ℕ, _-_, _≤_}
 use mathlib.Core.Path.{_≡_, sym, ap, _∙_}
 use mathlib.Core.List.{List}
-use native.Mathlib.Omega.{arith}
 use lib.ListN.{length, take, drop}
 use Rattle.meaning.specs.Limits.{mostVariables, mostFeatures}
 use Rattle.meaning.specs.Number.{got, fault}

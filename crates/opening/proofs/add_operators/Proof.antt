@@ -1,5 +1,6 @@
+-- `add_operators`: the operators that are left, inserted into the workspace as it is, give what all of them give.
 use Prim.Native.Nat.{_≤_, _-_}
-use mathlib.Core.Path.{_≡_, refl, sym, ap, _∙_}
+use mathlib.Core.Path.{_≡_, refl, sym, _∙_}
 use native.Mathlib.Omega.{arith}
 use native.Mathlib.Nat.{sub-zero}
 use lib.ListN.{length}
@@ -7,57 +8,50 @@ use borrow.Author.Needs.{needs}
 use Rattle.opening.specs.Adding.{Workable, addedFrom, added-more, added-unread, added-end, read-workable}
 use Rattle.opening.proofs.add_operators.Statement.{statement}
 use Rattle.opening.proofs.add_operators.Tie as tie
-use Rattle.opening.proofs.add_operators.Reads as reads
-use Rattle.opening.proofs.add_operators.Lts as lts
-use Rattle.opening.proofs.add_operator.Reads as add-operator-reads
 
 abbrev Inv-loop : tie.InvT-loop
-Inv-loop bytes at count room₀ v n next₀ k₀ room next k = (k ≤ count) × Workable v n room × (length room ≡ length room₀) × (addedFrom v n count bytes at room₀ ≡ addedFrom v n (count - k) bytes next room)
+Inv-loop bytes at count room₀ v n next₀ k₀ room next k = (k ≤ count) × Workable v n room × (length room ≡ length room₀)
+    × (addedFrom v n count bytes at room₀ ≡ addedFrom v n (count - k) bytes next room)
 
 abbrev μ-loop : tie.MeasureT-loop
 μ-loop bytes at count room₀ v n next₀ k₀ room next k = count - k
 
--- src/lib.rt:81:5
 loop-holds : tie.Need-loop-holds Inv-loop μ-loop
 loop-holds c = (omega arith, c .before .before .pre, refl, simp sub-zero)
 
--- src/lib.rt:82:15
 add-operator-requires : tie.Need-add-operator-requires Inv-loop μ-loop
 add-operator-requires c κs = c .before .before .loop .inv .1
 
--- src/lib.rt:83:24
 enum-known-after : tie.Need-enum-known-after Inv-loop μ-loop
 enum-known-after c = search needs
 
--- src/lib.rt:87:17
 enum-told : tie.Need-enum-told Inv-loop μ-loop
 enum-told c = search needs
 
--- src/lib.rt:87:17
 same-length : tie.Need-same-length Inv-loop μ-loop
 same-length c = omega (arith, c .before .before .before .before .before .before .before .loop .inv .2)
 
--- src/lib.rt:87:17
 returns : tie.Need-returns Inv-loop μ-loop
-returns c = sym (c .before .before .before .before .before .before .before .loop .inv .3 ∙ added-unread _ _ _ _ _ _ _ (c .before .before .before .before .before .before .loop-test .taken) _ _ (c .before .before .before .before .add-operator .ensures .0) (c .before .before .before .before .add-operator .ensures .1) _ _ (c .enum-told .given .1))
+returns c = let loop = c .before .before .before .before .before .before .before .loop in let told = c .before .before .before .before .add-operator .ensures in
+    sym (loop .inv .3 ∙ added-unread _ _ _ _ _ _ _ (c .before .before .before .before .before .before .loop-test .taken) _ _ (told .0) (told .1) _ _ (c .enum-told .given .1))
 
--- src/lib.rt:90:9
 add-k : tie.Need-add-k Inv-loop μ-loop
 add-k c = omega arith
 
--- src/lib.rt:81:5
 loop-less : tie.Need-loop-less Inv-loop μ-loop
 loop-less c = omega arith
 
--- src/lib.rt:81:5
 loop-again : tie.Need-loop-again Inv-loop μ-loop
-loop-again c = (omega arith, read-workable _ _ _ _ _ _ _ (c .before .before .before .before .before .before .before .loop-test .taken) _ _ (c .before .before .before .before .before .add-operator .ensures .0) (c .before .before .before .before .before .add-operator .ensures .1) (c .before .before .before .before .before .before .before .before .loop .inv .1), omega (arith, c .before .before .before .before .before .before .before .before .loop .inv .2), c .before .before .before .before .before .before .before .before .loop .inv .3 ∙ added-more _ _ _ _ _ _ _ (c .before .before .before .before .before .before .before .loop-test .taken) _ _ (c .before .before .before .before .before .add-operator .ensures .0) (c .before .before .before .before .before .add-operator .ensures .1) _ (c .before .after .given .1))
+loop-again c = let loop = c .before .before .before .before .before .before .before .before .loop in let more = c .before .before .before .before .before .before .before .loop-test .taken in let told = c .before .before .before .before .before .add-operator .ensures in (
+  omega arith,
+  read-workable _ _ _ _ _ _ _ more _ _ (told .0) (told .1) (loop .inv .1),
+  omega (arith, loop .inv .2),
+  loop .inv .3 ∙ added-more _ _ _ _ _ _ _ more _ _ (told .0) (told .1) _ (c .before .after .given .1),
+)
 
--- src/lib.rt:75:1
 same-length-2 : tie.Need-same-length-2 Inv-loop μ-loop
 same-length-2 c = c .before .loop .inv .2
 
--- src/lib.rt:75:1
 returns-2 : tie.Need-returns-2 Inv-loop μ-loop
 returns-2 c = sym (c .before .loop .inv .3 ∙ added-end _ _ _ _ _ _ _ (c .loop-test .left))
 

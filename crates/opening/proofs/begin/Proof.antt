@@ -1,53 +1,39 @@
-use mathlib.Core.Path.{_≡_, sym, ap, _∙_}
+-- `begin`: one law on the two parts that are written.
+use mathlib.Core.Path.{sym}
 use native.Mathlib.Omega.{arith}
-use lib.ListN.{length}
 use lib.Seq.{length-take-le}
-use Rattle.opening.specs.Begin.{begin-made}
 use borrow.Author.Needs.{needs}
+use Rattle.opening.specs.Begin.{begin-made}
 use Rattle.opening.proofs.begin.Statement.{statement}
 use Rattle.opening.proofs.begin.Tie as tie
-use Rattle.opening.proofs.begin.Reads as reads
-use Rattle.opening.proofs.begin.Lts as lts
-use Rattle.words.proofs.clear.Reads as clear-reads
-use Rattle.words.proofs.copy.Reads as copy-reads
 
--- src/lib.rt:41:17
 slice-relend-prefix-copy : tie.Need-slice-relend-prefix-copy
 slice-relend-prefix-copy c = search needs
 
--- src/lib.rt:41:17
 slice-aggregate-copy : tie.Need-slice-aggregate-copy
 slice-aggregate-copy c = sym (length-take-le _ _ (omega arith))
 
--- src/lib.rt:41:5
 copy-requires : tie.Need-copy-requires
 copy-requires c κs = length-take-le _ _ (omega arith)
 
--- src/lib.rt:42:18
 mul-clear : tie.Need-mul-clear
 mul-clear c = search needs
 
--- src/lib.rt:42:18
 sub-clear : tie.Need-sub-clear
 sub-clear c = search needs
 
--- src/lib.rt:42:18
 part-clear-start : tie.Need-part-clear-start
 part-clear-start c = search needs
 
--- src/lib.rt:42:18
 part-clear-end : tie.Need-part-clear-end
 part-clear-end c = search needs
 
--- src/lib.rt:42:5
 clear-requires : tie.Need-clear-requires
 clear-requires c κs = search needs
 
--- src/lib.rt:36:1
 same-length : tie.Need-same-length
 same-length c = search needs
 
--- src/lib.rt:36:1
 returns : tie.Need-returns
 returns c = begin-made (c .before .before .before .before .before .before .before .before .before .before .args .room .now) (c .before .before .before .before .before .before .before .before .before .before .args .header .now) _ _ (c .before .before .before .before .before .before .before .before .before .before .args .due) (c .before .before .before .before .before .before .before .before .before .before .pre .0) (c .before .before .before .before .before .before .before .before .before .before .pre .1) (c .before .before .before .before .before .before .copy .ensures) (c .before .before .clear .ensures)
 

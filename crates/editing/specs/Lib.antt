@@ -3,3 +3,4 @@ pub mod Answers
 pub mod Operand
 pub mod Slices
 pub mod Change
+pub mod Follows

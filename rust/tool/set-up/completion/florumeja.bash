@@ -1,0 +1,39 @@
+# Completion of florumeja for bash. Read it with: . completion/florumeja.bash
+
+_florumeja_files() {
+    mapfile -t COMPREPLY < <(compgen -f -- "$1")
+    compopt -o filenames 2>/dev/null
+}
+
+_florumeja() {
+    local word=${COMP_WORDS[COMP_CWORD]} before=${COMP_WORDS[COMP_CWORD - 1]}
+    local commands='ask report find check build open' options
+    COMPREPLY=()
+
+    if ((COMP_CWORD == 1)); then
+        mapfile -t COMPREPLY < <(compgen -W "$commands help --help --version" -- "$word")
+        return
+    fi
+    case $before in
+    -o | --output | --weights | --task)
+        _florumeja_files "$word"
+        return
+        ;;
+    esac
+    case ${COMP_WORDS[1]} in
+    ask) options='--weights --task --json --help' ;;
+    report | find | build | open) options='--output --json --help' ;;
+    check) options='--json --help' ;;
+    help)
+        mapfile -t COMPREPLY < <(compgen -W "$commands" -- "$word")
+        return
+        ;;
+    *) return ;;
+    esac
+    case $word in
+    -*) mapfile -t COMPREPLY < <(compgen -W "$options" -- "$word") ;;
+    *) _florumeja_files "$word" ;;
+    esac
+}
+
+complete -F _florumeja florumeja ./florumeja

@@ -1,0 +1,42 @@
+//! `build`: makes a task file from a bay file.
+
+use super::{deliver, refuse, Command, OUTPUT};
+use crate::args::{Arguments, JSON};
+use crate::fault::Fault;
+use crate::files;
+use crate::json::Json;
+use crate::library;
+use crate::output::Status;
+
+pub const COMMAND: Command = Command {
+    name: "build",
+    operands: "BAY",
+    count: (1, 1),
+    summary: "build a task file from a bay file",
+    about: "\
+Reads a bay file (the binary one: rows, columns, start labels, goal labels) and
+builds its task. Without -o it only says how long the task file would be.
+For a bay as plain text use ask --task.",
+    options: &[&OUTPUT, &JSON],
+    statuses: &["built"],
+    run,
+};
+
+fn run(arguments: &Arguments) -> Status {
+    match build(arguments) {
+        Ok(()) => Status::Yes,
+        Err(fault) => refuse(arguments, &arguments.files[0], &fault),
+    }
+}
+
+fn build(arguments: &Arguments) -> Result<(), Fault> {
+    let name = &arguments.files[0];
+    let task = library::build(&files::read(name)?)?;
+    let line = format!("built {} bytes", task.len());
+    let json = Json::Object(vec![
+        ("file", Json::text(&name.to_string_lossy())),
+        ("answer", Json::text("built")),
+        ("bytes", Json::number(task.len())),
+    ]);
+    deliver(arguments, &task, &line, &json)
+}

@@ -1,0 +1,75 @@
+//! `check`: asks the proved checker about weights from anyone.
+
+use super::{refuse, tell, Command};
+use crate::args::{Arguments, JSON};
+use crate::fault::Fault;
+use crate::files;
+use crate::json::Json;
+use crate::library::{self, Verdict};
+use crate::output::Status;
+use std::ffi::{OsStr, OsString};
+
+pub const COMMAND: Command = Command {
+    name: "check",
+    operands: "TASK WEIGHTS",
+    count: (2, 2),
+    summary: "check a weight file against a task file",
+    about: "\
+Reads a task file and a weight file and prints the verdict of the checker:
+accepted (the weights separate start from goal, so the goal cannot be reached);
+rejected, ends alike (start and goal have the same parity); or rejected at
+operator N (the least operator that can change the parity, counted from 0).
+A rejection does not mean that the goal can be reached.",
+    options: &[&JSON],
+    statuses: &["accepted", "rejected"],
+    run,
+};
+
+fn run(arguments: &Arguments) -> Status {
+    let [task, weights] = arguments.files.as_slice() else {
+        return Status::Refused;
+    };
+    match check(task, weights) {
+        Ok(verdict) => give(arguments, verdict),
+        Err((name, fault)) => refuse(arguments, name, &fault),
+    }
+}
+
+type Misfit<'a> = (&'a OsStr, Fault);
+
+fn check<'a>(task: &'a OsString, weights: &'a OsString) -> Result<Verdict, Misfit<'a>> {
+    if files::is_standard(task) && files::is_standard(weights) {
+        let words = "only one of the two can be standard input";
+        return Err((task, Fault::Failure(words.to_string())));
+    }
+    let task_bytes = files::read(task).map_err(|fault| (task.as_os_str(), fault))?;
+    let weight_bytes = files::read(weights).map_err(|fault| (weights.as_os_str(), fault))?;
+    library::check(&task_bytes, &weight_bytes).map_err(|fault| {
+        // The task is judged first, so the weights are at fault exactly where it opens by itself.
+        let opens = library::open(&task_bytes).is_ok();
+        (if opens { weights } else { task }.as_os_str(), fault)
+    })
+}
+
+fn give(arguments: &Arguments, verdict: Verdict) -> Status {
+    let (words, status) = match verdict {
+        Verdict::Accepted => ("accepted".to_string(), Status::Yes),
+        Verdict::EndsAlike => ("rejected, ends alike".to_string(), Status::No),
+        Verdict::Operator(number) => (format!("rejected at operator {number}"), Status::No),
+    };
+    tell(arguments, &words, &json(arguments, verdict, &words));
+    status
+}
+
+fn json(arguments: &Arguments, verdict: Verdict, words: &str) -> Json {
+    let name = |index: usize| Json::text(&arguments.files[index].to_string_lossy());
+    let mut fields = vec![
+        ("file", name(0)),
+        ("weights", name(1)),
+        ("answer", Json::text(words)),
+    ];
+    if let Verdict::Operator(number) = verdict {
+        fields.push(("operator", Json::number(number as usize)));
+    }
+    Json::Object(fields)
+}

@@ -1,0 +1,66 @@
+//! `find`: looks for weights that separate the ends of a task.
+
+use super::{deliver, refuse, tell, Command, OUTPUT};
+use crate::args::{Arguments, JSON};
+use crate::fault::Fault;
+use crate::files;
+use crate::json::Json;
+use crate::library;
+use crate::numbers;
+use crate::output::Status;
+use std::ffi::OsStr;
+
+pub const COMMAND: Command = Command {
+    name: "find",
+    operands: "TASK",
+    count: (1, 1),
+    summary: "find the weights that separate start from goal in a task file",
+    about: "\
+Reads a task file and prints one line: separated, the count and the features of
+the least separating set, increasing; or none. Separated means that the goal
+cannot be reached. None does not mean that it can.
+
+With -o the weights are also written as a weight file, for check.",
+    options: &[&OUTPUT, &JSON],
+    statuses: &["separated", "none"],
+    run,
+};
+
+fn run(arguments: &Arguments) -> Status {
+    let name = &arguments.files[0];
+    match find(name).and_then(|found| give(arguments, found)) {
+        Ok(status) => status,
+        Err(fault) => refuse(arguments, name, &fault),
+    }
+}
+
+fn find(name: &OsStr) -> Result<Option<Vec<usize>>, Fault> {
+    let workspace = library::open(&files::read(name)?)?;
+    library::find(&workspace)
+}
+
+fn give(arguments: &Arguments, found: Option<Vec<usize>>) -> Result<Status, Fault> {
+    let Some(weights) = found else {
+        // There is no weight file to write.
+        tell(arguments, "none", &json(arguments, "none", vec![]));
+        return Ok(Status::No);
+    };
+    let numbers: Vec<String> = weights.iter().map(usize::to_string).collect();
+    let line = format!("separated {} {}", weights.len(), numbers.join(" "));
+    let fields = vec![
+        ("count", Json::number(weights.len())),
+        ("weights", Json::numbers(&weights)),
+    ];
+    let json = json(arguments, "separated", fields);
+    deliver(arguments, &numbers::weight_file(&weights), &line, &json)?;
+    Ok(Status::Yes)
+}
+
+fn json(arguments: &Arguments, answer: &str, more: Vec<(&'static str, Json)>) -> Json {
+    let mut fields = vec![
+        ("file", Json::text(&arguments.files[0].to_string_lossy())),
+        ("answer", Json::text(answer)),
+    ];
+    fields.extend(more);
+    Json::Object(fields)
+}

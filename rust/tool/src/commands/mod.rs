@@ -1,0 +1,84 @@
+//! The table of commands. A further command is one file here and one entry in `COMMANDS`.
+
+mod ask;
+mod build;
+mod check;
+mod find;
+mod open;
+mod report;
+
+use crate::args::{Arguments, Choice, JSON};
+use crate::fault::Fault;
+use crate::files;
+use crate::json::Json;
+use crate::output::{complain, say, say_bytes, Status};
+use crate::words::shown;
+use std::ffi::OsStr;
+
+pub struct Command {
+    pub name: &'static str,
+    /// The files that it takes, as the usage line shows them.
+    pub operands: &'static str,
+    /// The least and the most files that it takes.
+    pub count: (usize, usize),
+    pub summary: &'static str,
+    pub about: &'static str,
+    pub options: &'static [&'static Choice],
+    /// What exit statuses 0 and 1 mean; 2 always means refused or an error.
+    pub statuses: &'static [&'static str],
+    pub run: fn(&Arguments) -> Status,
+}
+
+pub const COMMANDS: &[Command] = &[
+    ask::COMMAND,
+    report::COMMAND,
+    find::COMMAND,
+    check::COMMAND,
+    build::COMMAND,
+    open::COMMAND,
+];
+
+/// The option of the commands that write one file.
+pub const OUTPUT: Choice = Choice {
+    long: "--output",
+    short: Some("-o"),
+    value: Some("FILE"),
+    help: "write the result to FILE (- for standard output)",
+};
+
+/// Writes a result where the command line asks for it, and says what it is.
+fn deliver(arguments: &Arguments, bytes: &[u8], line: &str, json: &Json) -> Result<(), Fault> {
+    match arguments.value(&OUTPUT) {
+        Some(name) if files::is_standard(name) => say_bytes(bytes),
+        Some(name) => files::keep(name, bytes, &arguments.files)?,
+        None => {}
+    }
+    tell(arguments, line, json);
+    Ok(())
+}
+
+/// Says an answer, to a person or to a program.
+fn tell(arguments: &Arguments, line: &str, json: &Json) {
+    // A result that is written to standard output has it to itself.
+    if arguments.value(&OUTPUT).is_some_and(files::is_standard) {
+        complain(line);
+    } else if arguments.has(&JSON) {
+        say_json(json);
+    } else {
+        say(&format!("{line}\n"));
+    }
+}
+
+/// Says why there is no answer, to a person or to a program.
+fn refuse(arguments: &Arguments, name: &OsStr, fault: &Fault) -> Status {
+    if arguments.has(&JSON) {
+        say_json(&fault.json(&name.to_string_lossy()));
+    } else {
+        complain(&fault.message(&shown(name)));
+    }
+    Status::Refused
+}
+
+fn say_json(json: &Json) {
+    say(&format!("{json}\n"));
+}

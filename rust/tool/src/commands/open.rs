@@ -1,0 +1,60 @@
+//! `open`: opens a task file as a workspace.
+
+use super::{deliver, refuse, Command, OUTPUT};
+use crate::args::{Arguments, JSON};
+use crate::fault::Fault;
+use crate::files;
+use crate::json::Json;
+use crate::library::{self, Workspace};
+use crate::output::Status;
+
+pub const COMMAND: Command = Command {
+    name: "open",
+    operands: "TASK",
+    count: (1, 1),
+    summary: "open a task file as a workspace and say what is in it",
+    about: "\
+Reads a task file, opens it and says how many words the workspace has, and how
+many variables, features, listed pairs and conditions (slots that are not empty)
+are in it. With -o the workspace is written, each word as eight bytes, the low
+byte first.",
+    options: &[&OUTPUT, &JSON],
+    statuses: &["opened"],
+    run,
+};
+
+fn run(arguments: &Arguments) -> Status {
+    match open(arguments) {
+        Ok(()) => Status::Yes,
+        Err(fault) => refuse(arguments, &arguments.files[0], &fault),
+    }
+}
+
+fn open(arguments: &Arguments) -> Result<(), Fault> {
+    let name = &arguments.files[0];
+    let workspace = library::open(&files::read(name)?)?;
+    let counts = counts(&workspace);
+    let shown: Vec<String> = counts.iter().map(|(n, c)| format!("{c} {n}")).collect();
+    let line = format!("opened {}", shown.join(", "));
+    let mut fields = vec![
+        ("file", Json::text(&name.to_string_lossy())),
+        ("answer", Json::text("opened")),
+    ];
+    fields.extend(counts.map(|(name, count)| (name, Json::number(count))));
+    deliver(arguments, &bytes(&workspace), &line, &Json::Object(fields))
+}
+
+fn counts(workspace: &Workspace) -> [(&'static str, usize); 5] {
+    [
+        ("words", workspace.words().len()),
+        ("variables", workspace.features().sizes().len()),
+        ("features", workspace.features().count()),
+        ("pairs", workspace.pair_count()),
+        ("conditions", workspace.condition_count()),
+    ]
+}
+
+fn bytes(workspace: &Workspace) -> Vec<u8> {
+    let words = workspace.words().iter();
+    words.flat_map(|word| word.to_le_bytes()).collect()
+}

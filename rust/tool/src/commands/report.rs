@@ -1,0 +1,51 @@
+//! `report`: a page that shows the proof to the person who was told "impossible".
+
+use super::{deliver, refuse, Command, OUTPUT};
+use crate::answer;
+use crate::args::{Arguments, JSON};
+use crate::bay_text::BayText;
+use crate::fault::Fault;
+use crate::files;
+use crate::output::{complain, Status};
+use crate::question;
+use crate::report;
+use crate::words::shown;
+
+pub const COMMAND: Command = Command {
+    name: "report",
+    operands: "FILE",
+    count: (1, 1),
+    summary: "write a page that shows the proof, for people (needs -o)",
+    about: "\
+Asks about one bay, as ask does, and writes one HTML page: pictures of both
+bays, the features that the weights list, which of them are true at the start
+and at the goal, the two counts, and why no move can change odd to even. The
+page needs nothing else, can be sent and printed, and can be checked by hand on
+a small bay. It needs -o, as in
+
+    florumeja report FILE -o page.html",
+    options: &[&OUTPUT, &JSON],
+    statuses: &["impossible", "no parity proof"],
+    run,
+};
+
+fn run(arguments: &Arguments) -> Status {
+    if !arguments.has(&OUTPUT) {
+        complain("report: -o FILE is needed; try florumeja report --help");
+        return Status::Refused;
+    }
+    match write(arguments) {
+        Ok(status) => status,
+        Err(fault) => refuse(arguments, &arguments.files[0], &fault),
+    }
+}
+
+fn write(arguments: &Arguments) -> Result<Status, Fault> {
+    let name = &arguments.files[0];
+    let answered = question::ask(&BayText::read(&files::read(name)?)?)?;
+    let page = report::page(&shown(name), &answered)?;
+    let line = format!("{}: {}", shown(name), answer::line(&answered));
+    let json = answer::json(&name.to_string_lossy(), &answered);
+    deliver(arguments, page.as_bytes(), &line, &json)?;
+    Ok(answered.status())
+}

@@ -1,0 +1,136 @@
+//! What can go wrong, in words and by number.
+
+use crate::json::Json;
+
+/// Why no answer was given.
+#[derive(Debug)]
+pub enum Fault {
+    /// The text of a bay is at fault at one place.
+    Text(TextFault),
+    /// The library refused, by this number.
+    Refused(u32),
+    /// Files, the command line, or answers that do not fit together.
+    Failure(String),
+}
+
+/// One place in a bay's text, what was expected there and what stands there.
+#[derive(Debug)]
+pub struct TextFault {
+    pub line: usize,
+    pub column: usize,
+    pub expected: String,
+    pub found: String,
+    pub source: String,
+    /// The library's refusal, where it was the library that found the fault.
+    pub refusal: Option<u32>,
+}
+
+impl Fault {
+    /// One line that says what is wrong.
+    pub fn words(&self) -> String {
+        match self {
+            Fault::Text(fault) => fault.words(),
+            Fault::Refused(number) => refusal_words(*number),
+            Fault::Failure(words) => words.clone(),
+        }
+    }
+
+    /// The word that leads a line about it.
+    pub fn heading(&self) -> &'static str {
+        match self {
+            Fault::Failure(_) => "ERROR",
+            _ => "REFUSED",
+        }
+    }
+
+    /// All that is known, for a person: the words, then the line of the text with a mark below.
+    pub fn message(&self, name: &str) -> String {
+        match self {
+            Fault::Text(fault) => {
+                format!("{name}: {}\n{}", fault.words(), fault.pointer())
+            }
+            _ => format!("{name}: {}", self.words()),
+        }
+    }
+
+    /// The same for a program.
+    pub fn json(&self, name: &str) -> Json {
+        let answer = self.heading().to_lowercase();
+        let mut fields = vec![
+            ("file", Json::text(name)),
+            ("answer", Json::Text(answer)),
+            ("message", Json::Text(self.words())),
+        ];
+        match self {
+            Fault::Text(fault) => fields.extend(fault.fields()),
+            Fault::Refused(number) => fields.push(("refusal", refusal_json(*number))),
+            Fault::Failure(_) => {}
+        }
+        Json::Object(fields)
+    }
+}
+
+impl TextFault {
+    fn words(&self) -> String {
+        let TextFault { line, column, .. } = self;
+        let (expected, found) = (&self.expected, &self.found);
+        let place = format!("line {line}, column {column}: expected {expected}, found {found}");
+        match self.refusal {
+            Some(number) => format!("{place} ({})", refusal_words(number)),
+            None => place,
+        }
+    }
+
+    // Shows the line itself, so that nobody has to count columns.
+    fn pointer(&self) -> String {
+        let source: String = self.source.chars().map(plain).collect();
+        let blanks = " ".repeat(self.column - 1);
+        format!("    {}\n    {blanks}^", source.trim_end())
+    }
+
+    fn fields(&self) -> Vec<(&'static str, Json)> {
+        let mut fields = vec![
+            ("line", Json::number(self.line)),
+            ("column", Json::number(self.column)),
+            ("expected", Json::text(&self.expected)),
+            ("found", Json::text(&self.found)),
+        ];
+        if let Some(number) = self.refusal {
+            fields.push(("refusal", refusal_json(number)));
+        }
+        fields
+    }
+}
+
+/// A refusal by number and in words.
+pub fn refusal_words(number: u32) -> String {
+    let meaning = match number {
+        1 => "input ends inside what is due, or a number is badly formed",
+        2 => "the count of variables, a size, the count of features, or a bay dimension breaks its limit",
+        3 => "a value, variable, entry count, feature or label is outside its range, or a list of new values has the wrong length",
+        4 => "entries, pairs or weights do not increase",
+        5 => "bytes are left over",
+        6 => "the start holds a listed pair",
+        7 => "the pairs are not closed under an operator",
+        8 => "lent room is too small",
+        9 => "a workspace is not well formed",
+        10 => "a bay list misses or repeats a label",
+        _ => "a number that this tool has no words for",
+    };
+    format!("refused {number}: {meaning}")
+}
+
+fn refusal_json(number: u32) -> Json {
+    Json::Object(vec![
+        ("number", Json::number(number as usize)),
+        ("words", Json::Text(refusal_words(number))),
+    ])
+}
+
+fn plain(character: char) -> char {
+    match character {
+        '\t' => ' ',
+        c if c.is_control() => '?',
+        c => c,
+    }
+}

@@ -1,0 +1,113 @@
+//! The numbering of features: single atoms first, then pairs of atoms.
+
+/// One variable with one value; in a bay, one slot with what it holds.
+#[derive(Clone, Copy, PartialEq, Eq, Hash, Debug)]
+pub struct Atom {
+    pub variable: usize,
+    pub value: usize,
+}
+
+impl Atom {
+    pub fn new(variable: usize, value: usize) -> Atom {
+        Atom { variable, value }
+    }
+
+    fn holds_in(&self, state: &[usize]) -> bool {
+        state[self.variable] == self.value
+    }
+}
+
+/// What a feature speaks of.
+#[derive(Clone, Copy, PartialEq, Eq, Hash, Debug)]
+pub enum Feature {
+    Single(Atom),
+    Pair(Atom, Atom),
+}
+
+impl Feature {
+    /// The feature of two atoms, in whichever order they come.
+    pub fn pair(one: Atom, two: Atom) -> Feature {
+        if one.variable < two.variable {
+            Feature::Pair(one, two)
+        } else {
+            Feature::Pair(two, one)
+        }
+    }
+
+    pub fn holds_in(&self, state: &[usize]) -> bool {
+        match self {
+            Feature::Single(atom) => atom.holds_in(state),
+            Feature::Pair(one, two) => one.holds_in(state) && two.holds_in(state),
+        }
+    }
+}
+
+/// All features of a task with these sizes, by number.
+pub struct Features {
+    sizes: Vec<usize>,
+    all: Vec<Feature>,
+}
+
+impl Features {
+    pub fn new(sizes: Vec<usize>) -> Features {
+        let mut all = Vec::new();
+        for variable in 0..sizes.len() {
+            all.extend(atoms(&sizes, variable).map(Feature::Single));
+        }
+        for low in 0..sizes.len() {
+            for high in low + 1..sizes.len() {
+                push_pairs(&mut all, &sizes, low, high);
+            }
+        }
+        Features { sizes, all }
+    }
+
+    pub fn sizes(&self) -> &[usize] {
+        &self.sizes
+    }
+
+    pub fn count(&self) -> usize {
+        self.all.len()
+    }
+
+    pub fn get(&self, number: usize) -> Feature {
+        self.all[number]
+    }
+
+    /// Those of the listed features that are true in the state.
+    pub fn true_in(&self, listed: &[usize], state: &[usize]) -> Vec<usize> {
+        let held = |number: &usize| self.all[*number].holds_in(state);
+        listed.iter().copied().filter(held).collect()
+    }
+}
+
+fn atoms(sizes: &[usize], variable: usize) -> impl Iterator<Item = Atom> {
+    (0..sizes[variable]).map(move |value| Atom::new(variable, value))
+}
+
+fn push_pairs(all: &mut Vec<Feature>, sizes: &[usize], low: usize, high: usize) {
+    for one in atoms(sizes, low) {
+        all.extend(atoms(sizes, high).map(|two| Feature::Pair(one, two)));
+    }
+}
+
+#[cfg(test)]
+mod tests {
+    use super::*;
+
+    #[test]
+    fn counts_follow_the_limits_of_the_rules() {
+        assert_eq!(Features::new(vec![2, 2]).count(), 8);
+        assert_eq!(Features::new(vec![64, 62]).count(), 4094);
+        assert_eq!(Features::new(vec![1; 64]).count(), 2080);
+        assert_eq!(Features::new(vec![9; 9]).count(), 2997);
+    }
+
+    #[test]
+    fn the_second_value_of_a_pair_runs_faster() {
+        let features = Features::new(vec![2, 3]);
+        let pair = Feature::pair(Atom::new(1, 2), Atom::new(0, 1));
+        assert_eq!(features.get(10), pair);
+        assert_eq!(features.true_in(&[1, 4, 9, 10], &[1, 2]), [1, 4, 10]);
+    }
+}

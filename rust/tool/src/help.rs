@@ -1,0 +1,52 @@
+//! The help texts, made from the table of commands.
+
+use crate::args::HELP;
+use crate::commands::{Command, COMMANDS};
+
+/// The help of the tool as a whole.
+pub fn tool() -> String {
+    let names = COMMANDS.iter().map(|c| (usage(c), c.summary));
+    format!(
+        "florumeja: asks whether the order for a bay of pallets is impossible\n\
+         \n\
+         Usage: florumeja COMMAND [OPTIONS] FILE...\n\
+         \n\
+         Commands:\n{}\
+         \n\
+         florumeja COMMAND --help tells more. A FILE of - is standard input.\n\
+         florumeja --version shows the version.\n\
+         \n\
+         Exit status: 0 impossible (or separated, accepted, opened, built),\n\
+         1 no proof (or none, rejected), 2 refused or an error.\n",
+        table(names.collect())
+    )
+}
+
+/// The help of one command.
+pub fn command(command: &Command) -> String {
+    let options = command.options.iter().copied().chain([&HELP]);
+    let options = options.map(|choice| (choice.shown(), choice.help));
+    let mut statuses: Vec<(String, &str)> = Vec::new();
+    for (number, meaning) in command.statuses.iter().enumerate() {
+        statuses.push((number.to_string(), meaning));
+    }
+    statuses.push(("2".to_string(), "refused, or an error"));
+    format!(
+        "Usage: florumeja {} {}\n\n{}\n\nOptions:\n{}\nExit status:\n{}",
+        command.name,
+        command.operands,
+        command.about.trim(),
+        table(options.collect()),
+        table(statuses)
+    )
+}
+
+fn usage(command: &Command) -> String {
+    format!("{} {}", command.name, command.operands)
+}
+
+fn table(rows: Vec<(String, &str)>) -> String {
+    let width = rows.iter().map(|(name, _)| name.len()).max().unwrap_or(0);
+    let line = |(name, words): (String, &str)| format!("  {name:width$}  {words}\n");
+    rows.into_iter().map(line).collect()
+}

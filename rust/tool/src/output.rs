@@ -1,0 +1,45 @@
+//! Standard output and standard error, and the exit status.
+
+use std::io::{self, ErrorKind, Write};
+use std::process::{exit, ExitCode};
+
+/// How a command ended; the number is the exit status.
+#[derive(Clone, Copy, PartialEq, Eq, PartialOrd, Ord, Debug)]
+pub enum Status {
+    /// Impossible, separated, accepted, opened or built.
+    Yes = 0,
+    /// No parity proof, none, or rejected.
+    No = 1,
+    /// Refused, or an error.
+    Refused = 2,
+}
+
+impl From<Status> for ExitCode {
+    fn from(status: Status) -> ExitCode {
+        ExitCode::from(status as u8)
+    }
+}
+
+/// Writes to standard output.
+pub fn say(words: &str) {
+    say_bytes(words.as_bytes());
+}
+
+/// Writes bytes to standard output; an answer that could not be given must not end as a success.
+pub fn say_bytes(bytes: &[u8]) {
+    let mut out = io::stdout().lock();
+    let Err(error) = out.write_all(bytes).and_then(|()| out.flush()) else {
+        return;
+    };
+    // A reader that has seen enough, such as head, is no reason for a message.
+    if error.kind() != ErrorKind::BrokenPipe {
+        complain(&format!("cannot write to standard output: {error}"));
+    }
+    exit(Status::Refused as i32);
+}
+
+/// Writes one message to standard error.
+pub fn complain(words: &str) {
+    // Nothing is left to tell it to where standard error itself is closed.
+    let _ = writeln!(io::stderr(), "florumeja: {words}");
+}

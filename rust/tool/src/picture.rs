@@ -1,0 +1,56 @@
+//! Draws bays with plain characters.
+
+use crate::bay::{Bay, GAP};
+
+const BEFORE: &str = "as it stands";
+const AFTER: &str = "as it is wanted";
+const ARROW: &str = "   -->   ";
+/// Pictures that would be wider than a usual terminal stand one below the other.
+const WIDEST: usize = 78;
+
+/// Both bays, side by side where they fit.
+pub fn both(bay: &Bay) -> String {
+    let start = drawing(BEFORE, &bay.start, bay.columns);
+    let goal = drawing(AFTER, &bay.goal, bay.columns);
+    let width = widest(&start) + ARROW.len() + widest(&goal);
+    if width > WIDEST {
+        return lines(start.into_iter().chain(goal));
+    }
+    beside(&start, &goal)
+}
+
+fn beside(start: &[String], goal: &[String]) -> String {
+    let width = widest(start);
+    let middle = start.len() / 2;
+    let join = |(index, (left, right)): (usize, (&String, &String))| {
+        let between = if index == middle { ARROW } else { "" };
+        format!("{left:width$}{between:9}{right}")
+    };
+    lines(start.iter().zip(goal).enumerate().map(join))
+}
+
+fn lines(rows: impl Iterator<Item = String>) -> String {
+    rows.map(|row| format!("  {}\n", row.trim_end())).collect()
+}
+
+fn widest(rows: &[String]) -> usize {
+    rows.iter().map(String::len).max().unwrap_or(0)
+}
+
+fn drawing(title: &str, labels: &[usize], columns: usize) -> Vec<String> {
+    let edge = format!("{}+", "+----".repeat(columns));
+    let mut rows = vec![title.to_string(), edge.clone()];
+    for row in labels.chunks(columns) {
+        let cells: String = row.iter().map(|&label| cell(label)).collect();
+        rows.push(format!("{cells}|"));
+        rows.push(edge.clone());
+    }
+    rows
+}
+
+fn cell(label: usize) -> String {
+    if label == GAP {
+        return "|  . ".to_string();
+    }
+    format!("| {label:>2} ")
+}

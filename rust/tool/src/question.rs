@@ -1,0 +1,87 @@
+//! The main question: is the order for a bay impossible?
+
+use crate::bay::Bay;
+use crate::bay_text::BayText;
+use crate::fault::Fault;
+use crate::features::Features;
+use crate::library::{self, Verdict, Workspace};
+use crate::numbers;
+use crate::output::Status;
+use crate::words::parity;
+
+/// A bay that was asked about, and what came of it.
+pub struct Answered {
+    pub bay: Bay,
+    /// The task file that the library built.
+    pub task: Vec<u8>,
+    /// The proof, if there is one.
+    pub proof: Option<Proof>,
+}
+
+impl Answered {
+    pub fn status(&self) -> Status {
+        match self.proof {
+            Some(_) => Status::Yes,
+            None => Status::No,
+        }
+    }
+}
+
+/// Weights that the checker accepted, and what they count.
+pub struct Proof {
+    pub features: Features,
+    /// The listed features, increasing.
+    pub weights: Vec<usize>,
+    /// The same as the file that the checker read.
+    pub weight_file: Vec<u8>,
+    /// The listed features that are true at the start.
+    pub true_at_start: Vec<usize>,
+    /// The listed features that are true at the goal.
+    pub true_at_goal: Vec<usize>,
+}
+
+/// Builds, opens, finds and checks; each step is a proved call.
+pub fn ask(text: &BayText) -> Result<Answered, Fault> {
+    let bay = text.bay();
+    let task = library::build(&bay.file()).map_err(|fault| text.place(fault))?;
+    let workspace = library::open(&task)?;
+    let proof = match library::find(&workspace)? {
+        Some(weights) => Some(checked(&task, workspace, weights)?),
+        None => None,
+    };
+    Ok(Answered { bay, task, proof })
+}
+
+// What the finder found counts only after the checker has accepted it.
+fn checked(task: &[u8], workspace: Workspace, weights: Vec<usize>) -> Result<Proof, Fault> {
+    let weight_file = numbers::weight_file(&weights);
+    let verdict = library::check(task, &weight_file)?;
+    if verdict != Verdict::Accepted {
+        return Err(Fault::Failure(format!(
+            "the checker did not accept what the finder found ({verdict:?}), so nothing is said"
+        )));
+    }
+    let start = workspace.start();
+    let goal = workspace.goal();
+    let features = workspace.into_features();
+    let proof = Proof {
+        true_at_start: features.true_in(&weights, &start),
+        true_at_goal: features.true_in(&weights, &goal),
+        features,
+        weights,
+        weight_file,
+    };
+    agreed(proof)
+}
+
+// The counts that are shown have to bear out the verdict, or the words would mislead.
+fn agreed(proof: Proof) -> Result<Proof, Fault> {
+    let (start, goal) = (proof.true_at_start.len(), proof.true_at_goal.len());
+    if parity(start) == parity(goal) {
+        return Err(Fault::Failure(format!(
+            "the checker accepted the weights, but the tool counts {start} and {goal}, \
+             so nothing is said"
+        )));
+    }
+    Ok(proof)
+}

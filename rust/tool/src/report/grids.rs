@@ -1,0 +1,195 @@
+//! The whole list of features as grids of squares, as SVG.
+
+use super::listed::Listed;
+use super::words::slot;
+use crate::bay::{Bay, GAP};
+use crate::features::{Atom, Feature};
+
+const SQUARE: usize = 16;
+const LEFT: usize = 22;
+const TOP: usize = 36;
+/// A grid is never narrower than its title.
+const NARROWEST: usize = 122;
+
+/// What stands above, to the left and along the top of a grid.
+struct Sides {
+    title: String,
+    left: Vec<String>,
+    top: Vec<String>,
+}
+
+/// What is known of one square.
+struct Square {
+    listed: bool,
+    never: bool,
+    start: bool,
+    goal: bool,
+}
+
+/// The grid of single features: a row for each slot, a column for each label.
+pub fn singles(bay: &Bay, listed: &Listed) -> String {
+    let sides = Sides {
+        title: "One slot".to_string(),
+        left: (0..bay.slots()).map(|row| slot(row).to_string()).collect(),
+        top: labels(bay),
+    };
+    grid(&sides, |row, column| {
+        let feature = Feature::Single(Atom::new(row, column));
+        square(bay, listed, feature, false)
+    })
+}
+
+/// One grid for each two slots: rows are labels of the first, columns of the second.
+pub fn pairs(bay: &Bay, listed: &Listed) -> String {
+    let mut grids = String::new();
+    for low in 0..bay.slots() {
+        for high in low + 1..bay.slots() {
+            grids.push_str(&pair(bay, listed, low, high));
+        }
+    }
+    grids
+}
+
+fn pair(bay: &Bay, listed: &Listed, low: usize, high: usize) -> String {
+    let sides = Sides {
+        title: format!("{} down, {} across", slot(low), slot(high)),
+        left: labels(bay),
+        top: labels(bay),
+    };
+    grid(&sides, |row, column| {
+        let feature = Feature::pair(Atom::new(low, row), Atom::new(high, column));
+        // One pallet cannot stand in two slots.
+        square(bay, listed, feature, row == column)
+    })
+}
+
+fn square(bay: &Bay, listed: &Listed, feature: Feature, never: bool) -> Square {
+    Square {
+        listed: listed.has(feature),
+        never,
+        start: feature.holds_in(&bay.start),
+        goal: feature.holds_in(&bay.goal),
+    }
+}
+
+fn labels(bay: &Bay) -> Vec<String> {
+    let short = |label: usize| match label {
+        GAP => "·".to_string(),
+        number => number.to_string(),
+    };
+    (0..bay.slots()).map(short).collect()
+}
+
+fn grid(sides: &Sides, square: impl Fn(usize, usize) -> Square) -> String {
+    let (rows, columns) = (sides.left.len(), sides.top.len());
+    let width = NARROWEST.max(LEFT + columns * SQUARE + 2);
+    let height = TOP + rows * SQUARE + 2;
+    let mut body = names(sides) + &ground(rows, columns);
+    for row in 0..rows {
+        for column in 0..columns {
+            body.push_str(&marks(&square(row, column), row, column));
+        }
+    }
+    format!(
+        "<svg class=\"grid\" role=\"img\" aria-label=\"{}\" width=\"{width}\" height=\"{height}\" \
+         viewBox=\"0 0 {width} {height}\">{body}</svg>\n",
+        sides.title
+    )
+}
+
+fn names(sides: &Sides) -> String {
+    let mut names = format!(
+        "<text class=\"caption\" x=\"2\" y=\"14\">{}</text>",
+        sides.title
+    );
+    let mut name = |x: usize, y: usize, words: &str| {
+        names.push_str(&format!(
+            "<text class=\"side\" x=\"{x}\" y=\"{y}\">{words}</text>"
+        ));
+    };
+    for (column, words) in sides.top.iter().enumerate() {
+        name(LEFT + column * SQUARE + SQUARE / 2, TOP - 5, words);
+    }
+    for (row, words) in sides.left.iter().enumerate() {
+        name(LEFT / 2, TOP + row * SQUARE + 12, words);
+    }
+    names
+}
+
+// All squares at once, so that a page about nine slots stays small.
+fn ground(rows: usize, columns: usize) -> String {
+    let (width, height) = (columns * SQUARE, rows * SQUARE);
+    let mut lines = String::new();
+    for row in 0..=rows {
+        lines.push_str(&format!("M{LEFT} {}h{width}", TOP + row * SQUARE));
+    }
+    for column in 0..=columns {
+        lines.push_str(&format!("M{} {TOP}v{height}", LEFT + column * SQUARE));
+    }
+    format!("<path class=\"lines\" d=\"{lines}\"/>")
+}
+
+fn marks(square: &Square, row: usize, column: usize) -> String {
+    let (x, y) = (LEFT + column * SQUARE, TOP + row * SQUARE);
+    let mut marks = String::new();
+    let mut frame = |class: &str, inset: usize| {
+        let (left, top, size) = (x + inset, y + inset, SQUARE - 2 * inset);
+        marks.push_str(&format!(
+            "<rect class=\"{class}\" x=\"{left}\" y=\"{top}\" width=\"{size}\" height=\"{size}\"/>"
+        ));
+    };
+    if square.listed {
+        frame("listed", 0);
+    }
+    if square.goal {
+        frame("goal", 1);
+    }
+    if square.never {
+        marks.push_str(&format!(
+            "<path class=\"never\" d=\"M{x} {y}l{SQUARE} {SQUARE}\"/>"
+        ));
+    }
+    if square.start {
+        let (across, down) = (x + SQUARE / 2, y + SQUARE / 2);
+        marks.push_str(&format!(
+            "<circle class=\"start\" cx=\"{across}\" cy=\"{down}\" r=\"4\"/>"
+        ));
+    }
+    marks
+}
+
+/// What the marks in the grids mean.
+pub fn legend() -> String {
+    let square = |listed, never, start, goal| Square {
+        listed,
+        never,
+        start,
+        goal,
+    };
+    let items = [
+        (square(true, false, false, false), "on the list"),
+        (square(false, false, true, false), "true as the bay stands"),
+        (
+            square(false, false, false, true),
+            "true as the bay is wanted",
+        ),
+        (
+            square(false, true, false, false),
+            "never true: one pallet in two slots",
+        ),
+    ];
+    let shown = items.iter().map(|(square, words)| item(square, words));
+    format!("<ul class=\"legend\">{}</ul>\n", shown.collect::<String>())
+}
+
+fn item(square: &Square, words: &str) -> String {
+    let size = SQUARE + 2;
+    format!(
+        "<li><svg width=\"{size}\" height=\"{size}\" viewBox=\"{} {} {size} {size}\" \
+         aria-hidden=\"true\">{}{}</svg> {words}</li>",
+        LEFT - 1,
+        TOP - 1,
+        ground(1, 1),
+        marks(square, 0, 0)
+    )
+}

@@ -1,0 +1,243 @@
+//! The page that shows a proof to a person: one file, with its pictures inside.
+
+mod example;
+mod grids;
+mod listed;
+mod listing;
+mod move_table;
+mod moves;
+mod pictures;
+mod words;
+
+use crate::bay::{Bay, GAP};
+use crate::fault::Fault;
+use crate::features::{Atom, Feature};
+use crate::question::{Answered, Proof};
+use crate::words::{counted, parity};
+use listed::Listed;
+use words::{escaped, feature};
+
+const STYLE: &str = include_str!("page.css");
+
+/// The page about one bay.
+pub fn page(name: &str, answered: &Answered) -> Result<String, Fault> {
+    let body = match &answered.proof {
+        Some(proof) => proved(answered, proof)?,
+        None => not_proved(&answered.bay),
+    };
+    let title = match answered.proof {
+        Some(_) => "IMPOSSIBLE",
+        None => "NO PARITY PROOF",
+    };
+    Ok(format!(
+        "<!DOCTYPE html>\n<html lang=\"en\">\n<head>\n<meta charset=\"utf-8\">\n\
+         <meta name=\"viewport\" content=\"width=device-width, initial-scale=1\">\n\
+         <title>{title}: {name}</title>\n<style>\n{STYLE}</style>\n</head>\n<body>\n\
+         {}{}{body}</body>\n</html>\n",
+        verdict(&escaped(name), answered.proof.is_some()),
+        both(&answered.bay),
+        name = escaped(name),
+    ))
+}
+
+fn verdict(name: &str, proved: bool) -> String {
+    let (kind, heading, words) = if proved {
+        (
+            "impossible",
+            "IMPOSSIBLE",
+            "No sequence of moves leads from the bay as it stands to the bay as it is wanted. \
+             It is not a matter of skill or time: this page shows why.",
+        )
+    } else {
+        (
+            "unknown",
+            "NO PARITY PROOF",
+            "This does not mean that the order can be done.",
+        )
+    };
+    format!(
+        "<header class=\"{kind}\">\n<p class=\"file\">{name}</p>\n<h1>{heading}</h1>\n\
+         <p>{words}</p>\n</header>\n"
+    )
+}
+
+fn both(bay: &Bay) -> String {
+    format!(
+        "<section>\n<h2>The order</h2>\n<div class=\"bays\">\n\
+         <figure>{}<figcaption>as it stands</figcaption></figure>\n\
+         <span class=\"arrow\">&#8594;</span>\n\
+         <figure>{}<figcaption>as it is wanted</figcaption></figure>\n</div>\n\
+         <p>Each slot has a letter, each pallet a number. The dashed slot is the gap. A move slides a \
+         pallet from a slot beside the gap, in the same row or column, into the gap.</p>\n</section>\n",
+        pictures::bay("The bay as it stands", &bay.start, bay.columns, &[]),
+        pictures::bay("The bay as it is wanted", &bay.goal, bay.columns, &[]),
+    )
+}
+
+fn not_proved(bay: &Bay) -> String {
+    let words = if bay.start == bay.goal {
+        "The two bays are alike, so there is nothing to prove impossible."
+    } else {
+        "The finder looked for a list of features of one slot or of two slots that parts the two \
+         bays by odd and even, and no such list exists. So there is no proof of this kind that the \
+         order is impossible. There is no proof that it can be done either: moves were not \
+         searched for."
+    };
+    format!("<section>\n<h2>What this means</h2>\n<p>{words}</p>\n</section>\n")
+}
+
+fn proved(answered: &Answered, proof: &Proof) -> Result<String, Fault> {
+    let bay = &answered.bay;
+    let listed = Listed::new(proof);
+    Ok([
+        idea(bay, &listed),
+        truths(bay, &listed),
+        why(bay, &listed),
+        every_move(bay, &listed)?,
+        whole_list(bay, &listed, proof),
+        by_hand(bay, &listed),
+        by_program().to_string(),
+    ]
+    .concat())
+}
+
+fn idea(bay: &Bay, listed: &Listed) -> String {
+    let start = listed.true_in(&bay.start).len();
+    let goal = listed.true_in(&bay.goal).len();
+    format!(
+        "<section>\n<h2>The proof in short</h2>\n\
+         <p>A <em>feature</em> is a plain statement about the bay. It names what one slot holds, \
+         as in <q>{one}</q>, or what two slots hold, as in <q>{two}</q>. The proof is a list of \
+         {features}. Look at the bay, and count how many statements on the list are true.</p>\n\
+         <div class=\"counts\">\n{start_count}{goal_count}</div>\n\
+         <p><strong>No move can change an odd count to an even one, or an even count to an odd \
+         one.</strong> So the count, which is {was} as the bay stands, stays {was} for ever. As \
+         the bay is wanted it would have to be {wanted}, so that is never reached.</p>\n\
+         </section>\n",
+        one = feature(Feature::Single(Atom::new(0, 1))),
+        two = feature(Feature::pair(Atom::new(0, 1), Atom::new(1, GAP))),
+        features = counted(listed.len(), "feature"),
+        start_count = count("start", "as it stands", start),
+        goal_count = count("goal", "as it is wanted", goal),
+        was = parity(start),
+        wanted = parity(goal),
+    )
+}
+
+fn count(kind: &str, words: &str, count: usize) -> String {
+    format!(
+        "<div class=\"count {kind}\"><span>{words}</span><b>{count}</b><span>true: \
+         <strong>{}</strong></span></div>\n",
+        parity(count)
+    )
+}
+
+fn truths(bay: &Bay, listed: &Listed) -> String {
+    let column = |kind: &str, words: &str, state: &[usize]| {
+        let features = listed.true_in(state);
+        format!(
+            "<div class=\"{kind}\"><h3>{words}: {}, {}</h3>{}</div>\n",
+            features.len(),
+            parity(features.len()),
+            numbered(&features)
+        )
+    };
+    format!(
+        "<section>\n<h2>The listed features that are true</h2>\n\
+         <p>Hold each line against the picture above. Every listed feature that is not here is false there; \
+         the whole list stands further down.</p>\n<div class=\"columns\">\n{}{}</div>\n</section>\n",
+        column("start", "As it stands", &bay.start),
+        column("goal", "As it is wanted", &bay.goal),
+    )
+}
+
+fn numbered(features: &[Feature]) -> String {
+    if features.is_empty() {
+        return "<p>None.</p>".to_string();
+    }
+    let items: String = features
+        .iter()
+        .map(|&one| format!("<li>{}</li>", feature(one)))
+        .collect();
+    format!("<ol>{items}</ol>")
+}
+
+fn why(bay: &Bay, listed: &Listed) -> String {
+    format!(
+        "<section>\n<h2>Why no move can change odd to even</h2>\n\
+         <p>A move changes what two slots hold: the pallet leaves one, and the gap leaves the other. All other \
+         slots stay as they are. So only features that name one of these two slots can change. \
+         One that becomes true adds one to the count, one that becomes false takes one away.</p>\n\
+         <p>The list was chosen so that the number of features that change is even at every \
+         move, whichever pallet moves and wherever the others stand. Adding one and \
+         taking one away both turn odd into even or even into odd, and \
+         doing so an even number of times brings it back to what it was.</p>\n{}</section>\n",
+        example::section(bay, listed)
+    )
+}
+
+fn every_move(bay: &Bay, listed: &Listed) -> Result<String, Fault> {
+    Ok(format!(
+        "<section>\n<h2>Every move of this bay</h2>\n\
+         <p>A row stands for one pallet sliding between two slots, either way. The features that \
+         change are counted in parts: those that name only the two slots, and then, for each other \
+         slot, those that name it as well. How many change may depend on the pallet that stands in \
+         the other slot, but whether the part is odd or even does not. An even number of odd parts \
+         makes an even sum, and the last column shows that each row has an even number of \
+         them.</p>\n{}</section>\n",
+        move_table::table(bay, listed)?
+    ))
+}
+
+fn whole_list(bay: &Bay, listed: &Listed, proof: &Proof) -> String {
+    format!(
+        "<section>\n<h2>The whole list: {}</h2>\n\
+         <p>Each filled square is a feature on the list. In the first grid a row is a slot and a \
+         column is what it holds (&#183; is the gap). Each of the other grids is about two slots: \
+         the row is what the first holds, the column is what the second holds.</p>\n{}\
+         <div class=\"grids\">\n{}{}</div>\n{}</section>\n",
+        counted(listed.len(), "feature"),
+        grids::legend(),
+        grids::singles(bay, listed),
+        grids::pairs(bay, listed),
+        listing::table(bay, listed, proof)
+    )
+}
+
+fn by_hand(bay: &Bay, listed: &Listed) -> String {
+    let start = listed.true_in(&bay.start).len();
+    let goal = listed.true_in(&bay.goal).len();
+    let (low, high) = bay.neighbours()[0];
+    let [low_gap, low_one] = [GAP, 1].map(|label| Atom::new(low, label));
+    let [high_gap, high_one] = [GAP, 1].map(|label| Atom::new(high, label));
+    format!(
+        "<section>\n<h2>Check it by hand</h2>\n<ol class=\"steps\">\n\
+         <li>In the grids above, count the filled squares with a round mark: {start}, {was}. \
+         Count the filled squares with a square mark: {goal}, {wanted}.</li>\n\
+         <li>Take any row of the table of moves, say pallet 1 between {low} and {high}. At one end \
+         of the move {first}, at the other {second}. These are four statements.</li>\n\
+         <li>For the part of the two slots, look up the four statements in the first grid, and \
+         <q>{first}</q> and <q>{second}</q> in the grid of {low} and {high}. Count the filled \
+         squares.</li>\n\
+         <li>For the part of another slot, pick a pallet for it. Look up the four pairs that it \
+         makes with the four statements, and count the filled squares. Do so for each pallet that \
+         can stand there.</li>\n\
+         <li>Add up the parts. The sum is even, whatever you picked.</li>\n</ol>\n</section>\n",
+        was = parity(start),
+        wanted = parity(goal),
+        low = words::slot(low),
+        high = words::slot(high),
+        first = feature(Feature::pair(low_gap, high_one)),
+        second = feature(Feature::pair(low_one, high_gap)),
+    )
+}
+
+fn by_program() -> &'static str {
+    "<section>\n<h2>Who checked it</h2>\n\
+     <p>One part of the program found the list, and another part, the checker, checked it. The \
+     checker is proved correct: it accepts a list only if no sequence of moves leads from the one \
+     bay to the other. It accepted this one.</p>\n\
+     <p>To check it again: <code>florumeja ask FILE --task TASK --weights WEIGHTS</code> keeps the \
+     evidence, and <code>florumeja check TASK WEIGHTS</code> hands it to the checker alone.</p>\n\
+     </section>\n"
+}

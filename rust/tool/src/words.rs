@@ -1,0 +1,27 @@
+//! Small words that many parts of the tool use.
+
+use std::ffi::OsStr;
+
+/// A count with its noun, as in "1 feature" and "2 features".
+pub fn counted(count: usize, noun: &str) -> String {
+    let ending = if count == 1 { "" } else { "s" };
+    format!("{count} {noun}{ending}")
+}
+
+/// The word for a count's parity.
+pub fn parity(count: usize) -> &'static str {
+    if count % 2 == 1 {
+        "odd"
+    } else {
+        "even"
+    }
+}
+
+/// A file's name as it can be printed: control characters would upset a terminal.
+pub fn shown(name: &OsStr) -> String {
+    if name == "-" {
+        return "standard input".to_string();
+    }
+    let replaced = |c: char| if c.is_control() { '?' } else { c };
+    name.to_string_lossy().chars().map(replaced).collect()
+}

@@ -1,7 +1,7 @@
 // Checks the cases of standard input, one after another, and prints a line for each.
 ghost use Prim.Native.Nat.{_+_, _≤_};
 ghost use lib.ListN.{length};
-use checker::Verdict;
+use checking::Verdict;
 
 // How many bytes say how long a file is.
 const LENGTH_BYTES: usize = 2;
@@ -57,7 +57,7 @@ fn main() {
             return;
         }
         let end = file_end(bytes, middle);
-        print(checker::check(
+        print(checking::check(
             &bytes[at + LENGTH_BYTES..middle],
             &bytes[middle + LENGTH_BYTES..end],
         ));

@@ -10,7 +10,7 @@ use Rattle.cases.proofs.main.Reads as reads
 use Rattle.cases.proofs.main.Lts as lts
 use Rattle.cases.proofs.file_end.Reads as file-end-reads
 use Rattle.cases.proofs.print.Reads as print-reads
-use Rattle.checker.proofs.check.Reads as check-reads
+use Rattle.checking.proofs.check.Reads as check-reads
 use Rattle.io.proofs.large_buffer.Reads as large-buffer-reads
 use Rattle.io.proofs.read_full.Reads as read-full-reads
 

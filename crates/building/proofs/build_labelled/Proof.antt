@@ -1,0 +1,146 @@
+-- `build_labelled` goes on with what was read, or refuses by the first fault.
+use Prim.Native.Nat.{_*_}
+use mathlib.Core.Path.{_≡_, sym, ap, _∙_}
+use borrow.Author.Needs.{needs}
+use Rattle.meaning.specs.Number.{LeftOver, got}
+use Rattle.meaning.specs.File.{valuesOf}
+use Rattle.meaning.specs.Bay.{baySizes}
+use Rattle.theory.specs.Parts.{values-said}
+use Rattle.number.specs.Answers.{reasonOf}
+use Rattle.building.specs.Answers.{labelsOf, madeOf}
+use Rattle.building.specs.Outcomes.{refused-so, start-fault, goal-fault, left-over, labelled-whole}
+use Rattle.building.proofs.build_labelled.Statement.{statement}
+use Rattle.building.proofs.build_labelled.Tie as tie
+
+-- The start that was read, and the goal.
+start-read : (c : tie.After-next) → let a = c .before .before .before .before .before .before .before .before .before .before .args in
+    valuesOf (baySizes (a .rows * a .columns)) (a .bay .now) (a .at) ≡ got (c .before .before .before .before .read-labels .last .1 .1 .0) (c .next .given .0 .0)
+start-read c =
+    let start = c .before .before .before .before .before .before .before .before .before .before in
+    let read = c .before .before .before .before .read-labels in
+    ap (λ k. valuesOf (baySizes k) (start .args .bay .now) (start .args .at)) (sym (start .pre .1)) ∙ sym (read .ensures) ∙ ap (λ r. labelsOf r (read .last .1 .1 .0)) (c .next .given .1)
+
+goal-read : (c : tie.After-end) → let a = c .before .before .before .before .before .before .before .before .before .before .before .before .before .before .before .before .before .args in
+    valuesOf (baySizes (a .rows * a .columns)) (a .bay .now) (c .before .before .before .before .before .before .before .next .given .0 .0) ≡ got (c .before .before .before .before .read-labels2 .last .1 .1 .0) (c .end .given .0 .0)
+goal-read c =
+    let start = c .before .before .before .before .before .before .before .before .before .before .before .before .before .before .before .before .before in
+    let read = c .before .before .before .before .read-labels2 in
+    ap (λ k. valuesOf (baySizes k) (start .args .bay .now) (c .before .before .before .before .before .before .before .next .given .0 .0)) (sym (start .pre .2)) ∙ sym (read .ensures) ∙ ap (λ r. labelsOf r (read .last .1 .1 .0)) (c .end .given .1)
+
+read-labels-requires : tie.Need-read-labels-requires
+read-labels-requires c κs = search needs
+
+enum-known-next : tie.Need-enum-known-next
+enum-known-next c = search needs
+
+read-labels-requires-2 : tie.Need-read-labels-requires-2
+read-labels-requires-2 c κs = search needs
+
+enum-known-end : tie.Need-enum-known-end
+enum-known-end c = search needs
+
+refuse-requires : tie.Need-refuse-requires
+refuse-requires c κs = search needs
+
+same-length : tie.Need-same-length
+same-length c = search needs
+
+same-length-2 : tie.Need-same-length-2
+same-length-2 c = search needs
+
+returns : tie.Need-returns
+returns c =
+    let a = c .before .before .before .before .before .before .before .before .before .before .before .before .before .before .before .before .before .before .before .before .args in
+    let room = a .room .now in
+    refused-so (c .refuse .result) LeftOver room (c .refuse .ensures)
+    ∙ ap (λ r. madeOf r room) (sym (left-over (a .rows) (a .columns) (a .bay .now) (a .at) _ _ (start-read (c .before .before .before .before .before .before .before .before .before .before)) _ _ (goal-read (c .before .before .before)) (c .before .if1 .taken)))
+
+build-judged-requires : tie.Need-build-judged-requires
+build-judged-requires c κs =
+    let a = c .before .before .before .before .before .before .before .before .before .before .before .before .before .before .before .before .before .before .before .before .before .before .args in
+    let sizes = baySizes (a .rows * a .columns) in
+    (c .before .before .before .before .before .before .before .before .before .before .before .before .before .before .before .before .before .before .before .before .before .before .pre .0, values-said (a .bay .now) sizes .gives _ _ _ (start-read (c .before .before .before .before .before .before .before .before .before .before .before .before)) .known .0, values-said (a .bay .now) sizes .gives _ _ _ (goal-read (c .before .before .before .before .before)) .known .0)
+
+enum-known-reason : tie.Need-enum-known-reason
+enum-known-reason c = search needs
+
+refuse-requires-2 : tie.Need-refuse-requires-2
+refuse-requires-2 c κs = search needs
+
+enum-known-reason-2 : tie.Need-enum-known-reason-2
+enum-known-reason-2 c = search needs
+
+refuse-requires-3 : tie.Need-refuse-requires-3
+refuse-requires-3 c κs = search needs
+
+same-length-3 : tie.Need-same-length-3
+same-length-3 c = search needs
+
+same-length-4 : tie.Need-same-length-4
+same-length-4 c = search needs
+
+same-length-5 : tie.Need-same-length-5
+same-length-5 c = search needs
+
+returns-2 : tie.Need-returns-2
+returns-2 c =
+    let a = c .before .before .before .before .before .before .before .before .before .before .before .before .before .before .before .before .before .before .before .before .before .before .before .before .before .args in
+    let room = a .room .now in
+    c .before .before .build-judged .ensures
+    ∙ ap (λ r. madeOf r room) (sym (labelled-whole (a .rows) (a .columns) (a .bay .now) (a .at) _ _ (start-read (c .before .before .before .before .before .before .before .before .before .before .before .before .before .before .before)) _ _ (goal-read (c .before .before .before .before .before .before .before .before)) (c .before .before .before .before .before .before .if1 .left)))
+
+same-length-6 : tie.Need-same-length-6
+same-length-6 c = search needs
+
+same-length-7 : tie.Need-same-length-7
+same-length-7 c = search needs
+
+returns-3 : tie.Need-returns-3
+returns-3 c =
+    let a = c .before .before .before .before .before .before .before .before .before .before .before .before .before .before .before .before .before .before .before .args in
+    let room = a .room .now in
+    let reason = c .before .before .reason .given .0 .0 in
+    let place = c .before .before .reason .given .0 .1 .0 in
+    let e = ap (λ k. valuesOf (baySizes k) (a .bay .now) (c .before .before .before .before .before .before .before .before .before .next .given .0 .0)) (sym (c .before .before .before .before .before .before .before .before .before .before .before .before .before .before .before .before .before .before .before .pre .2)) ∙ sym (c .before .before .before .before .before .before .read-labels2 .ensures) ∙ ap (λ r. labelsOf r (c .before .before .before .before .before .before .read-labels2 .last .1 .1 .0)) (c .before .before .reason .given .1) in
+    refused-so (c .refuse2 .result) (reasonOf reason) room (c .refuse2 .ensures)
+    ∙ ap (λ r. madeOf r room) (sym (goal-fault (a .rows) (a .columns) (a .bay .now) (a .at) _ _ (start-read (c .before .before .before .before .before .before .before .before .before)) (reasonOf reason) place e))
+
+same-length-8 : tie.Need-same-length-8
+same-length-8 c = search needs
+
+returns-4 : tie.Need-returns-4
+returns-4 c =
+    let a = c .before .before .before .before .before .before .before .before .before .before .before .before .args in
+    let room = a .room .now in
+    let reason = c .before .before .reason2 .given .0 .0 in
+    let place = c .before .before .reason2 .given .0 .1 .0 in
+    let e = ap (λ k. valuesOf (baySizes k) (a .bay .now) (a .at)) (sym (c .before .before .before .before .before .before .before .before .before .before .before .before .pre .1)) ∙ sym (c .before .before .before .before .before .before .read-labels .ensures) ∙ ap (λ r. labelsOf r (c .before .before .before .before .before .before .read-labels .last .1 .1 .0)) (c .before .before .reason2 .given .1) in
+    refused-so (c .refuse3 .result) (reasonOf reason) room (c .refuse3 .ensures)
+    ∙ ap (λ r. madeOf r room) (sym (start-fault (a .rows) (a .columns) (a .bay .now) (a .at) (reasonOf reason) place e))
+
+pub build-labelled-spec : {M : Type 1} → statement M
+build-labelled-spec =
+    tie.close
+    (tie.spec
+    read-labels-requires
+    enum-known-next
+    read-labels-requires-2
+    enum-known-end
+    refuse-requires
+    same-length
+    same-length-2
+    returns
+    build-judged-requires
+    enum-known-reason
+    refuse-requires-2
+    enum-known-reason-2
+    refuse-requires-3
+    same-length-3
+    same-length-4
+    same-length-5
+    returns-2
+    same-length-6
+    same-length-7
+    returns-3
+    same-length-8
+    returns-4)

@@ -1,0 +1,108 @@
+-- What comes of a bay file, in the steps of the code: what is read or judged decides, or what is read next.
+use Prim.Native.Nat.{ℕ, suc, _*_, _<_, _≤_}
+use mathlib.Core.Path.{_≡_, refl, sym, ap, subst}
+use mathlib.Core.Bool.{true, false, _&&_, cond}
+use mathlib.Core.List.{List}
+use native.Mathlib.Omega.{arith}
+use native.Mathlib.Nat.{mul-le-mul}
+use lib.ListN.{length}
+use borrow.Author.Tests.{lt-leb, le-leb, lt-ltb, le-ltb}
+use Rattle.meaning.specs.Limits.{leastSide, mostSide, leastSlots, mostSlots}
+use Rattle.meaning.specs.Number.{Reason, Limit, LeftOver, Mislabelled, refusal, Read, got, fault, onRead}
+use Rattle.meaning.specs.File.{inside, item, judge, ended, valuesOf, taskBytes}
+use Rattle.meaning.specs.Answer.{Outcome, refused, refuses, delivered, byRead}
+use Rattle.meaning.specs.Bay.{Bay, slotCount, baySizes, bayOf, eachOnce, judgedBay, bayTask, Builds}
+use Rattle.theory.specs.Parts.{item-said}
+use Rattle.theory.specs.Truth.{on, off, test}
+use Rattle.building.specs.declared.Built.{Built}
+use Rattle.building.specs.Answers.{builtOf, outcomeOf, Sides, bayWith, labelled, madeOf}
+
+pub refused-so : (answer : Built) (reason : Reason) (room : List ℕ) → builtOf answer ≡ refused (refusal reason) → outcomeOf answer room ≡ refuses reason room
+refused-so answer reason room e = ap (λ a. record { answer = a; lent = room }) e
+
+-- ---- labels are judged
+
+module _ (b : Bay) (next : ℕ) (room : List ℕ) where
+  pub made-start : eachOnce (slotCount b) (b .start) ≡ false → madeOf (got b next) room ≡ refuses Mislabelled room
+  made-start e = rw e refl
+
+  pub made-goal : eachOnce (slotCount b) (b .start) ≡ true → eachOnce (slotCount b) (b .goal) ≡ false → madeOf (got b next) room ≡ refuses Mislabelled room
+  made-goal e q = rw (e, q) refl
+
+  pub made-both : eachOnce (slotCount b) (b .start) ≡ true → eachOnce (slotCount b) (b .goal) ≡ true → madeOf (got b next) room ≡ delivered (taskBytes (bayTask b)) room
+  made-both e q = rw (e, q) refl
+
+-- ---- what stands behind the sides
+
+module _ (rows columns : ℕ) (bytes : List ℕ) (at : ℕ) where
+  pub start-fault : (reason : Reason) (place : ℕ) → valuesOf (baySizes (rows * columns)) bytes at ≡ fault reason place → labelled rows columns bytes at ≡ fault reason place
+  unfolding labelled
+  start-fault reason place e = rw e refl
+
+  module _ (start : List ℕ) (next : ℕ) (e : valuesOf (baySizes (rows * columns)) bytes at ≡ got start next) where
+    pub goal-fault : (reason : Reason) (place : ℕ) → valuesOf (baySizes (rows * columns)) bytes next ≡ fault reason place → labelled rows columns bytes at ≡ fault reason place
+    unfolding labelled
+    goal-fault reason place q = rw (e, q) refl
+
+    module _ (goal : List ℕ) (end : ℕ) (q : valuesOf (baySizes (rows * columns)) bytes next ≡ got goal end) where
+      pub left-over : end < length bytes → labelled rows columns bytes at ≡ fault LeftOver end
+      unfolding labelled ended judge
+      left-over h = rw (e, q, lt-leb (length bytes) end h) refl
+
+      pub labelled-whole : length bytes ≤ end → labelled rows columns bytes at ≡ got (bayWith rows columns start goal) end
+      unfolding labelled ended judge
+      labelled-whole h = rw (e, q, le-leb (length bytes) end h) refl
+
+-- ---- the sides
+
+module _ (bytes : List ℕ) where
+  -- A side that stands at a place.
+  abbrev pub sideAt : ℕ → Read ℕ
+  sideAt place = item (inside leastSide (suc mostSide)) Limit bytes place
+
+  pub side-limit : (place n next : ℕ) → sideAt place ≡ got n next → (leastSide ≤ n) × (n ≤ mostSide)
+  side-limit place n next e = let known = item-said bytes leastSide (suc mostSide) Limit .gives place n next e .known in (known .0, omega (arith, known .1))
+
+  pub rows-fault : (reason : Reason) (place : ℕ) → sideAt 0 ≡ fault reason place → bayOf bytes 0 ≡ fault reason place
+  unfolding bayOf
+  rows-fault reason place e = rw e refl
+
+  module _ (rows next : ℕ) (e : sideAt 0 ≡ got rows next) where
+    pub columns-fault : (reason : Reason) (place : ℕ) → sideAt next ≡ fault reason place → bayOf bytes 0 ≡ fault reason place
+    unfolding bayOf
+    columns-fault reason place q = rw (e, q) refl
+
+    module _ (columns after : ℕ) (q : sideAt next ≡ got columns after) where
+      pub slots-product : rows * columns ≤ mostSide * mostSide
+      slots-product = mul-le-mul {m₂ = mostSide} (side-limit 0 rows next e .1) (side-limit next columns after q .1)
+
+      pub sides-limit : leastSlots ≤ rows * columns → rows * columns ≤ mostSlots → Sides rows columns
+      sides-limit h k =
+          let r = side-limit 0 rows next e in
+          let c = side-limit next columns after q in
+          (r .0, r .1, c .0, c .1, h, k)
+
+      pub few-slots : rows * columns < leastSlots → bayOf bytes 0 ≡ fault Limit after
+      unfolding bayOf judge
+      few-slots h = rw (e, q, lt-leb leastSlots (rows * columns) h) refl
+
+      pub many-slots : leastSlots ≤ rows * columns → mostSlots < rows * columns → bayOf bytes 0 ≡ fault Limit after
+      unfolding bayOf judge
+      many-slots h k = rw (e, q, le-leb leastSlots (rows * columns) h, le-ltb (rows * columns) (suc mostSlots) k) refl
+
+      pub sides-read : leastSlots ≤ rows * columns → rows * columns ≤ mostSlots → bayOf bytes 0 ≡ labelled rows columns bytes after
+      unfolding bayOf labelled judge
+      sides-read h k = rw (e, q, le-leb leastSlots (rows * columns) h, lt-ltb (rows * columns) (suc mostSlots) (omega arith)) refl
+
+-- ---- the call
+
+made : (room : List ℕ) (r : Read Bay)
+    → byRead (onRead r (λ b next. cond (eachOnce (slotCount b) (b .start) && eachOnce (slotCount b) (b .goal)) (got b next) (fault Mislabelled 0)))
+    (λ b. madeOf r room ≡ delivered (taskBytes (bayTask b)) room)
+    (λ reason. madeOf r room ≡ refuses reason room)
+made room (fault reason place) = refl
+made room (got b next) = elim (test (eachOnce (slotCount b) (b .start) && eachOnce (slotCount b) (b .goal))) [ on e ↦ rw e refl | off e ↦ rw e refl ]
+
+pub builds-made : (bytes room : List ℕ) (outcome : Outcome ℕ) → outcome ≡ madeOf (bayOf bytes 0) room → Builds bytes room outcome
+unfolding judgedBay
+builds-made bytes room outcome e = subst (Builds bytes room) (sym e) (made room (bayOf bytes 0))

@@ -1,0 +1,401 @@
+// The bay builder: reads a bay file, judges it, and writes the task file of the bay into lent bytes.
+ghost use mathlib.Core.Path.{_≡_};
+ghost use mathlib.Core.List.{_++_};
+ghost use Prim.Native.Nat.{_+_, _*_, _<_, _≤_};
+ghost use lib.ListN.{length, take, drop};
+ghost use Rattle.meaning.specs.Limits.{mostSlots, numberEnd};
+ghost use Rattle.meaning.specs.Number.{refusal as refusalNumber, got};
+ghost use Rattle.meaning.specs.Task.{State};
+ghost use Rattle.meaning.specs.File.{valuesOf, operatorBytes, counted, taskBytes};
+ghost use Rattle.meaning.specs.Bay.{occurrences, eachOnce, oneApart, neighbours, baySizes, bayPairs, slide, bayOperators, bayTask, Builds};
+ghost use Rattle.meaning.specs.Answer.{refused, delivered};
+ghost use Rattle.number.specs.Answers.{reasonOf};
+ghost use Rattle.writer.specs.Parts.{Numbers, Countable};
+ghost use Rattle.building.specs.Answers.{builtOf, outcomeOf, labelsOf, Sides, bayWith, labelled, madeOf};
+ghost use Rattle.building.specs.Parts.{Uniform, labelPairs, slotPairs, slideBytes, gapBytes, walkBytes, frontBytes};
+use number::Number;
+use number::Reason;
+use number::Step;
+
+// What the builder answers: the length of the task file; or the paper's number of a refusal.
+pub enum Built {
+    Built(usize),
+    Refused(u64),
+}
+
+// "Rows and columns are each 1 to 9"
+const LEAST_SIDE: usize = 1;
+
+const MOST_SIDE: usize = 9;
+
+// "rows times columns, n, is 2 to 9"
+const LEAST_SLOTS: usize = 2;
+
+const MOST_SLOTS: usize = 9;
+
+// How many pairs a bay of nine slots has: nine labels in each two slots.
+const MOST_PAIRS: usize = 324;
+
+// How many bytes an operator of a bay has: each of its seven numbers is below 128.
+const OPERATOR_WIDTH: usize = 7;
+
+fn refuse(reason: Reason) -> Built
+    ensures { λ r. ⌜ builtOf r ≡ refused (refusalNumber (reasonOf reason)) ⌝ }
+{
+    Built::Refused(number::refusal(reason))
+}
+
+// Reads a label for each place of the list.
+fn read_labels(bytes: &[u8], at: usize, labels: &mut [u64]) -> Step
+    ensures { λ r. ⌜ labelsOf r (now (labels .exit)) ≡ valuesOf (baySizes (length (now (labels .entry)))) (now (bytes .entry)) at ⌝ }
+{
+    let n = labels.len();
+    let mut next = at;
+    let mut i = 0;
+    while i < n {
+        match number::item_at(bytes, next, 0, n, Reason::Range) {
+            Number::Got(label, after) => {
+                labels[i] = label as u64;
+                next = after;
+                i += 1;
+            }
+            Number::Fault(reason, place) => {
+                return Step::Fault(reason, place);
+            }
+        }
+    }
+    Step::Next(next)
+}
+
+// How often a label stands in a list.
+fn occurrences(label: usize, labels: &[u64]) -> usize
+    ensures { λ r. ⌜ r ≡ occurrences label (now (labels .entry)) ⌝ }
+{
+    let mut count = 0;
+    let mut i = 0;
+    while i < labels.len() {
+        if labels[i] as usize == label {
+            count += 1;
+        }
+        i += 1;
+    }
+    count
+}
+
+// Each label from 0 on stands once in a list of so many.
+fn each_once(labels: &[u64]) -> bool
+    ensures { λ r. ⌜ r ≡ eachOnce (length (now (labels .entry))) (now (labels .entry)) ⌝ }
+{
+    let mut label = 0;
+    while label < labels.len() {
+        if occurrences(label, labels) != 1 {
+            return false;
+        }
+        label += 1;
+    }
+    true
+}
+
+fn one_apart(a: usize, b: usize) -> bool
+    ensures { λ r. ⌜ r ≡ oneApart a b ⌝ }
+{
+    if a < b {
+        return b - a == 1;
+    }
+    a - b == 1
+}
+
+// Two slots share a side.
+fn neighbours(columns: usize, p: usize, q: usize) -> bool
+    requires { ⌜ 0 < columns ⌝ }
+    ensures { λ r. ⌜ r ≡ neighbours columns p q ⌝ }
+{
+    if p / columns == q / columns {
+        return one_apart(p % columns, q % columns);
+    }
+    if p % columns == q % columns {
+        return one_apart(p / columns, q / columns);
+    }
+    false
+}
+
+// Lists the features that put one label in the slots i < j from a place on, and answers the place after them.
+fn list_labels(pairs: &mut [u64], at: usize, sizes: &[u64], i: usize, j: usize) -> usize
+    requires { ⌜ Uniform (now sizes) × (j < length (now sizes)) × (at + length (labelPairs (length (now sizes)) i j) ≤ length (now pairs)) ⌝ }
+    ensures after { λ r. ⌜ r ≡ at + length (labelPairs (length (now (sizes .entry))) i j) ⌝ }
+    ensures listed { λ r. ⌜ now (pairs .exit) ≡ take at (now (pairs .entry)) ++ (labelPairs (length (now (sizes .entry))) i j ++ drop r (now (pairs .entry))) ⌝ }
+{
+    if j <= i {
+        return at;
+    }
+    let mut next = at;
+    let mut label = 0;
+    while label < sizes.len() {
+        pairs[next] = numbering::both(sizes, i, label, j, label) as u64;
+        next += 1;
+        label += 1;
+    }
+    next
+}
+
+// Lists those with slot i as the first.
+fn list_slots(pairs: &mut [u64], at: usize, sizes: &[u64], i: usize) -> usize
+    requires { ⌜ Uniform (now sizes) × (at + length (slotPairs (length (now sizes)) i) ≤ length (now pairs)) ⌝ }
+    ensures after { λ r. ⌜ r ≡ at + length (slotPairs (length (now (sizes .entry))) i) ⌝ }
+    ensures listed { λ r. ⌜ now (pairs .exit) ≡ take at (now (pairs .entry)) ++ (slotPairs (length (now (sizes .entry))) i ++ drop r (now (pairs .entry))) ⌝ }
+{
+    let mut next = at;
+    let mut j = 0;
+    while j < sizes.len() {
+        next = list_labels(pairs, next, sizes, i, j);
+        j += 1;
+    }
+    next
+}
+
+// Lists all features that put one label in two slots, and answers how many there are.
+fn list_pairs(pairs: &mut [u64], sizes: &[u64]) -> usize
+    requires { ⌜ Uniform (now sizes) × (length (bayPairs (length (now sizes))) ≤ length (now pairs)) ⌝ }
+    ensures count { λ r. ⌜ r ≡ length (bayPairs (length (now (sizes .entry)))) ⌝ }
+    ensures listed { λ r. ⌜ now (pairs .exit) ≡ bayPairs (length (now (sizes .entry))) ++ drop r (now (pairs .entry)) ⌝ }
+{
+    let mut next = 0;
+    let mut i = 0;
+    while i < sizes.len() {
+        next = list_slots(pairs, next, sizes, i);
+        i += 1;
+    }
+    next
+}
+
+// Writes the operator that slides the pallet t from q into the gap at p, entries by slot number.
+fn write_slide(room: &mut [u8], at: usize, p: usize, q: usize, t: usize) -> usize
+    requires { ⌜ (p < mostSlots) × (q < mostSlots) × (t < mostSlots) × (at + length (operatorBytes (slide p q t)) ≤ length (now room)) ⌝ }
+    ensures after { λ r. ⌜ r ≡ at + length (operatorBytes (slide p q t)) ⌝ }
+    ensures written { λ r. ⌜ now (room .exit) ≡ take at (now (room .entry)) ++ (operatorBytes (slide p q t) ++ drop r (now (room .entry))) ⌝ }
+{
+    if p < q {
+        return writer::write_operator(room, at, &[p, q], &[0, t], &[t, 0]);
+    }
+    writer::write_operator(room, at, &[q, p], &[t, 0], &[0, t])
+}
+
+// Writes the operators that slide a pallet from q into the gap at p, for each label from 1, if the two are neighbours.
+fn write_slides(room: &mut [u8], at: usize, n: usize, columns: usize, p: usize, q: usize) -> usize
+    requires { ⌜ (n ≤ mostSlots) × (0 < columns) × (p < n) × (q < n) × (at + length (slideBytes n columns p q) ≤ length (now room)) ⌝ }
+    ensures after { λ r. ⌜ r ≡ at + length (slideBytes n columns p q) ⌝ }
+    ensures written { λ r. ⌜ now (room .exit) ≡ take at (now (room .entry)) ++ (slideBytes n columns p q ++ drop r (now (room .entry))) ⌝ }
+{
+    if !neighbours(columns, p, q) {
+        return at;
+    }
+    let mut next = at;
+    let mut k = 0;
+    while k < n - 1 {
+        next = write_slide(room, next, p, q, k + 1);
+        k += 1;
+    }
+    next
+}
+
+// Writes the operators with the gap at p, neighbours in increasing order.
+fn write_gap(room: &mut [u8], at: usize, n: usize, columns: usize, p: usize) -> usize
+    requires { ⌜ (n ≤ mostSlots) × (0 < columns) × (p < n) × (at + length (gapBytes n columns p) ≤ length (now room)) ⌝ }
+    ensures after { λ r. ⌜ r ≡ at + length (gapBytes n columns p) ⌝ }
+    ensures written { λ r. ⌜ now (room .exit) ≡ take at (now (room .entry)) ++ (gapBytes n columns p ++ drop r (now (room .entry))) ⌝ }
+{
+    let mut next = at;
+    let mut q = 0;
+    while q < n {
+        next = write_slides(room, next, n, columns, p, q);
+        q += 1;
+    }
+    next
+}
+
+// Writes all operators of a bay.
+fn write_walk(room: &mut [u8], at: usize, n: usize, columns: usize) -> usize
+    requires { ⌜ (n ≤ mostSlots) × (0 < columns) × (at + length (walkBytes n columns) ≤ length (now room)) ⌝ }
+    ensures after { λ r. ⌜ r ≡ at + length (walkBytes n columns) ⌝ }
+    ensures written { λ r. ⌜ now (room .exit) ≡ take at (now (room .entry)) ++ (walkBytes n columns ++ drop r (now (room .entry))) ⌝ }
+{
+    let mut next = at;
+    let mut p = 0;
+    while p < n {
+        next = write_gap(room, next, n, columns, p);
+        p += 1;
+    }
+    next
+}
+
+// How many operators a bay has: for each side that two slots share, either of them with the gap, each label from 1.
+fn operator_count(rows: usize, columns: usize) -> usize
+    requires { ⌜ Sides rows columns ⌝ }
+    ensures { λ r. ⌜ r ≡ length (bayOperators (rows * columns) (neighbours columns)) ⌝ }
+{
+    let sides = rows * (columns - 1) + columns * (rows - 1);
+    2 * sides * (rows * columns - 1)
+}
+
+// Writes the operators with their count.
+fn write_operators(room: &mut [u8], at: usize, rows: usize, columns: usize) -> usize
+    requires { ⌜ Sides rows columns × (at + length (counted operatorBytes (bayOperators (rows * columns) (neighbours columns))) ≤ length (now room)) ⌝ }
+    ensures after { λ r. ⌜ r ≡ at + length (counted operatorBytes (bayOperators (rows * columns) (neighbours columns))) ⌝ }
+    ensures written { λ r. ⌜ now (room .exit) ≡ take at (now (room .entry)) ++ (counted operatorBytes (bayOperators (rows * columns) (neighbours columns)) ++ drop r (now (room .entry))) ⌝ }
+{
+    let next = number::write_number(room, at, operator_count(rows, columns));
+    write_walk(room, next, rows * columns, columns)
+}
+
+// Writes what stands before the operators.
+fn write_front(room: &mut [u8], sizes: &[u64], start: &[u64], goal: &[u64], pairs: &[u64]) -> usize
+    requires { ⌜ Countable (now sizes) × Numbers (now start) × Numbers (now goal) × Countable (now pairs)
+        × (length (frontBytes (now sizes) (now start) (now goal) (now pairs)) ≤ length (now room)) ⌝ }
+    ensures after { λ r. ⌜ r ≡ length (frontBytes (now (sizes .entry)) (now (start .entry)) (now (goal .entry)) (now (pairs .entry))) ⌝ }
+    ensures written { λ r. ⌜ now (room .exit) ≡ frontBytes (now (sizes .entry)) (now (start .entry)) (now (goal .entry)) (now (pairs .entry)) ++ drop r (now (room .entry)) ⌝ }
+{
+    let second = writer::write_list(room, 0, sizes);
+    let third = writer::write_numbers(room, second, start);
+    let fourth = writer::write_numbers(room, third, goal);
+    writer::write_list(room, fourth, pairs)
+}
+
+// How many bytes stand before the operators.
+fn front_width(sizes: &[u64], start: &[u64], goal: &[u64], pairs: &[u64]) -> usize
+    requires { ⌜ Countable (now sizes) × Numbers (now start) × Numbers (now goal) × Countable (now pairs) × (length (now start) < numberEnd) × (length (now goal) < numberEnd) ⌝ }
+    ensures { λ r. ⌜ r ≡ length (frontBytes (now (sizes .entry)) (now (start .entry)) (now (goal .entry)) (now (pairs .entry))) ⌝ }
+{
+    writer::list_width(sizes)
+        + writer::numbers_width(start)
+        + writer::numbers_width(goal)
+        + writer::list_width(pairs)
+}
+
+// How many bytes the operators have, with their count.
+fn operators_width(rows: usize, columns: usize) -> usize
+    requires { ⌜ Sides rows columns ⌝ }
+    ensures { λ r. ⌜ r ≡ length (counted operatorBytes (bayOperators (rows * columns) (neighbours columns))) ⌝ }
+{
+    let count = operator_count(rows, columns);
+    number::width(count) + OPERATOR_WIDTH * count
+}
+
+// Writes the task file of a bay from its parts, if the room is long enough for all of it.
+fn write_task(
+    rows: usize,
+    columns: usize,
+    sizes: &[u64],
+    start: &[u64],
+    goal: &[u64],
+    pairs: &[u64],
+    room: &mut [u8],
+) -> Built
+    requires { ⌜ Sides rows columns × (now sizes ≡ baySizes (rows * columns)) × State (baySizes (rows * columns)) (now start)
+        × State (baySizes (rows * columns)) (now goal) × (now pairs ≡ bayPairs (rows * columns)) ⌝ }
+    ensures { λ r. ⌜ outcomeOf r (now (room .exit)) ≡ delivered (taskBytes (bayTask (bayWith rows columns (now (start .entry)) (now (goal .entry))))) (now (room .entry)) ⌝ }
+{
+    if room.len() < front_width(sizes, start, goal, pairs) + operators_width(rows, columns) {
+        return refuse(Reason::Small);
+    }
+    let next = write_front(room, sizes, start, goal, pairs);
+    Built::Built(write_operators(room, next, rows, columns))
+}
+
+// Writes the task file of a bay that was accepted.
+fn deliver(rows: usize, columns: usize, start: &[u64], goal: &[u64], room: &mut [u8]) -> Built
+    requires { ⌜ Sides rows columns × State (baySizes (rows * columns)) (now start) × State (baySizes (rows * columns)) (now goal) ⌝ }
+    ensures { λ r. ⌜ outcomeOf r (now (room .exit)) ≡ delivered (taskBytes (bayTask (bayWith rows columns (now (start .entry)) (now (goal .entry))))) (now (room .entry)) ⌝ }
+{
+    let n = rows * columns;
+    let sizes = [n as u64; MOST_SLOTS];
+    let mut pairs = [0u64; MOST_PAIRS];
+    let count = list_pairs(&mut pairs, &sizes[..n]);
+    write_task(
+        rows,
+        columns,
+        &sizes[..n],
+        start,
+        goal,
+        &pairs[..count],
+        room,
+    )
+}
+
+// Judges the labels of a bay, start first, and writes its task file.
+fn build_judged(rows: usize, columns: usize, start: &[u64], goal: &[u64], room: &mut [u8]) -> Built
+    requires { ⌜ Sides rows columns × State (baySizes (rows * columns)) (now start) × State (baySizes (rows * columns)) (now goal) ⌝ }
+    ensures { λ r. ⌜ outcomeOf r (now (room .exit)) ≡ madeOf (got (bayWith rows columns (now (start .entry)) (now (goal .entry))) 0) (now (room .entry)) ⌝ }
+{
+    if !each_once(start) {
+        return refuse(Reason::Mislabelled);
+    }
+    if !each_once(goal) {
+        return refuse(Reason::Mislabelled);
+    }
+    deliver(rows, columns, start, goal, room)
+}
+
+// Reads what stands behind the sides of a bay, and goes on with it.
+fn build_labelled(
+    bay: &[u8],
+    at: usize,
+    rows: usize,
+    columns: usize,
+    start: &mut [u64],
+    goal: &mut [u64],
+    room: &mut [u8],
+) -> Built
+    requires { ⌜ Sides rows columns × (length (now start) ≡ rows * columns) × (length (now goal) ≡ rows * columns) ⌝ }
+    ensures { λ r. ⌜ outcomeOf r (now (room .exit)) ≡ madeOf (labelled rows columns (now (bay .entry)) at) (now (room .entry)) ⌝ }
+{
+    match read_labels(bay, at, &mut *start) {
+        Step::Next(next) => match read_labels(bay, next, &mut *goal) {
+            Step::Next(end) => {
+                if end < bay.len() {
+                    return refuse(Reason::LeftOver);
+                }
+                build_judged(rows, columns, start, goal, room)
+            }
+            Step::Fault(reason, _) => refuse(reason),
+        },
+        Step::Fault(reason, _) => refuse(reason),
+    }
+}
+
+// Builds the task file of a bay file.
+pub fn build(bay: &[u8], room: &mut [u8]) -> Built
+    ensures { λ r. ⌜ Builds (now (bay .entry)) (now (room .entry)) (outcomeOf r (now (room .exit))) ⌝ }
+{
+    match number::item_at(bay, 0, LEAST_SIDE, MOST_SIDE + 1, Reason::Limit) {
+        Number::Got(rows, next) => match number::item_at(
+            bay,
+            next,
+            LEAST_SIDE,
+            MOST_SIDE + 1,
+            Reason::Limit,
+        ) {
+            Number::Got(columns, after) => {
+                let n = rows * columns;
+                if n < LEAST_SLOTS {
+                    return refuse(Reason::Limit);
+                }
+                if MOST_SLOTS < n {
+                    return refuse(Reason::Limit);
+                }
+                let mut start = [0u64; MOST_SLOTS];
+                let mut goal = [0u64; MOST_SLOTS];
+                build_labelled(
+                    bay,
+                    after,
+                    rows,
+                    columns,
+                    &mut start[..n],
+                    &mut goal[..n],
+                    room,
+                )
+            }
+            Number::Fault(reason, _) => refuse(reason),
+        },
+        Number::Fault(reason, _) => refuse(reason),
+    }
+}

@@ -1,0 +1,152 @@
+-- The checker's answer in the words of the meaning, and that the verdict it comes to is the meaning's.
+use Prim.Native.Nat.{ℕ, zero, suc, _*_, _<_, _≤_}
+use mathlib.Core.Path.{_≡_, refl, sym, ap, _∙_, fun-ext}
+use mathlib.Core.Bool.{Bool, true, false, cond}
+use mathlib.Core.List.{List, [], _∷_, List·Memᴰ as In}
+use native.Mathlib.Omega.{arith}
+use lib.ListN.{length, getD, take, replicate}
+use lib.Dec.{ltb}
+use borrow.Author.Tests.{lt-ltb, le-ltb, ltb-true, ltb-false}
+use Rattle.meaning.specs.Limits.{wordBits, mostFeatures}
+use Rattle.meaning.specs.Sets.{_⊕_, Set, odd, shared, listed}
+use Rattle.meaning.specs.Task as task
+use Rattle.meaning.specs.Task.{Task}
+use Rattle.meaning.specs.Feature.{features, parity}
+use Rattle.meaning.specs.Pair.{idle}
+use Rattle.meaning.specs.Weight.{Allows, Unsolvable}
+use Rattle.meaning.specs.Number.{got}
+use Rattle.meaning.specs.File.{operatorsOf, judgedTask, judgedWeights, Acceptable}
+use Rattle.meaning.specs.Workspace.{wordsFor, has, packed}
+use Rattle.meaning.specs.Answer as meaning
+use Rattle.meaning.specs.Answer.{Answer, done, refused, accepted, endsAlike, breaks, Judges, Checks}
+use Rattle.theory.specs.Truth.{on, off, test, clash, xor-false-same, xor-true-differ}
+use Rattle.theory.specs.Search.{listed-in}
+use Rattle.theory.specs.Flat.{getD-in, in-getD}
+use Rattle.theory.specs.Run.{run-in}
+use Rattle.theory.specs.Words.{length-packed, has-packed, packed-holds}
+use Rattle.theory.specs.Parity.{dot-cong, odd-shared}
+use Rattle.theory.specs.Finder.{difference, parity-difference}
+use Rattle.words.specs.Parity.{shared-words}
+use Rattle.theory.specs.Tells.{Tells, tells-no}
+use Rattle.theory.specs.Rows.{allowed, tells-allows}
+use Rattle.theory.specs.Accepted.{weights-accepted}
+use Rattle.theory.specs.Demands.{accepted-unsolvable}
+use Rattle.reader.specs.Answer.{featureWords}
+use Rattle.condition.specs.Walk.{RowFor}
+use Rattle.checking.specs.declared.Verdict.{Verdict}
+use Rattle.checking.specs.declared.Verdict.the-variants.{Accepted, EndsAlike, Operator, Refused}
+use Rattle.checking.specs.Breaking.{breakingFrom, FirstBreaking, breaking-first}
+
+abbrev pub verdictOf : Verdict → Answer meaning.Verdict
+verdictOf Accepted = done accepted
+verdictOf EndsAlike = done endsAlike
+verdictOf (Operator j) = done (breaks j)
+verdictOf (Refused n) = refused n
+
+-- The verdict by whether the ends differ and by how many operators come before the first that is not allowed.
+abbrev pub verdictBy : Bool → ℕ → ℕ → Verdict
+verdictBy differ j count = cond differ (cond (ltb j count) (Operator j) Accepted) EndsAlike
+
+-- The verdict on weights, where so many operators are read from a place on.
+unfoldable pub verdictFrom : List ℕ → List ℕ → List ℕ → Set → Set → ℕ → List ℕ → ℕ → Verdict
+verdictFrom sizes start goal pairs weights count bytes at =
+    verdictBy (parity sizes weights start ⊕ parity sizes weights goal) (breakingFrom sizes pairs weights count bytes at) count
+
+-- ---- by what the code finds
+
+module _ (sizes start goal : List ℕ) (pairs weights : Set) (count : ℕ) (bytes : List ℕ) (at : ℕ) (differ : Bool)
+    (ends : differ ≡ parity sizes weights start ⊕ parity sizes weights goal) where
+  pub verdict-alike : differ ≡ false → EndsAlike ≡ verdictFrom sizes start goal pairs weights count bytes at
+  unfolding verdictFrom
+  verdict-alike e = rw (sym ends ∙ e) refl
+
+  module _ (j : ℕ) (found : j ≡ breakingFrom sizes pairs weights count bytes at) (e : differ ≡ true) where
+    pub verdict-breaks : j < count → Operator j ≡ verdictFrom sizes start goal pairs weights count bytes at
+    unfolding verdictFrom
+    verdict-breaks l = rw (sym ends ∙ e, ← found, lt-ltb j count l) refl
+
+    pub verdict-accepts : count ≤ j → Accepted ≡ verdictFrom sizes start goal pairs weights count bytes at
+    unfolding verdictFrom
+    verdict-accepts l = rw (sym ends ∙ e, ← found, le-ltb j count l) refl
+
+-- ---- the verdict is the meaning's
+
+module _ (T : Task) (weights : Set) (ok : Acceptable T) where
+  allows : (o : task.Operator) → In o (T .operators) → Tells (allowed (T .sizes) (listed (T .pairs)) weights o) (Allows (T .sizes) (listed (T .pairs)) weights o)
+  allows o m = tells-allows (T .sizes) (listed (T .pairs)) weights o (ok .operators o m .entries)
+
+  module _ (j : ℕ) (first : FirstBreaking (T .sizes) (listed (T .pairs)) weights (T .operators) j) where
+    all-allowed : length (T .operators) ≤ j → (o : task.Operator) → In o (T .operators) → Allows (T .sizes) (listed (T .pairs)) weights o
+    all-allowed past o m = let (i, l, e) = in-getD (T .operators) o [] m in
+        allows o m .yes (ap (allowed (T .sizes) (listed (T .pairs)) weights) (sym e) ∙ first .earlier i (omega arith))
+
+    module _ (inside : j < length (T .operators)) where
+      abbrev there : task.Operator
+      there = getD (T .operators) j []
+
+      forbidden : Allows (T .sizes) (listed (T .pairs)) weights there → ⊥
+      forbidden = tells-no (allows there (getD-in (T .operators) j [] inside)) (first .here inside)
+
+      busy : idle (T .sizes) (listed (T .pairs)) there ≡ false
+      busy = elim (test (idle (T .sizes) (listed (T .pairs)) there)) [ on e ↦ absurd (forbidden (λ b. absurd (clash e b))) | off e ↦ e ]
+
+      earlier : (i : ℕ) → i < j → Allows (T .sizes) (listed (T .pairs)) weights (getD (T .operators) i [])
+      earlier i l = allows _ (getD-in (T .operators) i [] (omega arith)) .yes (first .earlier i l)
+
+    judged-by : let differ = parity (T .sizes) weights (T .start) ⊕ parity (T .sizes) weights (T .goal) in
+        (v : meaning.Verdict) × (verdictOf (verdictBy differ j (length (T .operators))) ≡ done v) × Judges T weights v
+    judged-by = elim (test (parity (T .sizes) weights (T .start) ⊕ parity (T .sizes) weights (T .goal))) [
+      | off e ↦ (endsAlike, rw e refl, xor-false-same _ _ e)
+      | on e ↦ elim (test (ltb j (length (T .operators)))) [
+        | on l ↦ let inside = ltb-true j _ l in
+            (breaks j, rw (e, l) refl, record { ends = xor-true-differ _ _ e; counted = inside; busy = busy inside; broken = λ k. forbidden inside (λ _. k); earlier = earlier inside })
+        | off l ↦ (accepted, rw (e, l) refl, record { ends = xor-true-differ _ _ e; keeps = all-allowed (ltb-false j _ l) })
+      ]
+    ]
+
+  pub verdict-judges : (bytes : List ℕ) (at next : ℕ) → operatorsOf (T .sizes) (length (T .operators)) bytes at ≡ got (T .operators) next
+      → (v : meaning.Verdict) × (verdictOf (verdictFrom (T .sizes) (T .start) (T .goal) (listed (T .pairs)) weights (length (T .operators)) bytes at) ≡ done v) × Judges T weights v
+  unfolding verdictFrom
+  verdict-judges bytes at next read = judged-by _ (breaking-first (T .sizes) (listed (T .pairs)) weights (length (T .operators)) bytes at (T .operators) next read)
+
+-- ---- room for a row
+
+zeros-first : (k m : ℕ) → k ≤ m → take k (replicate {A = ℕ} m 0) ≡ replicate k 0
+zeros-first zero m h = refl
+zeros-first (suc k) zero h = absurd (omega arith)
+zeros-first (suc k) (suc m) h = ap (_∷_ 0) (zeros-first k m (omega arith))
+
+-- The first words of room for the most features.
+pub room-zeros : (w n : ℕ) → n ≤ mostFeatures → w ≡ wordsFor n → take w (replicate {A = ℕ} (wordsFor mostFeatures) 0) ≡ replicate (wordsFor n) 0
+room-zeros w n h e = ap (λ k. take k (replicate {A = ℕ} (wordsFor mostFeatures) 0)) e ∙ zeros-first (wordsFor n) (wordsFor mostFeatures) (omega arith)
+
+-- ---- the ends
+
+module _ (sizes start goal weights row : List ℕ) (h : RowFor (features sizes) weights) (e : row ≡ packed (features sizes) (difference sizes start goal)) where
+  pub ends-long : length weights ≡ length row
+  ends-long = omega (arith, h .long, ap length e, length-packed (features sizes) (difference sizes start goal))
+
+  -- The weights meet the row of the difference oddly where the parities differ.
+  pub ends-odd : odd (shared (wordBits * length weights) (has weights) (has row)) ≡ parity sizes (has weights) start ⊕ parity sizes (has weights) goal
+  ends-odd =
+      ap odd (shared-words (features sizes) weights (has row) (h .long) (h .past)) ∙ odd-shared (features sizes) (has weights) (has row)
+      ∙ dot-cong (features sizes) (has weights) (has row) (difference sizes start goal) (λ f l. rw (e, has-packed (features sizes) (difference sizes start goal) f, lt-ltb f _ l) refl)
+      ∙ sym (parity-difference sizes start goal (has weights))
+
+-- ---- weights that were read
+
+module _ (n : ℕ) (bytes ws : List ℕ) (end : ℕ) (read : judgedWeights n bytes ≡ got ws end) where
+  past : (f : ℕ) → n ≤ f → listed ws f ≡ false
+  past f l = elim (test (listed ws f)) [ on e ↦ absurd (omega (arith, run-in 0 n ws f (weights-accepted bytes n ws end read) (listed-in ws f e))) | off e ↦ e ]
+
+  pub weights-has : has (featureWords n ws) ≡ listed ws
+  weights-has = fun-ext (λ f. packed-holds n (listed ws) f (past f))
+
+  pub weights-for : RowFor n (featureWords n ws)
+  weights-for = record { long = length-packed n (listed ws); past = λ f l. packed-holds n (listed ws) f (past f) ∙ past f l }
+
+-- ---- demand 2
+
+-- "once it accepts, no sequence of that task's moves leads from the start to the goal"
+pub checked-unsolvable : (file weights : List ℕ) (T : Task) (next : ℕ) → Checks file weights (verdictOf Accepted) → judgedTask file ≡ got T next → Unsolvable T
+checked-unsolvable file weights T next checks judged = accepted-unsolvable file T next judged weights checks

@@ -1,0 +1,180 @@
+// The checker: whether weights separate the start of a task from its goal.
+ghost use mathlib.Core.Path.{_≡_};
+ghost use mathlib.Core.List.{List};
+ghost use Prim.Native.Nat.{ℕ};
+ghost use lib.ListN.{replicate};
+ghost use Rattle.meaning.specs.Sets.{_⊕_};
+ghost use Rattle.meaning.specs.Task.{State};
+ghost use Rattle.meaning.specs.Feature.{features, parity};
+ghost use Rattle.meaning.specs.File.{InLimits};
+ghost use Rattle.meaning.specs.Workspace.{wordsFor, has};
+ghost use Rattle.meaning.specs.Answer.{Checks};
+ghost use Rattle.pairs.specs.Ready.{Listed};
+ghost use Rattle.condition.specs.Walk.{RowFor};
+ghost use Rattle.task.specs.Answer.{Known};
+ghost use Rattle.checking.specs.Breaking.{breakingFrom};
+ghost use Rattle.checking.specs.Answer.{verdictOf, verdictFrom};
+use number::Step;
+use task::HEADER_WORDS;
+use task::Judged;
+use task::SIZES_AT;
+use words::WORD_BITS;
+
+// The checker's answers: accepted, rejected as the ends are alike, rejected at an operator, or refused with the paper's number.
+pub enum Verdict {
+    Accepted,
+    EndsAlike,
+    Operator(usize),
+    Refused(u64),
+}
+
+// Room for a bit for each feature of a task.
+const FEATURE_WORDS: usize = 64;
+
+// How many of so many operators come before the first that the weights do not allow; what cannot be read is allowed.
+fn first_breaking(
+    bytes: &[u8],
+    at: usize,
+    count: usize,
+    sizes: &[u64],
+    pairs: &[u64],
+    weights: &[u64],
+) -> usize
+    requires { ⌜ Listed (now sizes) (now pairs) × RowFor (features (now sizes)) (now weights) ⌝ }
+    ensures { λ r. ⌜ r ≡ breakingFrom (now (sizes .entry)) (has (now (pairs .entry))) (has (now (weights .entry))) count (now (bytes .entry)) at ⌝ }
+{
+    let mut next = at;
+    let mut k = 0;
+    while k < count {
+        let read = operator::read_operator(bytes, next, sizes);
+        let step = read.step;
+        let Step::Next(after) = step else {
+            return count;
+        };
+        let n = read.operator.count;
+        let variables = read.operator.variables;
+        let befores = read.operator.befores;
+        let afters = read.operator.afters;
+        if !condition::is_allowed(
+            sizes,
+            pairs,
+            &variables[..n],
+            &befores[..n],
+            &afters[..n],
+            weights,
+        ) {
+            return k;
+        }
+        next = after;
+        k += 1;
+    }
+    k
+}
+
+// Whether the parities of two states differ. The row has room for their difference.
+fn do_ends_differ(
+    sizes: &[u64],
+    start: &[u64],
+    goal: &[u64],
+    weights: &[u64],
+    row: &mut [u64],
+) -> bool
+    requires { ⌜ InLimits (now sizes) × State (now sizes) (now start) × State (now sizes) (now goal) × RowFor (features (now sizes)) (now weights)
+        × (now row ≡ replicate (wordsFor (features (now sizes))) 0) ⌝ }
+    ensures { λ r. ⌜ r ≡ parity (now (sizes .entry)) (has (now (weights .entry))) (now (start .entry))
+        ⊕ parity (now (sizes .entry)) (has (now (weights .entry))) (now (goal .entry)) ⌝ }
+{
+    condition::fill_difference(sizes, start, goal, row);
+    words::odd_shared(weights, row)
+}
+
+// The verdict on weights: the ends first, then the operators in their order.
+fn judge_weights(
+    bytes: &[u8],
+    at: usize,
+    count: usize,
+    sizes: &[u64],
+    start: &[u64],
+    goal: &[u64],
+    pairs: &[u64],
+    weights: &[u64],
+) -> Verdict
+    requires { ⌜ Listed (now sizes) (now pairs) × State (now sizes) (now start) × State (now sizes) (now goal) × RowFor (features (now sizes)) (now weights) ⌝ }
+    ensures { λ r. ⌜ r ≡ verdictFrom (now (sizes .entry)) (now (start .entry)) (now (goal .entry)) (has (now (pairs .entry))) (has (now (weights .entry)))
+        count (now (bytes .entry)) at ⌝ }
+{
+    let w = weights.len();
+    let mut row = [0u64; FEATURE_WORDS];
+    if !do_ends_differ(sizes, start, goal, weights, &mut row[..w]) {
+        return Verdict::EndsAlike;
+    }
+    let j = first_breaking(bytes, at, count, sizes, pairs, weights);
+    if j < count {
+        return Verdict::Operator(j);
+    }
+    Verdict::Accepted
+}
+
+// Reads the weights for an accepted task, by its header and its counts, and judges them.
+fn weigh(
+    bytes: &[u8],
+    weights: &[u8],
+    header: &[u64],
+    v: usize,
+    n: usize,
+    count: usize,
+    at: usize,
+    words: &mut [u64],
+) -> Verdict
+    requires { ⌜ ((old : List ℕ) × Known (now bytes) old (now header) v n count at) × (now words ≡ replicate (wordsFor n) 0) ⌝ }
+    ensures { λ r. ⌜ Checks (now (bytes .entry)) (now (weights .entry)) (verdictOf r) ⌝ }
+{
+    match reader::read_weights(weights, n, &mut *words) {
+        Step::Next(_) => {
+            let start = task::start_at(v);
+            let goal = task::goal_at(v);
+            let pairs = task::pairs_at(v);
+            let end = task::slots_at(v, n);
+            judge_weights(
+                bytes,
+                at,
+                count,
+                &header[SIZES_AT..start],
+                &header[start..goal],
+                &header[goal..pairs],
+                &header[pairs..end],
+                words,
+            )
+        }
+        Step::Fault(reason, _) => Verdict::Refused(number::refusal(reason)),
+    }
+}
+
+// Checks weights against a task: the task is judged, then the weights are read, then they are judged.
+pub fn check(task: &[u8], weights: &[u8]) -> Verdict
+    ensures { λ r. ⌜ Checks (now (task .entry)) (now (weights .entry)) (verdictOf r) ⌝ }
+{
+    let mut header = [0u64; HEADER_WORDS];
+    match task::judge(task, &mut header) {
+        Judged::Accepted {
+            variables,
+            features,
+            operators,
+            at,
+        } => {
+            let mut words = [0u64; FEATURE_WORDS];
+            let w = (features + (WORD_BITS - 1)) / WORD_BITS;
+            weigh(
+                task,
+                weights,
+                &header,
+                variables,
+                features,
+                operators,
+                at,
+                &mut words[..w],
+            )
+        }
+        Judged::Refused(reason, _) => Verdict::Refused(number::refusal(reason)),
+    }
+}

@@ -172,9 +172,21 @@ impl Tally {
             );
         }
         println!(
-            "compare: {} passed, {} failed",
-            self.passed(),
+            "{} comparisons, {} differences",
+            self.passed() + self.failed(),
             self.failed()
         );
+        let (good, bad) = self.kinds();
+        println!("compare: {good} passed, {bad} failed");
+    }
+
+    /// How many kinds of comparison passed and failed; what was never compared has failed nothing.
+    fn kinds(&self) -> (usize, usize) {
+        let bad = self
+            .counts
+            .values()
+            .filter(|count| count.failed > 0)
+            .count();
+        (self.counts.len() - bad, bad)
     }
 }

@@ -1,0 +1,66 @@
+-- A part that is written into a line from a place on, and parts that are written one behind the other.
+use Prim.Native.Nat.{ℕ, _+_, _/_, _%_, _^_, _<_, _≤_}
+use mathlib.Core.Path.{_≡_, sym, ap, ap₂, _∙_}
+use mathlib.Core.List.{List, [], _∷_, _++_, append-assoc}
+use native.Mathlib.Omega.{arith}
+use native.Mathlib.Numerals.{add-one}
+use lib.ListN.{length, set, take, drop, length-set, length-append, take-append-drop}
+use lib.Seq.{set-split, length-take-le, take-at, drop-at, drop-drop}
+use Rattle.meaning.specs.Line.{mostDigits, word}
+use Rattle.decimal.specs.Decimal.{wordWidth, word-one, word-more, word-few}
+
+-- The line `exit` has a part from a place on, up to the place `after`; the rest is that of `entry`.
+pub record Written (entry : List ℕ) (at : ℕ) (part : List ℕ) (after : ℕ) (exit : List ℕ) : Type 0 where
+  pub place : after ≡ at + length part
+  pub stands : exit ≡ take at entry ++ (part ++ drop after entry)
+
+pub written-none : (entry : List ℕ) (at : ℕ) → Written entry at [] at entry
+written-none entry at = record { place = omega arith; stands = sym (take-append-drop at entry) }
+
+pub written-byte : (entry : List ℕ) (at byte : ℕ) → at < length entry → Written entry at (byte ∷ []) (at + 1) (set entry at byte)
+written-byte entry at byte h = record {
+  place = omega arith;
+  stands = set-split entry at byte h ∙ ap (λ k. take at entry ++ (byte ∷ drop k entry)) (sym (add-one at));
+}
+
+-- What is written behind a part stands behind it.
+pub written-behind : {entry : List ℕ} {at : ℕ} {part : List ℕ} {next : ℕ} {line more : List ℕ} {after : ℕ} {exit : List ℕ}
+    → at ≤ length entry → Written entry at part next line → Written line next more after exit → Written entry at (part ++ more) after exit
+written-behind {entry} {at} {part} {next} {line} {more} {after} {exit} h w v =
+    record { place = omega (arith, w .place, v .place, length-append part more); stands = stands }
+  where
+    size : length (take at entry ++ part) ≡ next
+    size = omega (arith, w .place, length-append (take at entry) part, length-take-le at entry h)
+
+    parted : line ≡ (take at entry ++ part) ++ drop next entry
+    parted = w .stands ∙ sym (append-assoc (take at entry) part (drop next entry))
+
+    before : take next line ≡ take at entry ++ part
+    before = ap (take next) parted ∙ take-at (take at entry ++ part) (drop next entry) next size
+
+    rest : drop next line ≡ drop next entry
+    rest = ap (drop next) parted ∙ drop-at (take at entry ++ part) (drop next entry) next size
+
+    behind : drop after line ≡ drop after entry
+    behind = rw (v .place) (sym (drop-drop (length more) next line) ∙ ap (drop (length more)) rest ∙ drop-drop (length more) next entry)
+
+    stands : exit ≡ take at entry ++ ((part ++ more) ++ drop after entry)
+    stands = v .stands ∙ ap₂ (λ l m. l ++ (more ++ m)) before behind ∙ append-assoc (take at entry) part (more ++ drop after entry)
+        ∙ ap (λ l. take at entry ++ l) (sym (append-assoc part more (drop after entry)))
+
+-- ---- a word
+
+-- A word of one digit.
+pub written-one : (entry : List ℕ) (at n : ℕ) → n < 10 → at + wordWidth ≤ length entry → Written entry at (word n) (at + 2) (set (set entry at 32) (at + 1) (48 + n))
+written-one entry at n h room =
+    let e : at + 1 + 1 ≡ at + 2 = omega arith in
+    let behind = written-byte (set entry at 32) (at + 1) (48 + n) (omega (arith, length-set entry at 32)) in
+    rw (word-one n h, ← e) (written-behind (omega arith) (written-byte entry at 32 (omega arith)) behind)
+
+-- A longer word is one with a digit behind it.
+pub written-more : (entry : List ℕ) (at n : ℕ) {last : ℕ} {line : List ℕ} → 10 ≤ n → n < 10 ^ mostDigits → at + wordWidth ≤ length entry → length line ≡ length entry
+    → Written entry at (word (n / 10)) last line → (last < length line) × Written entry at (word n) (last + 1) (set line last (48 + n % 10))
+written-more entry at n {last} {line} h l room size others =
+    let more = word-more n h l in
+    let inside : last < length line = omega (arith, others .place, word-few n, ap length more, length-append (word (n / 10)) ((48 + n % 10) ∷ [])) in
+    (inside, rw more (written-behind (omega arith) others (written-byte line last (48 + n % 10) inside)))

@@ -1,12 +1,12 @@
 -- Numbers in decimal: how a word of the line is made of a shorter one, and how long words are.
-use Prim.Native.Nat.{ℕ, zero, suc, _+_, _*_, _/_, _%_, _^_, _<_, _≤_}
+use Prim.Native.Nat.{ℕ, zero, suc, _+_, _*_, _-_, _/_, _%_, _^_, _<_, _≤_}
 use mathlib.Core.Path.{_≡_, refl, sym, ap, _∙_}
 use mathlib.Core.List.{List, [], _∷_, _++_, append-assoc, append-nil}
 use native.Mathlib.Omega.{arith}
 use native.Mathlib.Nat.{pow-succ'}
 use lib.Dec.{ltb}
 use lib.ListN.{length, length-append}
-use borrow.Author.Tests.{lt-ltb, le-ltb, ltb-false}
+use borrow.Author.Tests.{lt-ltb, le-ltb}
 use Rattle.meaning.specs.Line.{mostDigits, digits, word, wordsIn}
 use Rattle.theory.specs.Truth.{on, off, test}
 
@@ -31,7 +31,7 @@ word-one n h = rw (lt-ltb n 10 h) refl
 
 pub word-more : (n : ℕ) → 10 ≤ n → n < 10 ^ mostDigits → word n ≡ word (n / 10) ++ ((48 + n % 10) ∷ [])
 unfolding word digits
-word-more n h l = rw (le-ltb n 10 h) (ap (λ d. 32 ∷ (d ++ ((48 + n % 10) ∷ []))) (sym (digits-spare 3 (n / 10) (omega arith))))
+word-more n h l = rw (le-ltb n 10 h) (ap (λ d. 32 ∷ (d ++ ((48 + n % 10) ∷ []))) (sym (digits-spare (mostDigits - 2) (n / 10) (omega arith))))
 
 digits-few : (k n : ℕ) → length (digits k n) ≤ k
 unfolding digits

@@ -58,8 +58,9 @@ written-one entry at n h room =
     rw (word-one n h, ← e) (written-behind (omega arith) (written-byte entry at 32 (omega arith)) behind)
 
 -- A longer word is one with a digit behind it.
-pub written-more : (entry : List ℕ) (at n : ℕ) {last : ℕ} {line : List ℕ} → 10 ≤ n → n < 10 ^ mostDigits → at + wordWidth ≤ length entry → length line ≡ length entry
-    → Written entry at (word (n / 10)) last line → (last < length line) × Written entry at (word n) (last + 1) (set line last (48 + n % 10))
+pub written-more : (entry : List ℕ) (at n : ℕ) {last : ℕ} {line : List ℕ} → 10 ≤ n → n < 10 ^ mostDigits → at + wordWidth ≤ length entry
+    → length line ≡ length entry → Written entry at (word (n / 10)) last line
+    → (last < length line) × Written entry at (word n) (last + 1) (set line last (48 + n % 10))
 written-more entry at n {last} {line} h l room size others =
     let more = word-more n h l in
     let inside : last < length line = omega (arith, others .place, word-few n, ap length more, length-append (word (n / 10)) ((48 + n % 10) ∷ [])) in

@@ -8,8 +8,12 @@ ghost use Rattle.meaning.specs.Workspace.{has};
 ghost use Rattle.meaning.specs.Line.{mostDigits, word, wordsIn};
 ghost use Rattle.theory.specs.Run.{members};
 ghost use Rattle.decimal.specs.Decimal.{wordWidth};
+use words::WORD_BITS;
 
 const BASE: usize = 10;
+
+// The most that a number takes in a line, with its blank.
+pub const WORD_WIDTH: usize = 6;
 
 // Writes a blank and a number from a place on, and answers the place after it.
 pub fn put_word(line: &mut [u8], at: usize, n: usize) -> usize
@@ -25,4 +29,34 @@ pub fn put_word(line: &mut [u8], at: usize, n: usize) -> usize
     let last = put_word(line, at, n / BASE);
     line[last] = b'0' + (n % BASE) as u8;
     last + 1
+}
+
+// Writes the members of a set of features, increasing, each with a blank before it, and answers the place after them.
+pub fn put_members(line: &mut [u8], at: usize, words: &[u64]) -> usize
+    requires { ⌜ (wordBits * length (now words) ≤ 10 ^ mostDigits) × (at + wordWidth * (wordBits * length (now words)) ≤ length (now line)) ⌝ }
+    ensures after { λ r. ⌜ r ≡ at + length (wordsIn (members (wordBits * length (now (words .entry))) (has (now (words .entry))))) ⌝ }
+    ensures written { λ r. ⌜ now (line .exit)
+        ≡ take at (now (line .entry)) ++ (wordsIn (members (wordBits * length (now (words .entry))) (has (now (words .entry)))) ++ drop r (now (line .entry))) ⌝ }
+{
+    let mut next = at;
+    let mut f = words::next_member(words, 0);
+    while f < words.len() * WORD_BITS {
+        next = put_word(line, next, f);
+        f = words::next_member(words, f + 1);
+    }
+    next
+}
+
+// How many members a set of features has.
+pub fn count(words: &[u64]) -> usize
+    requires { ⌜ wordBits * length (now words) < 2 ^ 64 ⌝ }
+    ensures { λ r. ⌜ r ≡ length (members (wordBits * length (now (words .entry))) (has (now (words .entry)))) ⌝ }
+{
+    let mut sum = 0;
+    let mut f = words::next_member(words, 0);
+    while f < words.len() * WORD_BITS {
+        sum += 1;
+        f = words::next_member(words, f + 1);
+    }
+    sum
 }

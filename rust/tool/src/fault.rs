@@ -2,6 +2,10 @@
 
 use crate::json::Json;
 
+/// How much of a long line is shown, and how much of it before the place.
+const WIDEST_PART: usize = 70;
+const MOST_BEFORE: usize = 60;
+
 /// Why no answer was given.
 #[derive(Debug)]
 pub enum Fault {
@@ -81,11 +85,13 @@ impl TextFault {
         }
     }
 
-    // Shows the line itself, so that nobody has to count columns.
+    // Shows the line itself, or its part around the place, so that nobody has to count columns.
     fn pointer(&self) -> String {
-        let source: String = self.source.chars().map(plain).collect();
-        let blanks = " ".repeat(self.column - 1);
-        format!("    {}\n    {blanks}^", source.trim_end())
+        let left_out = self.column.saturating_sub(MOST_BEFORE);
+        let part = self.source.chars().skip(left_out).take(WIDEST_PART);
+        let part: String = part.map(plain).collect();
+        let blanks = " ".repeat(self.column - 1 - left_out);
+        format!("    {}\n    {blanks}^", part.trim_end())
     }
 
     fn fields(&self) -> Vec<(&'static str, Json)> {

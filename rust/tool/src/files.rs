@@ -3,7 +3,7 @@
 use crate::fault::Fault;
 use crate::words::shown;
 use std::ffi::{OsStr, OsString};
-use std::fs;
+use std::fs::{self, File};
 use std::io::{self, Read};
 use std::path::{Path, PathBuf};
 
@@ -11,33 +11,68 @@ use std::path::{Path, PathBuf};
 const STANDARD: &str = "-";
 /// Folders may hold other things too; bays are the files that end so.
 const BAY_ENDING: &str = "txt";
+/// No binary file of the rules comes near this length; a file without end must not fill the memory.
+const MOST_BYTES: u64 = 1 << 26;
+/// The same for the text of a bay, which has nine slots at most.
+const MOST_TEXT: u64 = 1 << 20;
 
-/// Reads a file, or standard input.
+/// Reads a binary file, or standard input.
 pub fn read(name: &OsStr) -> Result<Vec<u8>, Fault> {
-    let mut bytes = Vec::new();
-    let read = if name == STANDARD {
-        io::stdin().lock().read_to_end(&mut bytes).map(|_| bytes)
+    read_up_to(MOST_BYTES, name)
+}
+
+/// Reads the text of a bay.
+pub fn read_text(name: &OsStr) -> Result<Vec<u8>, Fault> {
+    read_up_to(MOST_TEXT, name)
+}
+
+fn read_up_to(most: u64, name: &OsStr) -> Result<Vec<u8>, Fault> {
+    let read = if is_standard(name) {
+        read_from(io::stdin().lock(), most)
     } else {
-        fs::read(name)
+        File::open(name).and_then(|file| read_from(file, most))
     };
     read.map_err(|error| Fault::Failure(format!("cannot read: {}", reason(&error))))
 }
 
-/// Writes a file, unless it would write over one of the inputs.
-pub fn keep(name: &OsStr, bytes: &[u8], inputs: &[OsString]) -> Result<(), Fault> {
-    if inputs.iter().any(|input| same(input, name)) {
-        let name = shown(name);
-        return Err(Fault::Failure(format!("{name} would be written over")));
+fn read_from(source: impl Read, most: u64) -> io::Result<Vec<u8>> {
+    let mut bytes = Vec::new();
+    source.take(most + 1).read_to_end(&mut bytes)?;
+    if bytes.len() as u64 > most {
+        let words = format!("longer than {most} bytes, which no such file is");
+        return Err(io::Error::other(words));
     }
-    fs::write(name, bytes).map_err(|error| {
-        let name = shown(name);
-        Fault::Failure(format!("cannot write {name}: {}", reason(&error)))
-    })
+    Ok(bytes)
 }
 
-fn same(one: &OsStr, two: &OsStr) -> bool {
-    let path = |name: &OsStr| fs::canonicalize(name).ok();
-    one != STANDARD && path(one).is_some() && path(one) == path(two)
+/// Writes a file, unless it would write over one of the inputs.
+pub fn keep(name: &OsStr, bytes: &[u8], inputs: &[OsString]) -> Result<(), Fault> {
+    let failure = |words: String| Err(Fault::Failure(words));
+    if inputs.iter().any(|input| same(input, name)) {
+        return failure(format!("{} would be written over", shown(name)));
+    }
+    match fs::write(name, bytes) {
+        Ok(()) => Ok(()),
+        Err(error) => failure(format!("cannot write {}: {}", shown(name), reason(&error))),
+    }
+}
+
+/// Whether two names lead to one file, be it there already or not.
+pub fn same(one: &OsStr, two: &OsStr) -> bool {
+    !is_standard(one) && !is_standard(two) && place(one).is_some() && place(one) == place(two)
+}
+
+// A file that is not there yet has the place of its folder.
+fn place(name: &OsStr) -> Option<PathBuf> {
+    let path = Path::new(name);
+    if let Ok(place) = fs::canonicalize(path) {
+        return Some(place);
+    }
+    let folder = match path.parent() {
+        Some(folder) if !folder.as_os_str().is_empty() => folder,
+        _ => Path::new("."),
+    };
+    Some(fs::canonicalize(folder).ok()?.join(path.file_name()?))
 }
 
 // The number of the system's error says nothing to a person.
@@ -54,7 +89,7 @@ pub fn is_standard(name: &OsStr) -> bool {
 }
 
 pub fn is_folder(name: &OsStr) -> bool {
-    name != STANDARD && Path::new(name).is_dir()
+    !is_standard(name) && Path::new(name).is_dir()
 }
 
 /// What a folder holds: bays in the order of their names, and how many other files.
@@ -69,15 +104,16 @@ pub fn folder(name: &OsStr) -> Result<Folder, Fault> {
         bays: Vec::new(),
         others: 0,
     };
-    walk(Path::new(name), &mut folder)
-        .map_err(|error| Fault::Failure(format!("cannot read the folder: {}", reason(&error))))?;
+    walk(Path::new(name), &mut folder)?;
     Ok(folder)
 }
 
-fn walk(path: &Path, folder: &mut Folder) -> io::Result<()> {
-    let entries: io::Result<Vec<fs::DirEntry>> = fs::read_dir(path)?.collect();
-    let mut paths: Vec<PathBuf> = entries?.iter().map(fs::DirEntry::path).collect();
-    paths.sort();
+fn walk(path: &Path, folder: &mut Folder) -> Result<(), Fault> {
+    let paths = entries(path).map_err(|error| {
+        let name = shown(path.as_os_str());
+        let reason = reason(&error);
+        Fault::Failure(format!("cannot read the folder {name}: {reason}"))
+    })?;
     for path in paths {
         if is_hidden(&path) {
             continue;
@@ -92,6 +128,13 @@ fn walk(path: &Path, folder: &mut Folder) -> io::Result<()> {
         }
     }
     Ok(())
+}
+
+fn entries(path: &Path) -> io::Result<Vec<PathBuf>> {
+    let entries: io::Result<Vec<fs::DirEntry>> = fs::read_dir(path)?.collect();
+    let mut paths: Vec<PathBuf> = entries?.iter().map(fs::DirEntry::path).collect();
+    paths.sort();
+    Ok(paths)
 }
 
 fn is_hidden(path: &Path) -> bool {

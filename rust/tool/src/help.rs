@@ -13,7 +13,8 @@ pub fn tool() -> String {
          \n\
          Commands:\n{}\
          \n\
-         florumeja COMMAND --help tells more. A FILE of - is standard input.\n\
+         florumeja COMMAND --help tells more. A FILE of - is standard input; after -- every\n\
+         word is a FILE, whatever it begins with.\n\
          florumeja --version shows the version.\n\
          \n\
          Exit status: 0 impossible (or separated, accepted, opened, built),\n\

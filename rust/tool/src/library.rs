@@ -27,14 +27,10 @@ extern "C" {
         -> u64;
 }
 
-/// The refusal that asks for more room.
-const ROOM_TOO_SMALL: u32 = 8;
-
-// First guesses that take nearly every file at once, and the ends of growing.
-const FIRST_TASK_BYTES: usize = 1 << 16;
-const MOST_TASK_BYTES: usize = 1 << 24;
-const FIRST_WORKSPACE_WORDS: usize = 1 << 18;
-const MOST_WORKSPACE_WORDS: usize = 1 << 26;
+// Room for the largest results that the rules' limits allow: 64 variables, 4,096 features, and in
+// a task file 16,383 operators of 64 entries. Room that is not used is never touched.
+const WORKSPACE_WORDS: usize = 1 + 3 * 64 + 64 * (1 + 4096);
+const TASK_BYTES: usize = 1 << 22;
 
 /// What one returned word says: its case and its value.
 #[derive(Clone, Copy)]
@@ -69,6 +65,16 @@ pub enum Verdict {
     Accepted,
     EndsAlike,
     Operator(u32),
+}
+
+impl Verdict {
+    pub fn words(&self) -> String {
+        match self {
+            Verdict::Accepted => "accepted".to_string(),
+            Verdict::EndsAlike => "rejected, ends alike".to_string(),
+            Verdict::Operator(number) => format!("rejected at operator {number}"),
+        }
+    }
 }
 
 /// Asks the checker whether the weights separate start from goal.
@@ -158,13 +164,11 @@ impl Workspace {
     }
 }
 
-/// Opens a task file; the room grows until the library takes it.
+/// Opens a task file.
 pub fn open(task: &[u8]) -> Result<Workspace, Fault> {
-    let words = grow(FIRST_WORKSPACE_WORDS, MOST_WORKSPACE_WORDS, |room| {
+    let words = written("open", WORKSPACE_WORDS, |room| {
         // SAFETY: both slices live through the call, and only the room is written.
-        let word =
-            unsafe { florumeja_open(task.as_ptr(), task.len(), room.as_mut_ptr(), room.len()) };
-        ("open", word)
+        unsafe { florumeja_open(task.as_ptr(), task.len(), room.as_mut_ptr(), room.len()) }
     })?;
     let misfit = || Fault::Failure("the library's open wrote a workspace of odd length".into());
     Workspace::new(words).ok_or_else(misfit)
@@ -185,35 +189,29 @@ pub fn find(workspace: &Workspace) -> Result<Option<Vec<usize>>, Fault> {
     }
 }
 
-/// Builds a task file from a bay file; the room grows until the library takes it.
+/// Builds a task file from a bay file.
 pub fn build(bay: &[u8]) -> Result<Vec<u8>, Fault> {
-    grow(FIRST_TASK_BYTES, MOST_TASK_BYTES, |room| {
+    written("build", TASK_BYTES, |room| {
         // SAFETY: both slices live through the call, and only the room is written.
-        let word =
-            unsafe { florumeja_build(bay.as_ptr(), bay.len(), room.as_mut_ptr(), room.len()) };
-        ("build", word)
+        unsafe { florumeja_build(bay.as_ptr(), bay.len(), room.as_mut_ptr(), room.len()) }
     })
 }
 
-// Lends ever larger rooms to a call that writes, and keeps just what it wrote.
-fn grow<T: Clone + Default>(
-    first: usize,
-    most: usize,
-    mut call: impl FnMut(&mut [T]) -> (&'static str, u64),
+// Lends room to a call that writes, and keeps just what it wrote.
+fn written<T: Clone + Default>(
+    name: &str,
+    size: usize,
+    call: impl FnOnce(&mut [T]) -> u64,
 ) -> Result<Vec<T>, Fault> {
-    let mut size = first;
-    loop {
-        let mut room = vec![T::default(); size];
-        let (name, word) = call(&mut room);
-        match answer(name, word)? {
-            Answer::Yes(due) if due as usize <= size => {
-                room.truncate(due as usize);
-                return Ok(room);
-            }
-            Answer::Refused(ROOM_TOO_SMALL) if size < most => size *= 4,
-            Answer::Refused(number) => return Err(Fault::Refused(number)),
-            _ => return Err(unknown(name, word)),
+    let mut room = vec![T::default(); size];
+    let word = call(&mut room);
+    match answer(name, word)? {
+        Answer::Yes(due) if due as usize <= size => {
+            room.truncate(due as usize);
+            Ok(room)
         }
+        Answer::Refused(number) => Err(Fault::Refused(number)),
+        _ => Err(unknown(name, word)),
     }
 }
 

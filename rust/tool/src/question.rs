@@ -4,10 +4,12 @@ use crate::bay::Bay;
 use crate::bay_text::BayText;
 use crate::fault::Fault;
 use crate::features::Features;
+use crate::files;
 use crate::library::{self, Verdict, Workspace};
 use crate::numbers;
 use crate::output::Status;
 use crate::words::parity;
+use std::ffi::OsStr;
 
 /// A bay that was asked about, and what came of it.
 pub struct Answered {
@@ -41,7 +43,8 @@ pub struct Proof {
 }
 
 /// Builds, opens, finds and checks; each step is a proved call.
-pub fn ask(text: &BayText) -> Result<Answered, Fault> {
+pub fn ask(name: &OsStr) -> Result<Answered, Fault> {
+    let text = BayText::read(&files::read_text(name)?)?;
     let bay = text.bay();
     let task = library::build(&bay.file()).map_err(|fault| text.place(fault))?;
     let workspace = library::open(&task)?;
@@ -58,7 +61,8 @@ fn checked(task: &[u8], workspace: Workspace, weights: Vec<usize>) -> Result<Pro
     let verdict = library::check(task, &weight_file)?;
     if verdict != Verdict::Accepted {
         return Err(Fault::Failure(format!(
-            "the checker did not accept what the finder found ({verdict:?}), so nothing is said"
+            "the checker did not accept what the finder found ({}), so nothing is said",
+            verdict.words()
         )));
     }
     let start = workspace.start();

@@ -26,10 +26,7 @@ A rejection does not mean that the goal can be reached.",
 };
 
 fn run(arguments: &Arguments) -> Status {
-    let [task, weights] = arguments.files.as_slice() else {
-        return Status::Refused;
-    };
-    match check(task, weights) {
+    match check(&arguments.files[0], &arguments.files[1]) {
         Ok(verdict) => give(arguments, verdict),
         Err((name, fault)) => refuse(arguments, name, &fault),
     }
@@ -52,13 +49,12 @@ fn check<'a>(task: &'a OsString, weights: &'a OsString) -> Result<Verdict, Misfi
 }
 
 fn give(arguments: &Arguments, verdict: Verdict) -> Status {
-    let (words, status) = match verdict {
-        Verdict::Accepted => ("accepted".to_string(), Status::Yes),
-        Verdict::EndsAlike => ("rejected, ends alike".to_string(), Status::No),
-        Verdict::Operator(number) => (format!("rejected at operator {number}"), Status::No),
-    };
+    let words = verdict.words();
     tell(arguments, &words, &json(arguments, verdict, &words));
-    status
+    match verdict {
+        Verdict::Accepted => Status::Yes,
+        Verdict::EndsAlike | Verdict::Operator(_) => Status::No,
+    }
 }
 
 fn json(arguments: &Arguments, verdict: Verdict, words: &str) -> Json {

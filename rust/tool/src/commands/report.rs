@@ -3,9 +3,7 @@
 use super::{deliver, refuse, Command, OUTPUT};
 use crate::answer;
 use crate::args::{Arguments, JSON};
-use crate::bay_text::BayText;
 use crate::fault::Fault;
-use crate::files;
 use crate::output::{complain, Status};
 use crate::question;
 use crate::report;
@@ -42,7 +40,7 @@ fn run(arguments: &Arguments) -> Status {
 
 fn write(arguments: &Arguments) -> Result<Status, Fault> {
     let name = &arguments.files[0];
-    let answered = question::ask(&BayText::read(&files::read(name)?)?)?;
+    let answered = question::ask(name)?;
     let page = report::page(&shown(name), &answered)?;
     let line = format!("{}: {}", shown(name), answer::line(&answered));
     let json = answer::json(&name.to_string_lossy(), &answered);

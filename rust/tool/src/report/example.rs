@@ -1,7 +1,7 @@
 //! One move from the start, worked through on the page.
 
 use super::listed::Listed;
-use super::moves::{self, Move};
+use super::moves;
 use super::pictures;
 use super::words::{feature, slot};
 use crate::bay::Bay;
@@ -16,14 +16,16 @@ pub fn section(bay: &Bay, listed: &Listed) -> String {
     let later = step.applied(&bay.start);
     let lost = listed.lost(&bay.start, &later);
     let gained = listed.lost(&later, &bay.start);
+    let bays = [
+        ("before the move", &*bay.start),
+        ("after the move", &*later),
+    ];
     format!(
-        "<h3>One move, as an example</h3>\n<div class=\"bays\">\n{}\
-         <span class=\"arrow\">&#8594;</span>\n{}</div>\n\
+        "<h3>One move, as an example</h3>\n{}\
          <p>Pallet {} slides from {} to {}.</p>\n\
          <div class=\"columns\">\n<div><h4>No longer true: {}</h4>{}</div>\n\
          <div><h4>Newly true: {}</h4>{}</div>\n</div>\n<p>{}</p>\n",
-        picture("Before the move", &bay.start, bay, step),
-        picture("After the move", &later, bay, step),
+        pictures::two(bay.columns, bays, &[step.gap, step.from]),
         step.pallet,
         slot(step.from),
         slot(step.gap),
@@ -33,11 +35,6 @@ pub fn section(bay: &Bay, listed: &Listed) -> String {
         list(&gained),
         sum(bay, listed, &lost, &gained),
     )
-}
-
-fn picture(title: &str, state: &[usize], bay: &Bay, step: Move) -> String {
-    let picture = pictures::bay(title, state, bay.columns, &[step.gap, step.from]);
-    format!("<figure>{picture}<figcaption>{title}</figcaption></figure>\n")
 }
 
 fn list(features: &[Feature]) -> String {

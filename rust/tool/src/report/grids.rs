@@ -10,6 +10,8 @@ const LEFT: usize = 22;
 const TOP: usize = 36;
 /// A grid is never narrower than its title.
 const NARROWEST: usize = 122;
+/// Bays up to this size have grids half as large again, for fingers that follow the rows.
+const SMALL: usize = 4;
 
 /// What stands above, to the left and along the top of a grid.
 struct Sides {
@@ -74,7 +76,7 @@ fn square(bay: &Bay, listed: &Listed, feature: Feature, never: bool) -> Square {
 
 fn labels(bay: &Bay) -> Vec<String> {
     let short = |label: usize| match label {
-        GAP => "·".to_string(),
+        GAP => "•".to_string(),
         number => number.to_string(),
     };
     (0..bay.slots()).map(short).collect()
@@ -84,6 +86,7 @@ fn grid(sides: &Sides, square: impl Fn(usize, usize) -> Square) -> String {
     let (rows, columns) = (sides.left.len(), sides.top.len());
     let width = NARROWEST.max(LEFT + columns * SQUARE + 2);
     let height = TOP + rows * SQUARE + 2;
+    let [shown_width, shown_height] = [width, height].map(|length| shown(length, rows));
     let mut body = names(sides) + &ground(rows, columns);
     for row in 0..rows {
         for column in 0..columns {
@@ -91,10 +94,17 @@ fn grid(sides: &Sides, square: impl Fn(usize, usize) -> Square) -> String {
         }
     }
     format!(
-        "<svg class=\"grid\" role=\"img\" aria-label=\"{}\" width=\"{width}\" height=\"{height}\" \
-         viewBox=\"0 0 {width} {height}\">{body}</svg>\n",
+        "<svg class=\"grid\" role=\"img\" aria-label=\"{}\" width=\"{shown_width}\" \
+         height=\"{shown_height}\" viewBox=\"0 0 {width} {height}\">{body}</svg>\n",
         sides.title
     )
+}
+
+fn shown(length: usize, slots: usize) -> usize {
+    if slots <= SMALL {
+        return length * 3 / 2;
+    }
+    length
 }
 
 fn names(sides: &Sides) -> String {
@@ -175,7 +185,7 @@ pub fn legend() -> String {
         ),
         (
             square(false, true, false, false),
-            "never true: one pallet in two slots",
+            "never true: one pallet, or the gap, in two slots",
         ),
     ];
     let shown = items.iter().map(|(square, words)| item(square, words));

@@ -22,9 +22,9 @@ pub fn table(bay: &Bay, listed: &Listed, proof: &Proof) -> String {
         ));
     }
     let table = format!(
-        "<table class=\"features\"><thead><tr><th>number</th><th>feature</th>\
+        "<div class=\"wide\"><table class=\"features\"><thead><tr><th>number</th><th>feature</th>\
          <th>as it stands</th><th>as it is wanted</th></tr></thead>\n<tbody>\n{rows}</tbody>\n\
-         <tfoot><tr><th></th><th>true</th>{}{}</tr></tfoot></table>\n",
+         <tfoot><tr><th></th><th>true</th>{}{}</tr></tfoot></table></div>\n",
         total("start", listed.true_in(&bay.start).len()),
         total("goal", listed.true_in(&bay.goal).len())
     );
@@ -48,7 +48,8 @@ fn folded(table: &str, length: usize) -> String {
         return table.to_string();
     }
     format!(
-        "<details><summary>All {} in words, with their numbers</summary>\n{table}</details>\n",
+        "<details><summary>All {} in words, with their numbers (open to see or print them)\
+         </summary>\n{table}</details>\n",
         counted(length, "feature")
     )
 }

@@ -46,7 +46,8 @@ fn verdict(name: &str, proved: bool) -> String {
             "impossible",
             "IMPOSSIBLE",
             "No sequence of moves leads from the bay as it stands to the bay as it is wanted. \
-             It is not a matter of skill or time: this page shows why.",
+             It is not a matter of skill or time: this page shows why. A checker that is proved \
+             correct has accepted the proof.",
         )
     } else {
         (
@@ -62,15 +63,15 @@ fn verdict(name: &str, proved: bool) -> String {
 }
 
 fn both(bay: &Bay) -> String {
+    let bays = [
+        ("as it stands", &*bay.start),
+        ("as it is wanted", &*bay.goal),
+    ];
     format!(
-        "<section>\n<h2>The order</h2>\n<div class=\"bays\">\n\
-         <figure>{}<figcaption>as it stands</figcaption></figure>\n\
-         <span class=\"arrow\">&#8594;</span>\n\
-         <figure>{}<figcaption>as it is wanted</figcaption></figure>\n</div>\n\
+        "<section>\n<h2>The order</h2>\n{}\
          <p>Each slot has a letter, each pallet a number. The dashed slot is the gap. A move slides a \
          pallet from a slot beside the gap, in the same row or column, into the gap.</p>\n</section>\n",
-        pictures::bay("The bay as it stands", &bay.start, bay.columns, &[]),
-        pictures::bay("The bay as it is wanted", &bay.goal, bay.columns, &[]),
+        pictures::two(bay.columns, bays, &[])
     )
 }
 
@@ -78,10 +79,11 @@ fn not_proved(bay: &Bay) -> String {
     let words = if bay.start == bay.goal {
         "The two bays are alike, so there is nothing to prove impossible."
     } else {
-        "The finder looked for a list of features of one slot or of two slots that parts the two \
-         bays by odd and even, and no such list exists. So there is no proof of this kind that the \
-         order is impossible. There is no proof that it can be done either: moves were not \
-         searched for."
+        "The program looked for a proof of one kind: a list of statements about one slot or two \
+         slots of which an odd number is true in the one bay and an even number in the other, \
+         while no move can change odd to even. No such list exists, so there is no proof of this \
+         kind that the order is impossible. There is no proof that it can be done either: nobody \
+         has looked for moves."
     };
     format!("<section>\n<h2>What this means</h2>\n<p>{words}</p>\n</section>\n")
 }
@@ -193,7 +195,7 @@ fn whole_list(bay: &Bay, listed: &Listed, proof: &Proof) -> String {
     format!(
         "<section>\n<h2>The whole list: {}</h2>\n\
          <p>Each filled square is a feature on the list. In the first grid a row is a slot and a \
-         column is what it holds (&#183; is the gap). Each of the other grids is about two slots: \
+         column is what it holds (&#8226; is the gap). Each of the other grids is about two slots: \
          the row is what the first holds, the column is what the second holds.</p>\n{}\
          <div class=\"grids\">\n{}{}</div>\n{}</section>\n",
         counted(listed.len(), "feature"),
@@ -219,10 +221,11 @@ fn by_hand(bay: &Bay, listed: &Listed) -> String {
          <li>For the part of the two slots, look up the four statements in the first grid, and \
          <q>{first}</q> and <q>{second}</q> in the grid of {low} and {high}. Count the filled \
          squares.</li>\n\
-         <li>For the part of another slot, pick a pallet for it. Look up the four pairs that it \
-         makes with the four statements, and count the filled squares. Do so for each pallet that \
-         can stand there.</li>\n\
-         <li>Add up the parts. The sum is even, whatever you picked.</li>\n</ol>\n</section>\n",
+         <li>For the part of another slot, pick a pallet for it, any but pallet 1. Look up the \
+         four pairs that it makes with the four statements, and count the filled squares. Do so \
+         for each pallet that can stand there.</li>\n\
+         <li>Add up the parts. The sum is even, whatever you picked. So it is for every row, and \
+         so no move changes odd to even or even to odd.</li>\n</ol>\n</section>\n",
         was = parity(start),
         wanted = parity(goal),
         low = words::slot(low),

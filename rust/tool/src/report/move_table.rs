@@ -40,7 +40,7 @@ pub fn table(bay: &Bay, listed: &Listed) -> Result<String, Fault> {
 
 fn framed(bay: &Bay, table: &str, rows: usize) -> String {
     if bay.slots() > OPEN {
-        return format!("<details><summary>All {rows} rows</summary>\n{table}</details>\n");
+        return format!("<details><summary>All {rows} rows (open to see or print them)</summary>\n{table}</details>\n");
     }
     if bay.slots() > DETAILED {
         return table.to_string();

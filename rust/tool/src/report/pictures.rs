@@ -6,8 +6,25 @@ use crate::bay::GAP;
 const CELL: usize = 64;
 const MARGIN: usize = 4;
 
-/// One bay; `moved` are slots to point out.
-pub fn bay(title: &str, labels: &[usize], columns: usize, moved: &[usize]) -> String {
+/// Bays with more columns stand one below the other.
+const MOST_BESIDE: usize = 6;
+
+/// Two bays with an arrow between them; `moved` are slots to point out.
+pub fn two(columns: usize, bays: [(&str, &[usize]); 2], moved: &[usize]) -> String {
+    let [first, second] = bays.map(|(when, labels)| {
+        let picture = bay(when, labels, columns, moved);
+        format!("<figure>{picture}<figcaption>{when}</figcaption></figure>\n")
+    });
+    let class = match columns {
+        0..=MOST_BESIDE => "bays",
+        _ => "bays stacked",
+    };
+    format!(
+        "<div class=\"{class}\">\n{first}<span class=\"arrow\">&#8594;</span>\n{second}</div>\n"
+    )
+}
+
+fn bay(when: &str, labels: &[usize], columns: usize, moved: &[usize]) -> String {
     let width = columns * CELL + 2 * MARGIN;
     let height = labels.len() / columns * CELL + 2 * MARGIN;
     let mut cells = String::new();
@@ -19,7 +36,7 @@ pub fn bay(title: &str, labels: &[usize], columns: usize, moved: &[usize]) -> St
     format!(
         "<svg class=\"bay\" role=\"img\" aria-label=\"{}\" width=\"{width}\" height=\"{height}\" \
          viewBox=\"0 0 {width} {height}\">{cells}</svg>",
-        spoken(title, labels, columns)
+        spoken(when, labels, columns)
     )
 }
 
@@ -44,11 +61,11 @@ fn cell(index: usize, value: usize, left: usize, top: usize, moved: bool) -> Str
 }
 
 // For readers who hear the page.
-fn spoken(title: &str, labels: &[usize], columns: usize) -> String {
+fn spoken(when: &str, labels: &[usize], columns: usize) -> String {
     let row = |row: &[usize]| -> String {
         let names: Vec<String> = row.iter().map(|&value| label(value)).collect();
         names.join(" ")
     };
     let rows: Vec<String> = labels.chunks(columns).map(row).collect();
-    format!("{title}: {}", rows.join("; "))
+    format!("The bay {when}: {}", rows.join("; "))
 }

@@ -1,0 +1,72 @@
+//! `ask`: the main job, for one bay or for many.
+
+mod evidence;
+mod many;
+
+use super::{refuse, say_json, Command};
+use crate::answer;
+use crate::args::{Arguments, JSON};
+use crate::files;
+use crate::output::{complain, say, Status};
+use crate::question;
+use crate::words::shown;
+use evidence::{TASK, WEIGHTS};
+use std::ffi::OsStr;
+
+pub const COMMAND: Command = Command {
+    name: "ask",
+    operands: "FILE...",
+    count: (1, usize::MAX),
+    summary: "say whether the order for a bay is impossible",
+    about: "\
+Reads a bay as plain text: rows of labels as it stands, a blank line, rows of
+labels as it is wanted. Labels are numbers with blanks between them; 0 or . is
+the gap; # begins a comment. A swapped pair of pallets, for example:
+
+    1 2
+    3 .
+
+    2 1
+    3 .
+
+Draws both bays and says one of two things. IMPOSSIBLE: no sequence of moves
+leads from the one to the other, and a checker that is proved correct accepted
+the proof. NO PARITY PROOF: no such proof exists. This does not mean that the
+order can be done.
+
+FILE may be - for standard input, and a folder stands for the files in it, and
+in folders inside it, that end in .txt. For many files there is one line each
+and a summary, and the exit status is the highest that one of them gives.",
+    options: &[&WEIGHTS, &TASK, &JSON],
+    statuses: &["impossible", "no parity proof"],
+    run,
+};
+
+fn run(arguments: &Arguments) -> Status {
+    match arguments.files.as_slice() {
+        [name] if !files::is_folder(name) => one(arguments, name),
+        _ if arguments.has(&WEIGHTS) || arguments.has(&TASK) => {
+            complain("ask: --weights and --task go with one bay; try florumeja ask --help");
+            Status::Refused
+        }
+        _ => many::ask(arguments),
+    }
+}
+
+fn one(arguments: &Arguments, name: &OsStr) -> Status {
+    let outcome = question::ask(name).and_then(|answered| {
+        let kept = evidence::keep(arguments, &answered)?;
+        Ok((answered, kept))
+    });
+    match outcome {
+        Ok((answered, kept)) => {
+            if arguments.has(&JSON) {
+                say_json(&answer::json(&name.to_string_lossy(), &answered));
+            } else {
+                say(&format!("{}{kept}", answer::full(&shown(name), &answered)));
+            }
+            answered.status()
+        }
+        Err(fault) => refuse(arguments, name, &fault),
+    }
+}

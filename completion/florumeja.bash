@@ -14,8 +14,10 @@ _florumeja() {
         mapfile -t COMPREPLY < <(compgen -W "$commands help --help --version" -- "$word")
         return
     fi
+    # Bash takes --weights=FILE for three words.
+    if [ "$word" = '=' ]; then word='' before='='; fi
     case $before in
-    -o | --output | --weights | --task)
+    -o | --output | --weights | --task | =)
         _florumeja_files "$word"
         return
         ;;

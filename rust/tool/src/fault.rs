@@ -51,7 +51,7 @@ impl Fault {
     pub fn message(&self, name: &str) -> String {
         match self {
             Fault::Text(fault) => {
-                format!("{name}: {}\n{}", fault.words(), fault.pointer())
+                format!("{name}: {}{}", fault.words(), fault.pointer())
             }
             _ => format!("{name}: {}", self.words()),
         }
@@ -90,8 +90,11 @@ impl TextFault {
         let left_out = self.column.saturating_sub(MOST_BEFORE);
         let part = self.source.chars().skip(left_out).take(WIDEST_PART);
         let part: String = part.map(plain).collect();
+        if part.trim().is_empty() {
+            return String::new();
+        }
         let blanks = " ".repeat(self.column - 1 - left_out);
-        format!("    {}\n    {blanks}^", part.trim_end())
+        format!("\n    {}\n    {blanks}^", part.trim_end())
     }
 
     fn fields(&self) -> Vec<(&'static str, Json)> {

@@ -1,7 +1,7 @@
 //! Reads what the command line names, and keeps what it asks to keep.
 
 use crate::fault::Fault;
-use crate::words::shown;
+use crate::words::{reason, shown};
 use std::ffi::{OsStr, OsString};
 use std::fs::{self, File};
 use std::io::{self, Read};
@@ -39,7 +39,7 @@ fn read_from(source: impl Read, most: u64) -> io::Result<Vec<u8>> {
     let mut bytes = Vec::new();
     source.take(most + 1).read_to_end(&mut bytes)?;
     if bytes.len() as u64 > most {
-        let words = format!("longer than {most} bytes, which no such file is");
+        let words = format!("it is longer than {most} bytes, and no file of this kind is");
         return Err(io::Error::other(words));
     }
     Ok(bytes)
@@ -73,15 +73,6 @@ fn place(name: &OsStr) -> Option<PathBuf> {
         _ => Path::new("."),
     };
     Some(fs::canonicalize(folder).ok()?.join(path.file_name()?))
-}
-
-// The number of the system's error says nothing to a person.
-fn reason(error: &io::Error) -> String {
-    let words = error.to_string();
-    match words.split_once(" (os error") {
-        Some((plain, _)) => plain.to_string(),
-        None => words,
-    }
 }
 
 pub fn is_standard(name: &OsStr) -> bool {

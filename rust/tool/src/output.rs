@@ -1,5 +1,6 @@
 //! Standard output and standard error, and the exit status.
 
+use crate::words::reason;
 use std::io::{self, ErrorKind, Write};
 use std::process::{exit, ExitCode};
 
@@ -33,7 +34,8 @@ pub fn say_bytes(bytes: &[u8]) {
     };
     // A reader that has seen enough, such as head, is no reason for a message.
     if error.kind() != ErrorKind::BrokenPipe {
-        complain(&format!("cannot write to standard output: {error}"));
+        let reason = reason(&error);
+        complain(&format!("cannot write to standard output: {reason}"));
     }
     exit(Status::Refused as i32);
 }

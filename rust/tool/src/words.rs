@@ -1,6 +1,7 @@
 //! Small words that many parts of the tool use.
 
 use std::ffi::OsStr;
+use std::io;
 
 /// A count with its noun, as in "1 feature" and "2 features".
 pub fn counted(count: usize, noun: &str) -> String {
@@ -24,4 +25,13 @@ pub fn shown(name: &OsStr) -> String {
     }
     let replaced = |c: char| if c.is_control() { '?' } else { c };
     name.to_string_lossy().chars().map(replaced).collect()
+}
+
+/// Why reading or writing failed; the number of the system's error says nothing to a person.
+pub fn reason(error: &io::Error) -> String {
+    let words = error.to_string();
+    match words.split_once(" (os error") {
+        Some((plain, _)) => plain.to_string(),
+        None => words,
+    }
 }

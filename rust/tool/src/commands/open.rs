@@ -7,6 +7,7 @@ use crate::files;
 use crate::json::Json;
 use crate::library::{self, Workspace};
 use crate::output::Status;
+use crate::words::counted;
 
 pub const COMMAND: Command = Command {
     name: "open",
@@ -34,23 +35,25 @@ fn open(arguments: &Arguments) -> Result<(), Fault> {
     let name = &arguments.files[0];
     let workspace = library::open(&files::read(name)?)?;
     let counts = counts(&workspace);
-    let shown: Vec<String> = counts.iter().map(|(n, c)| format!("{c} {n}")).collect();
+    let shown = counts.map(|(noun, _, count)| counted(count, noun));
     let line = format!("opened {}", shown.join(", "));
     let mut fields = vec![
         ("file", Json::text(&name.to_string_lossy())),
         ("answer", Json::text("opened")),
     ];
-    fields.extend(counts.map(|(name, count)| (name, Json::number(count))));
+    fields.extend(counts.map(|(_, name, count)| (name, Json::number(count))));
     deliver(arguments, &bytes(&workspace), &line, &Json::Object(fields))
 }
 
-fn counts(workspace: &Workspace) -> [(&'static str, usize); 5] {
+// Each with its noun, for people, and its name, for programs.
+fn counts(workspace: &Workspace) -> [(&'static str, &'static str, usize); 5] {
+    let features = workspace.features();
     [
-        ("words", workspace.words().len()),
-        ("variables", workspace.features().sizes().len()),
-        ("features", workspace.features().count()),
-        ("pairs", workspace.pair_count()),
-        ("conditions", workspace.condition_count()),
+        ("word", "words", workspace.words().len()),
+        ("variable", "variables", features.sizes().len()),
+        ("feature", "features", features.count()),
+        ("pair", "pairs", workspace.pair_count()),
+        ("condition", "conditions", workspace.condition_count()),
     ]
 }
 

@@ -1,0 +1,176 @@
+-- Opening a task file and finding in its workspace gives the program's answer.
+use Prim.Native.Nat.{ℕ, _+_, _-_, _*_, _<_, _≤_}
+use mathlib.Core.Path.{_≡_, refl, sym, ap, _∙_, subst, fun-ext}
+use mathlib.Core.Logic.{inl, inr}
+use mathlib.Core.Bool.{true, false, _&&_}
+use mathlib.Core.List.{List, _++_}
+use native.Mathlib.Omega.{arith}
+use native.Mathlib.Nat.{mul-le-mul}
+use lib.Dec.{ltb}
+use lib.ListN.{length, drop, replicate, length-replicate}
+use borrow.Author.Tests.{ltb-true, ltb-false, lt-ltb, le-ltb}
+use Rattle.meaning.specs.Limits.{mostVariables, mostProgramFeatures, mostInput, wordBits}
+use Rattle.meaning.specs.Sets.{Set, listed}
+use Rattle.meaning.specs.Task.{Task, Run}
+use Rattle.meaning.specs.Feature.{features}
+use Rattle.meaning.specs.Weight.{Separates, LeastOf}
+use Rattle.meaning.specs.Number.{Small, refusal, Read, got, fault}
+use Rattle.meaning.specs.File.{judgedTask}
+use Rattle.meaning.specs.Workspace.{wordsFor, wordsDue, has, packed, Content}
+use Rattle.meaning.specs.Answer.{Answer, done, refused, Outcome, refuses, Opens, Finding, FindsBy, Finds}
+use Rattle.meaning.specs.Line.{Found as Answered, separating, nothing, Seeks, Prints}
+use Rattle.theory.specs.Truth.{on, off, test}
+use Rattle.theory.specs.Run.{members, run-members, listed-members, run-same}
+use Rattle.theory.specs.Cut.{cut, cut-below, separates-cut}
+use Rattle.theory.specs.Whole.{whole-cong}
+use Rattle.theory.specs.Words.{has-packed}
+use Rattle.theory.specs.Accepted.{accepted}
+use Rattle.theory.specs.Histories.{StandsFor, opened-stands, stands-formed, stands-content}
+use Rattle.theory.specs.Demands.{none-said, least-given}
+use Rattle.words.specs.Part.{has-front, has-back, has-drop, has-none, has-past}
+use Rattle.opening.specs.Answer.{openedOf}
+use Rattle.opening.specs.declared.Opened.{Opened}
+use Rattle.opening.specs.declared.Opened.the-variants as opening
+use Rattle.finding.specs.Found.{foundOf}
+use Rattle.finding.specs.declared.Found.{Found}
+use Rattle.finding.specs.declared.Found.the-variants.{Separated, Nothing, Refused}
+use Rattle.line.specs.Answer.{soughtOf}
+
+-- ---- how many words are due
+
+-- The words of the largest workspace that the program takes, and of weights for its features.
+abbrev pub mostDue : ℕ
+mostDue = wordsDue mostVariables mostProgramFeatures
+
+abbrev pub weightWords : ℕ
+weightWords = wordsFor mostProgramFeatures
+
+-- A workspace needs more words than that exactly when there are too many features.
+due-fits : (v n : ℕ) → v ≤ mostVariables → n ≤ mostProgramFeatures → wordsDue v n ≤ mostDue
+due-fits v n h k = let words : wordsFor n ≤ weightWords = omega arith in omega (arith, mul-le-mul k words)
+
+due-exceeds : (v n : ℕ) → mostProgramFeatures < n → mostDue < wordsDue v n
+due-exceeds v n h = let words : 11 ≤ wordsFor n = omega arith in let many : 641 ≤ n = omega arith in omega (arith, mul-le-mul many words)
+
+-- ---- what the words of the weights list
+
+-- Zeros behind words add no member.
+zeros-behind : (l : List ℕ) (k f : ℕ) → has (l ++ drop (length l) (replicate k 0)) f ≡ has l f
+zeros-behind l k f = elim (test (ltb f (wordBits * length l))) [
+  | on e ↦ has-front l _ f (ltb-true _ _ e)
+  | off e ↦ let there : length l * wordBits + (f - length l * wordBits) ≡ f = omega (arith, ltb-false f (wordBits * length l) e) in
+      subst (λ g. has (l ++ drop (length l) (replicate k 0)) g ≡ has l g) there (past (f - length l * wordBits))
+]
+  where
+    past : (g : ℕ) → has (l ++ drop (length l) (replicate k 0)) (length l * wordBits + g) ≡ has l (length l * wordBits + g)
+    past g = has-back l _ g ∙ has-drop (length l) (replicate k 0) g ∙ has-none k _ ∙ sym (has-past l _ (omega arith))
+
+module _ (n k : ℕ) (w : Set) (fits : n ≤ wordBits * k) (words : List ℕ) (size : length words ≡ k)
+    (e : words ≡ packed n w ++ drop (length (packed n w)) (replicate k 0)) where
+  -- The members of the words are those of the weights below n.
+  listed-weights : listed (members (wordBits * length words) (has words)) ≡ cut n w
+  unfolding cut
+  listed-weights = fun-ext (λ f. listed-members (wordBits * length words) (has words) f
+      ∙ ap (λ b. ltb f (wordBits * length words) && b) (ap (λ l. has l f) e ∙ zeros-behind (packed n w) k f ∙ has-packed n w f) ∙ below f)
+    where
+      below : (f : ℕ) → (ltb f (wordBits * length words) && (ltb f n && w f)) ≡ (ltb f n && w f)
+      below f = elim (test (ltb f n)) [
+        | on t ↦ rw (lt-ltb f (wordBits * length words) (omega (arith, ltb-true f n t)))
+        | off t ↦ rw t (elim (ltb f (wordBits * length words)) as (λ b. (b && false) ≡ false) [ true ↦ refl | false ↦ refl ])
+      ]
+
+  weights-run : Run 0 (members (wordBits * length words) (has words)) n
+  unfolding cut
+  weights-run = subst (λ l. Run 0 l n) (sym same) (run-members n w)
+    where
+      same : members (wordBits * length words) (has words) ≡ members n w
+      same = run-same 0 _ 0 n _ _ (run-members _ (has words)) (run-members n w) (λ f. ap (λ a. a f) listed-weights ∙ sym (listed-members n w f))
+
+  least-weights : (T : Task) → n ≡ features (T .sizes) → LeastOf n (Separates T) w → Seeks T (separating (members (wordBits * length words) (has words)))
+  least-weights T q best = (
+    subst (Run 0 _) q weights-run,
+    record {
+      good = rw (listed-weights, q) (separates-cut T w (best .good));
+      least = λ other s. rw (listed-weights, ← q, whole-cong n (cut n w) w (cut-below n w)) (best .least other s);
+    },
+  )
+
+-- ---- the program's answer
+
+-- A finder with enough room does not refuse a content.
+room-taken : (c : Content) (room left : List ℕ) (number : ℕ) → wordsFor (features (c .sizes)) ≤ length room → FindsBy c room (record { answer = refused number; lent = left }) → ⊥
+room-taken c room left number h finds = elim (rw (le-ltb (length room) (wordsFor (features (c .sizes))) h) at finds) [
+  | inl k ↦ let z : _≡_ {A = ℕ} 0 1 = cc (ap (λ (o : Outcome Finding). o .answer) (k .1)) in omega arith
+  | inr k ↦ let z : _≡_ {A = ℕ} 0 1 = cc (ap (λ (o : Outcome Finding). o .answer) (k .2)) in omega arith
+]
+
+module _ (input : List ℕ) where
+  pub too-long : (number : ℕ) → mostInput < length input → number ≡ refusal Small → Prints input (refused number)
+  too-long number h e = rw (lt-ltb mostInput (length input) h, e) refl
+
+  -- What an opening's answer tells: the program's refusal; or a task that was accepted and has not too many features.
+  abbrev Told : Answer ℕ → Type 0
+  Told (refused number) = Prints input (refused number)
+  Told (done due) = (T : Task) × (next : ℕ) × (judgedTask input ≡ got T next) × (features (T .sizes) ≤ mostProgramFeatures)
+
+  module _ (few : length input ≤ mostInput) (room : List ℕ) (size : length room ≡ mostDue) where
+    told : (outcome : Outcome ℕ) → Opens input room outcome → Told (outcome .answer)
+    told outcome opens = by (judgedTask input) refl
+      where
+        by : (read : Read Task) → judgedTask input ≡ read → Told (outcome .answer)
+        by (fault reason place) e =
+            let q : outcome ≡ refuses reason room = rw e at opens in
+            subst Told (sym (ap (λ (o : Outcome ℕ). o .answer) q)) (rw (le-ltb mostInput (length input) few, e) refl)
+        by (got T next) e =
+            let v = length (T .sizes) in
+            let n = features (T .sizes) in
+            let limits = accepted input T next e .acceptable .limits in
+            elim (test (ltb mostProgramFeatures n)) [
+              | on t ↦
+                  let short : length room < wordsDue v n = omega (arith, size, due-exceeds v n (ltb-true mostProgramFeatures n t)) in
+                  let q : outcome ≡ refuses Small room = rw (e, lt-ltb (length room) (wordsDue v n) short) at opens in
+                  subst Told (sym (ap (λ (o : Outcome ℕ). o .answer) q)) (rw (le-ltb mostInput (length input) few, e, t) refl)
+              | off t ↦
+                  let total : n ≤ mostProgramFeatures = ltb-false mostProgramFeatures n t in
+                  let long : wordsDue v n ≤ length room = omega (arith, size, due-fits v n (limits .variables .1) total) in
+                  let (slots, are, q) = rw (e, le-ltb (length room) (wordsDue v n) long) at opens in
+                  subst Told (sym (ap (λ (o : Outcome ℕ). o .answer) q)) (T, next, e, total)
+            ]
+
+    seeks-prints : (T : Task) (next : ℕ) (found : Answered) → judgedTask input ≡ got T next → features (T .sizes) ≤ mostProgramFeatures → Seeks T found → Prints input (done found)
+    seeks-prints T next found e total seeks =
+        rw (le-ltb mostInput (length input) few, e, le-ltb mostProgramFeatures (features (T .sizes)) total) (found, refl, seeks)
+
+    module _ (opened : Opened) (workspace : List ℕ) (opens : Opens input room (record { answer = openedOf opened; lent = workspace })) where
+      pub unopened : (number : ℕ) → opened ≡ opening.Refused number → Prints input (refused number)
+      unopened number e = told _ (rw e at opens)
+
+      module _ (due : ℕ) (is : opened ≡ opening.Opened due) where
+        opens-done : Opens input room (record { answer = done due; lent = workspace })
+        opens-done = rw is at opens
+
+        stands : (T : Task) × StandsFor T workspace × (features (T .sizes) ≤ mostProgramFeatures)
+        stands = let (T, next, e, total) = told _ opens-done in (T, opened-stands T input room workspace next due e opens-done, total)
+
+        -- The finder does not refuse the opened workspace and so many words.
+        not-refused : (left : List ℕ) (number : ℕ) → Finds workspace (replicate weightWords 0) (record { answer = refused number; lent = left }) → ⊥
+        not-refused left number (inl h) = let (T, S, total) = stands in h .0 (stands-formed T workspace S)
+        not-refused left number (inr (formed, h)) =
+            let (T, S, total) = stands in
+            let few : features (formed .content .sizes) ≤ mostProgramFeatures = omega (arith, ap (λ c. features (c .sizes)) (stands-content T workspace S formed)) in
+            room-taken (formed .content) (replicate weightWords 0) left number (omega (arith, length-replicate {A = ℕ} weightWords 0)) h
+
+        pub sought : (words weights : List ℕ) (found : Found) → words ≡ replicate weightWords 0 → length weights ≡ length words
+            → Finds workspace words (record { answer = foundOf found; lent = weights }) → Prints input (soughtOf found weights)
+        sought words weights found zeros size finds = by found (rw zeros at finds)
+          where
+            by : (found : Found) → Finds workspace (replicate weightWords 0) (record { answer = foundOf found; lent = weights }) → Prints input (soughtOf found weights)
+            by Separated h =
+                let (T, next, e, total) = told _ opens-done in
+                let (w, best, q) = least-given input T next e room workspace due opens-done (replicate weightWords 0) weights h in
+                let many : length weights ≡ weightWords = size ∙ ap length zeros ∙ length-replicate {A = ℕ} weightWords 0 in
+                seeks-prints T next _ e total (least-weights (features (T .sizes)) weightWords w total weights many q T refl best)
+            by Nothing h =
+                let (T, next, e, total) = told _ opens-done in
+                seeks-prints T next nothing e total (none-said input T next e room workspace due opens-done (replicate weightWords 0) weights h)
+            by (Refused number) h = absurd (not-refused weights number h)

@@ -27,8 +27,12 @@ abbrev pub printedOf : Printed → Answer ℕ
 printedOf (printed.Printed n) = done n
 printedOf (printed.Refused number) = refused number
 
--- The program's answer, from that of the finder with the words that it left: the members of these words are the features found.
+-- The features found are the members of the words that the finder left.
+abbrev pub separatedBy : List ℕ → Answer meaning.Found
+separatedBy weights = done (meaning.separating (members (wordBits * length weights) (has weights)))
+
+-- The program's answer, from that of the finder and these words.
 abbrev pub soughtOf : Found → List ℕ → Answer meaning.Found
-soughtOf found.Separated weights = done (meaning.separating (members (wordBits * length weights) (has weights)))
+soughtOf found.Separated weights = separatedBy weights
 soughtOf found.Nothing weights = done meaning.nothing
 soughtOf (found.Refused number) weights = refused number

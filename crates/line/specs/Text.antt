@@ -1,11 +1,33 @@
--- Bytes copied into a text.
-use Prim.Native.Nat.{ℕ, _+_, _<_, _≤_}
+-- Bytes copied into a text, and the parts of a line one behind the other.
+use Prim.Native.Nat.{ℕ, _+_, _*_, _^_, _<_, _≤_}
 use mathlib.Core.Path.{_≡_, sym, ap, _∙_}
-use mathlib.Core.List.{List, _++_, append-assoc}
+use mathlib.Core.Bool.{_||_}
+use mathlib.Core.List.{List, [], _∷_, _++_, append-assoc}
 use native.Mathlib.Omega.{arith}
 use native.Mathlib.Numerals.{add-one}
-use lib.ListN.{length, getD, set, take, drop}
-use lib.Seq.{paste, paste-suc, take-all}
+use lib.Dec.{ltb}
+use lib.ListN.{length, getD, set, take, drop, length-append}
+use lib.Seq.{paste, paste-suc, take-all, take-at}
+use Rattle.meaning.specs.Limits.{mostInput, mostProgramFeatures, wordBits}
+use Rattle.meaning.specs.Number.{Reason, Ends, Padded, Endless, Limit, Range, Unordered, LeftOver, Held, Unclosed, Small, Malformed, Mislabelled, refusal, Read, got, fault}
+use Rattle.meaning.specs.Task.{Task}
+use Rattle.meaning.specs.File.{judgedTask}
+use Rattle.meaning.specs.Workspace.{has}
+use Rattle.meaning.specs.Answer.{Answer, done, refused, byRead}
+use Rattle.meaning.specs.Line.{Found as Answered, Seeks, tooLarge, Prints, mostDigits, word, wordsIn, line}
+use Rattle.theory.specs.Truth.{on, off, test}
+use Rattle.theory.specs.Run.{members}
+use Rattle.decimal.specs.Decimal.{wordWidth}
+use Rattle.decimal.specs.Written.{Written, written-behind}
+use Rattle.finding.specs.declared.Found.{Found}
+use Rattle.finding.specs.declared.Found.the-variants.{Separated, Nothing, Refused}
+use Rattle.line.specs.Answer.{separatedBy, soughtOf}
+
+-- The longest line: `separated`, the count and the most features, and the line's end.
+abbrev pub lineBytes : ℕ
+lineBytes = 9 + wordWidth * (1 + mostProgramFeatures) + 1
+
+-- ---- bytes copied
 
 module _ (text₀ : List ℕ) (at : ℕ) (bytes : List ℕ) (i : ℕ) (text : List ℕ) (so-far : text ≡ paste text₀ at bytes i) where
   pub copied-next : at + length bytes ≤ length text₀ → i < length bytes → set text (at + i) (getD bytes i 0) ≡ paste text₀ at bytes (i + 1)
@@ -14,9 +36,74 @@ module _ (text₀ : List ℕ) (at : ℕ) (bytes : List ℕ) (i : ℕ) (text : Li
       ∙ paste-suc text₀ at bytes i 0 (omega arith) more
       ∙ ap (paste text₀ at bytes) (sym (add-one i))
 
-  pub copied-all : i ≡ length bytes → (at + i ≡ at + length bytes) × (text ≡ take at text₀ ++ (bytes ++ drop (at + i) text₀))
-  copied-all all = (
-    omega arith,
-    so-far ∙ append-assoc (take at text₀) (take i bytes) (drop (at + i) text₀)
-        ∙ ap (λ l. take at text₀ ++ (l ++ drop (at + i) text₀)) (take-all i bytes (omega arith)),
-  )
+  pub copied-all : i ≡ length bytes → Written text₀ at bytes (at + i) text
+  copied-all all = record {
+    place = omega arith;
+    stands = so-far ∙ append-assoc (take at text₀) (take i bytes) (drop (at + i) text₀)
+        ∙ ap (λ l. take at text₀ ++ (l ++ drop (at + i) text₀)) (take-all i bytes (omega arith));
+  }
+
+-- ---- the parts of a line
+
+-- A text written from the front on is the front.
+pub written-front : (entry part exit : List ℕ) (after : ℕ) → Written entry 0 part after exit → take after exit ≡ part
+written-front entry part exit after w = ap (take after) (w .stands) ∙ take-at part (drop after entry) after (omega (arith, w .place))
+
+pub written-within : (entry part exit : List ℕ) (after : ℕ) → Written entry 0 part after exit → after ≤ length exit
+written-within entry part exit after w = omega (arith, w .place, ap length (w .stands), length-append part (drop after entry))
+
+-- Three parts behind the first make the line for weights that separate.
+pub separated-written : (weights : List ℕ) {text : List ℕ} {first : ℕ} {line₁ : List ℕ} {second : ℕ} {line₂ : List ℕ} {third : ℕ} {line₃ : List ℕ} {end : ℕ} {line₄ : List ℕ}
+    → let found = members (wordBits * length weights) (has weights) in (count : ℕ) → count ≡ length found → first ≤ length line₁
+    → Written text 0 (115 ∷ 101 ∷ 112 ∷ 97 ∷ 114 ∷ 97 ∷ 116 ∷ 101 ∷ 100 ∷ []) first line₁ → Written line₁ first (word count) second line₂
+    → Written line₂ second (wordsIn found) third line₃ → Written line₃ third (10 ∷ []) end line₄ → Written text 0 (line (separatedBy weights)) end line₄
+unfolding line wordsIn
+separated-written weights count e h a b c d = written-behind (omega arith) a (written-behind h (written-behind h (rw e at b) c) d)
+
+pub refused-written : (number : ℕ) {text : List ℕ} {first : ℕ} {line₁ : List ℕ} {second : ℕ} {line₂ : List ℕ} {end : ℕ} {line₃ : List ℕ} → first ≤ length line₁
+    → Written text 0 (114 ∷ 101 ∷ 102 ∷ 117 ∷ 115 ∷ 101 ∷ 100 ∷ []) first line₁ → Written line₁ first (word number) second line₂
+    → Written line₂ second (10 ∷ []) end line₃ → Written text 0 (line (refused number)) end line₃
+unfolding line
+refused-written number h a b c = written-behind (omega arith) a (written-behind h b c)
+
+-- ---- the numbers of refusals
+
+-- A refusal's number has few enough digits for a line.
+abbrev pub ShortNumber : Found → Type 0
+ShortNumber Separated = Unit {0}
+ShortNumber Nothing = Unit {0}
+ShortNumber (Refused number) = number < 10 ^ mostDigits
+
+refusal-short : (reason : Reason) → refusal reason < 10 ^ mostDigits
+refusal-short Ends = omega arith
+refusal-short Padded = omega arith
+refusal-short Endless = omega arith
+refusal-short Limit = omega arith
+refusal-short Range = omega arith
+refusal-short Unordered = omega arith
+refusal-short LeftOver = omega arith
+refusal-short Held = omega arith
+refusal-short Unclosed = omega arith
+refusal-short Small = omega arith
+refusal-short Malformed = omega arith
+refusal-short Mislabelled = omega arith
+
+-- The program refuses for a reason.
+refused-short : (input : List ℕ) (number : ℕ) → Prints input (refused number) → number < 10 ^ mostDigits
+refused-short input number prints = elim (test (ltb mostInput (length input) || tooLarge (judgedTask input))) [
+  | on e ↦ short Small (rw e at prints)
+  | off e ↦ said (judgedTask input) (rw e at prints)
+]
+  where
+    short : (reason : Reason) → _≡_ {A = Answer Answered} (refused number) (refused (refusal reason)) → number < 10 ^ mostDigits
+    short reason q = let e : number ≡ refusal reason = cc in rw e (refusal-short reason)
+
+    said : (read : Read Task) → byRead read (λ T. (found : Answered) × (_≡_ {A = Answer Answered} (refused number) (done found)) × Seeks T found) (λ reason. _≡_ {A = Answer Answered} (refused number) (refused (refusal reason)))
+        → number < 10 ^ mostDigits
+    said (got T next) (found, q, seeks) = absurd (let z : _≡_ {A = ℕ} 0 1 = cc in omega arith)
+    said (fault reason place) q = short reason q
+
+pub prints-short : (input weights : List ℕ) (found : Found) → Prints input (soughtOf found weights) → ShortNumber found
+prints-short input weights Separated prints = tt
+prints-short input weights Nothing prints = tt
+prints-short input weights (Refused number) prints = refused-short input number prints

@@ -1,15 +1,18 @@
 // The finder program's line: what is found for a task file, as text in lent bytes.
 ghost use mathlib.Core.Path.{_≡_};
-ghost use mathlib.Core.List.{_++_};
-ghost use Prim.Native.Nat.{_+_, _≤_};
-ghost use lib.ListN.{length, take, drop, replicate};
-ghost use Rattle.meaning.specs.Line.{Prints};
-ghost use Rattle.meaning.specs.Answer.{delivered};
-ghost use Rattle.line.specs.Answer.{printedOf, soughtOf};
+ghost use Prim.Native.Nat.{_+_, _^_, _<_, _≤_};
+ghost use lib.ListN.{length, replicate};
+ghost use Rattle.meaning.specs.Line.{mostDigits, line, Prints};
+ghost use Rattle.meaning.specs.Answer.{refused, delivered};
+ghost use Rattle.decimal.specs.Written.{Written};
+ghost use Rattle.line.specs.Answer.{Lines, printedOf, soughtOf, separatedBy};
 ghost use Rattle.line.specs.Sought.{weightWords};
+ghost use Rattle.line.specs.Text.{lineBytes, ShortNumber};
+use decimal::WORD_WIDTH;
 use finding::Found;
 use number::Reason;
 use opening::Opened;
+use words::WORD_BITS;
 
 // The length of the line, or the paper's number of a refusal.
 pub enum Printed {
@@ -20,8 +23,18 @@ pub enum Printed {
 // "More than 8,192 bytes give 8 before anything is judged"
 const MOST_INPUT: usize = 8192;
 
-// As many words as a workspace of 64 variables and 640 features takes. With more features none is as short.
-const WORKSPACE_WORDS: usize = 6603;
+// "more than 640 features give 8 after 7"
+const MOST_FEATURES: usize = 640;
+
+const MOST_VARIABLES: usize = 64;
+
+const WEIGHT_WORDS: usize = MOST_FEATURES / WORD_BITS;
+
+// As many words as a workspace with the most features and variables takes. With more features no workspace is as short.
+const WORKSPACE_WORDS: usize = 1 + 3 * MOST_VARIABLES + WEIGHT_WORDS + MOST_FEATURES * WEIGHT_WORDS;
+
+// The longest line: `separated`, the count and the most features, and the line's end.
+pub const LINE_BYTES: usize = 9 + WORD_WIDTH * (1 + MOST_FEATURES) + 1;
 
 // Finds the least weights for a task file. The words of the weights come as zeros.
 fn seek(input: &[u8], weights: &mut [u64]) -> Found
@@ -41,8 +54,7 @@ fn seek(input: &[u8], weights: &mut [u64]) -> Found
 // Puts bytes from a place on, and answers the place after them.
 fn put(text: &mut [u8], at: usize, bytes: &[u8]) -> usize
     requires { ⌜ at + length (now bytes) ≤ length (now text) ⌝ }
-    ensures after { λ r. ⌜ r ≡ at + length (now (bytes .entry)) ⌝ }
-    ensures written { λ r. ⌜ now (text .exit) ≡ take at (now (text .entry)) ++ (now (bytes .entry) ++ drop r (now (text .entry))) ⌝ }
+    ensures { λ r. ⌜ Written (now (text .entry)) at (now (bytes .entry)) r (now (text .exit)) ⌝ }
 {
     let mut i = 0;
     while i < bytes.len() {
@@ -50,6 +62,39 @@ fn put(text: &mut [u8], at: usize, bytes: &[u8]) -> usize
         i += 1;
     }
     at + i
+}
+
+// Puts the line for weights that separate.
+fn put_separated(text: &mut [u8], weights: &[u64]) -> usize
+    requires { ⌜ (length (now text) ≡ lineBytes) × (length (now weights) ≡ weightWords) ⌝ }
+    ensures { λ r. ⌜ Written (now (text .entry)) 0 (line (separatedBy (now (weights .entry)))) r (now (text .exit)) ⌝ }
+{
+    let first = put(text, 0, b"separated");
+    let second = decimal::put_word(text, first, decimal::count(weights));
+    let third = decimal::put_members(text, second, weights);
+    put(text, third, b"\n")
+}
+
+// Puts the line for a refusal.
+fn put_refused(text: &mut [u8], number: u64) -> usize
+    requires { ⌜ (length (now text) ≡ lineBytes) × (number < 10 ^ mostDigits) ⌝ }
+    ensures { λ r. ⌜ Written (now (text .entry)) 0 (line (refused number)) r (now (text .exit)) ⌝ }
+{
+    let first = put(text, 0, b"refused");
+    let second = decimal::put_word(text, first, number as usize);
+    put(text, second, b"\n")
+}
+
+// Puts the line for what was found.
+fn put_line(text: &mut [u8], found: Found, weights: &[u64]) -> usize
+    requires { ⌜ (length (now text) ≡ lineBytes) × (length (now weights) ≡ weightWords) × ShortNumber found ⌝ }
+    ensures { λ r. ⌜ Written (now (text .entry)) 0 (line (soughtOf found (now (weights .entry)))) r (now (text .exit)) ⌝ }
+{
+    match found {
+        Found::Separated => put_separated(text, weights),
+        Found::Nothing => put(text, 0, b"none\n"),
+        Found::Refused(number) => put_refused(text, number),
+    }
 }
 
 // Puts a text in front of a room that is long enough for it.
@@ -60,4 +105,15 @@ fn deliver(text: &[u8], room: &mut [u8]) -> Printed
         return Printed::Refused(number::refusal(Reason::Small));
     }
     Printed::Printed(put(room, 0, text))
+}
+
+// The line for a task file goes to the front of a room that is long enough for it. Any bytes are taken.
+pub fn line(input: &[u8], room: &mut [u8]) -> Printed
+    ensures { λ r. ⌜ Lines (now (input .entry)) (now (room .entry)) (record { answer = printedOf r; lent = now (room .exit) }) ⌝ }
+{
+    let mut weights = [0u64; WEIGHT_WORDS];
+    let found = seek(input, &mut weights);
+    let mut text = [0u8; LINE_BYTES];
+    let end = put_line(&mut text, found, &weights);
+    deliver(&text[..end], room)
 }

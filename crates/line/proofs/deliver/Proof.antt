@@ -10,7 +10,10 @@ refusal-requires : tie.Need-refusal-requires
 refusal-requires c κs = search needs
 
 returns : tie.Need-returns
-returns c = let a = c .before .before .before .before .args in ap (λ number. record { answer = refused number; lent = a .room .now }) (c .refusal .ensures) ∙ sym (delivered-small (a .text .now) (a .room .now) (c .before .if1 .taken))
+returns c =
+    let a = c .before .before .before .before .args in
+    ap (λ number. record { answer = refused number; lent = a .room .now }) (c .refusal .ensures)
+    ∙ sym (delivered-small (a .text .now) (a .room .now) (c .before .if1 .taken))
 
 put-requires : tie.Need-put-requires
 put-requires c κs = search needs
@@ -19,7 +22,10 @@ same-length : tie.Need-same-length
 same-length c = search needs
 
 returns-2 : tie.Need-returns-2
-returns-2 c = let a = c .before .before .before .before .before .before .before .args in let put = c .before .before .put .ensures in delivered-done (a .text .now) (a .room .now) _ _ (c .before .before .before .before .if1 .left) (put .0) (put .1)
+returns-2 c =
+    let a = c .before .before .before .before .before .before .before .args in
+    let put = c .before .before .put .ensures in
+    delivered-done (a .text .now) (a .room .now) _ _ (c .before .before .before .before .if1 .left) (put .place) (put .stands)
 
 pub deliver-spec : {M : Type 1} → statement M
 deliver-spec = tie.close (tie.spec refusal-requires returns put-requires same-length returns-2)

@@ -33,7 +33,9 @@ loop-less : tie.Need-loop-less Inv-loop μ-loop
 loop-less c = omega arith
 
 loop-again : tie.Need-loop-again Inv-loop μ-loop
-loop-again c = let inv = c .before .before .loop .inv in (omega arith, simp length-set (inv .1), copied-next _ _ _ _ _ (inv .2) (c .before .before .before .pre) (c .before .loop-test .taken))
+loop-again c =
+    let inv = c .before .before .loop .inv in
+    (omega arith, simp length-set (inv .1), copied-next _ _ _ _ _ (inv .2) (c .before .before .before .pre) (c .before .loop-test .taken))
 
 add-result : tie.Need-add-result Inv-loop μ-loop
 add-result c = omega arith
@@ -42,7 +44,9 @@ same-length : tie.Need-same-length Inv-loop μ-loop
 same-length c = c .before .loop .inv .1
 
 returns : tie.Need-returns Inv-loop μ-loop
-returns c = let inv = c .before .loop .inv in copied-all _ _ _ _ _ (inv .2) (omega (arith, inv .0, c .loop-test .left))
+returns c =
+    let inv = c .before .loop .inv in
+    copied-all _ _ _ _ _ (inv .2) (omega (arith, inv .0, c .loop-test .left))
 
 pub put-spec : {M : Type 1} → statement M
 put-spec =

@@ -34,12 +34,19 @@ same-length : tie.Need-same-length
 same-length c = search needs
 
 returns-2 : tie.Need-returns-2
-returns-2 c = let opening = c .before .before .before .before .before .before .before .before .«open» in
-    sought (c .before .before .before .before .before .before .before .before .before .before .before .before .before .args .input .now) (c .before .before .before .before .before .before .before .before .before .before .if1 .left) (replicate mostDue 0) (length-replicate {A = ℕ} mostDue 0) (opening .result) _ (opening .ensures) _ (c .before .before .before .before .before .enum-told .given .1) _ _ (c .before .before .find .result) (c .before .before .before .before .before .before .before .before .before .before .before .before .before .pre) (c .before .before .find .kept .1 .0) (c .before .before .find .ensures)
+returns-2 c =
+    let input = c .before .before .before .before .before .before .before .before .before .before .before .before .before .args .input .now in
+    let opened = c .before .before .before .before .before .before .before .before .«open» in
+    let found = c .before .before .find in
+    sought input (c .before .before .before .before .before .before .before .before .before .before .if1 .left) (replicate mostDue 0) (length-replicate {A = ℕ} mostDue 0) (opened .result) _ (opened .ensures)
+    _ (c .before .before .before .before .before .enum-told .given .1) _ _ (found .result) (c .before .before .before .before .before .before .before .before .before .before .before .before .before .pre) (found .kept .1 .0) (found .ensures)
 
 returns-3 : tie.Need-returns-3
-returns-3 c = let opening = c .before .before .before .before .«open» in
-    unopened (c .before .before .before .before .before .before .before .before .before .args .input .now) (c .before .before .before .before .before .before .if1 .left) (replicate mostDue 0) (length-replicate {A = ℕ} mostDue 0) (opening .result) _ (opening .ensures) _ (c .before .number .given .1)
+returns-3 c =
+    let input = c .before .before .before .before .before .before .before .before .before .args .input .now in
+    let opened = c .before .before .before .before .«open» in
+    unopened input (c .before .before .before .before .before .before .if1 .left) (replicate mostDue 0) (length-replicate {A = ℕ} mostDue 0) (opened .result) _ (opened .ensures)
+    _ (c .before .number .given .1)
 
 pub seek-spec : {M : Type 1} → statement M
 seek-spec =

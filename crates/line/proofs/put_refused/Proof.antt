@@ -1,0 +1,47 @@
+-- `put_refused`: three parts one behind the other.
+use native.Mathlib.Omega.{arith}
+use Rattle.decimal.specs.Decimal.{word-few}
+use Rattle.line.specs.Text.{refused-written}
+use borrow.Author.Needs.{needs}
+use Rattle.line.proofs.put_refused.Statement.{statement}
+use Rattle.line.proofs.put_refused.Tie as tie
+
+slice-aggregate-put : tie.Need-slice-aggregate-put
+slice-aggregate-put c = search needs
+
+put-requires : tie.Need-put-requires
+put-requires c κs = search needs
+
+put-word-requires : tie.Need-put-word-requires
+put-word-requires c κs = search needs
+
+slice-aggregate-put-2 : tie.Need-slice-aggregate-put-2
+slice-aggregate-put-2 c = search needs
+
+put-requires-2 : tie.Need-put-requires-2
+put-requires-2 c κs =
+    let number = c .before .before .before .before .before .before .before .before .before .before .before .before .args .number in
+    let first = c .before .before .before .before .before .before .before .before .put .ensures in
+    omega (arith, first .place, c .before .before .before .before .put-word .ensures .0, word-few number)
+
+same-length : tie.Need-same-length
+same-length c = search needs
+
+returns : tie.Need-returns
+returns c =
+    let number = c .before .before .before .before .before .before .before .before .before .before .before .before .before .before .before .args .number in
+    let first = c .before .before .before .before .before .before .before .before .before .before .before .put .ensures in
+    let word = c .before .before .before .before .before .before .before .put-word .ensures in
+    refused-written number (omega (arith, first .place)) first (record { place = word .0; stands = word .1 }) (c .before .before .put2 .ensures)
+
+pub put-refused-spec : {M : Type 1} → statement M
+put-refused-spec =
+    tie.close
+    (tie.spec
+    slice-aggregate-put
+    put-requires
+    put-word-requires
+    slice-aggregate-put-2
+    put-requires-2
+    same-length
+    returns)

@@ -1,3 +1,4 @@
 pub mod Answer
 pub mod Sought
 pub mod Text
+pub mod Fits

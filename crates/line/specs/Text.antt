@@ -1,31 +1,18 @@
 -- Bytes copied into a text, and the parts of a line one behind the other.
-use Prim.Native.Nat.{ℕ, _+_, _*_, _^_, _<_, _≤_}
+use Prim.Native.Nat.{ℕ, _+_, _*_, _<_, _≤_}
 use mathlib.Core.Path.{_≡_, sym, ap, _∙_}
-use mathlib.Core.Bool.{_||_}
 use mathlib.Core.List.{List, [], _∷_, _++_, append-assoc}
 use native.Mathlib.Omega.{arith}
 use native.Mathlib.Numerals.{add-one}
-use lib.Dec.{ltb}
 use lib.ListN.{length, getD, set, take, drop, length-append}
 use lib.Seq.{paste, paste-suc, take-all, take-at}
-use Rattle.meaning.specs.Limits.{mostInput, mostProgramFeatures, wordBits}
-use Rattle.meaning.specs.Number.{Reason, Ends, Padded, Endless, Limit, Range, Unordered, LeftOver, Held, Unclosed, Small, Malformed, Mislabelled, refusal, Read, got, fault}
-use Rattle.meaning.specs.Task.{Task}
-use Rattle.meaning.specs.File.{judgedTask}
+use Rattle.meaning.specs.Limits.{wordBits}
 use Rattle.meaning.specs.Workspace.{has}
-use Rattle.meaning.specs.Answer.{Answer, done, refused, byRead}
-use Rattle.meaning.specs.Line.{Found as Answered, Seeks, tooLarge, Prints, mostDigits, word, wordsIn, line}
-use Rattle.theory.specs.Truth.{on, off, test}
+use Rattle.meaning.specs.Answer.{refused}
+use Rattle.meaning.specs.Line.{word, wordsIn, line}
 use Rattle.theory.specs.Run.{members}
-use Rattle.decimal.specs.Decimal.{wordWidth}
 use Rattle.decimal.specs.Written.{Written, written-behind}
-use Rattle.finding.specs.declared.Found.{Found}
-use Rattle.finding.specs.declared.Found.the-variants.{Separated, Nothing, Refused}
-use Rattle.line.specs.Answer.{separatedBy, soughtOf}
-
--- The longest line: `separated`, the count and the most features, and the line's end.
-abbrev pub lineBytes : ℕ
-lineBytes = 9 + wordWidth * (1 + mostProgramFeatures) + 1
+use Rattle.line.specs.Answer.{separatedBy}
 
 -- ---- bytes copied
 
@@ -65,45 +52,3 @@ pub refused-written : (number : ℕ) {text : List ℕ} {first : ℕ} {line₁ : 
     → Written line₂ second (10 ∷ []) end line₃ → Written text 0 (line (refused number)) end line₃
 unfolding line
 refused-written number h a b c = written-behind (omega arith) a (written-behind h b c)
-
--- ---- the numbers of refusals
-
--- A refusal's number has few enough digits for a line.
-abbrev pub ShortNumber : Found → Type 0
-ShortNumber Separated = Unit {0}
-ShortNumber Nothing = Unit {0}
-ShortNumber (Refused number) = number < 10 ^ mostDigits
-
-refusal-short : (reason : Reason) → refusal reason < 10 ^ mostDigits
-refusal-short Ends = omega arith
-refusal-short Padded = omega arith
-refusal-short Endless = omega arith
-refusal-short Limit = omega arith
-refusal-short Range = omega arith
-refusal-short Unordered = omega arith
-refusal-short LeftOver = omega arith
-refusal-short Held = omega arith
-refusal-short Unclosed = omega arith
-refusal-short Small = omega arith
-refusal-short Malformed = omega arith
-refusal-short Mislabelled = omega arith
-
--- The program refuses for a reason.
-refused-short : (input : List ℕ) (number : ℕ) → Prints input (refused number) → number < 10 ^ mostDigits
-refused-short input number prints = elim (test (ltb mostInput (length input) || tooLarge (judgedTask input))) [
-  | on e ↦ short Small (rw e at prints)
-  | off e ↦ said (judgedTask input) (rw e at prints)
-]
-  where
-    short : (reason : Reason) → _≡_ {A = Answer Answered} (refused number) (refused (refusal reason)) → number < 10 ^ mostDigits
-    short reason q = let e : number ≡ refusal reason = cc in rw e (refusal-short reason)
-
-    said : (read : Read Task) → byRead read (λ T. (found : Answered) × (_≡_ {A = Answer Answered} (refused number) (done found)) × Seeks T found) (λ reason. _≡_ {A = Answer Answered} (refused number) (refused (refusal reason)))
-        → number < 10 ^ mostDigits
-    said (got T next) (found, q, seeks) = absurd (let z : _≡_ {A = ℕ} 0 1 = cc in omega arith)
-    said (fault reason place) q = short reason q
-
-pub prints-short : (input weights : List ℕ) (found : Found) → Prints input (soughtOf found weights) → ShortNumber found
-prints-short input weights Separated prints = tt
-prints-short input weights Nothing prints = tt
-prints-short input weights (Refused number) prints = refused-short input number prints

@@ -7,7 +7,7 @@ ghost use Rattle.meaning.specs.Answer.{refused, delivered};
 ghost use Rattle.decimal.specs.Written.{Written};
 ghost use Rattle.line.specs.Answer.{Lines, printedOf, soughtOf, separatedBy};
 ghost use Rattle.line.specs.Sought.{weightWords};
-ghost use Rattle.line.specs.Text.{lineBytes, ShortNumber};
+ghost use Rattle.line.specs.Fits.{lineBytes, ShortNumber};
 use decimal::WORD_WIDTH;
 use finding::Found;
 use number::Reason;

@@ -2,7 +2,7 @@
 use mathlib.Core.Path.{subst}
 use native.Mathlib.Omega.{arith}
 use Rattle.meaning.specs.Line.{line}
-use Rattle.line.specs.Text.{ShortNumber}
+use Rattle.line.specs.Fits.{ShortNumber}
 use borrow.Author.Needs.{needs}
 use Rattle.line.proofs.put_line.Statement.{statement}
 use Rattle.line.proofs.put_line.Tie as tie

@@ -1,0 +1,115 @@
+-- What the program may answer, and that every line fits into so many bytes.
+use Prim.Native.Nat.{ℕ, _+_, _*_, _^_, _<_, _≤_}
+use mathlib.Core.Path.{_≡_, sym, ap, _∙_, subst}
+use mathlib.Core.Logic.{_⊎_, inl, inr}
+use mathlib.Core.Bool.{true, _||_}
+use mathlib.Core.List.{List, [], _∷_}
+use native.Mathlib.Omega.{arith}
+use lib.Dec.{ltb}
+use lib.ListN.{length, length-append}
+use borrow.Author.Tests.{ltb-false}
+use Rattle.meaning.specs.Limits.{mostInput, mostProgramFeatures}
+use Rattle.meaning.specs.Number.{Reason, Ends, Padded, Endless, Limit, Range, Unordered, LeftOver, Held, Unclosed}
+use Rattle.meaning.specs.Number.{Small, Malformed, Mislabelled, refusal, Read, got, fault}
+use Rattle.meaning.specs.Task.{Task}
+use Rattle.meaning.specs.Feature.{features}
+use Rattle.meaning.specs.File.{judgedTask}
+use Rattle.meaning.specs.Answer.{Answer, done, refused, Outcome, writes, byRead}
+use Rattle.meaning.specs.Line.{Found as Answered, nothing, separating, Seeks, tooLarge, Prints, mostDigits, word, wordsIn, line}
+use Rattle.theory.specs.Truth.{on, off, test, clash}
+use Rattle.theory.specs.Search.{or-right}
+use Rattle.theory.specs.Run.{run-length}
+use Rattle.decimal.specs.Decimal.{wordWidth, word-few, words-few}
+use Rattle.writer.specs.Remains.{delivered-whole}
+use Rattle.finding.specs.declared.Found.{Found}
+use Rattle.finding.specs.declared.Found.the-variants.{Separated, Nothing, Refused}
+use Rattle.line.specs.declared.Printed.{Printed}
+use Rattle.line.specs.declared.Printed.the-variants as printed
+use Rattle.line.specs.Answer.{Lines, printedOf, soughtOf}
+
+-- ---- what the program may answer
+
+-- It refuses for a reason; or it answers for a task that has not too many features.
+abbrev Answers : Answer Answered → Type 0
+Answers answer =
+    ((reason : Reason) × (answer ≡ refused (refusal reason)))
+    ⊎ ((T : Task) × (found : Answered) × (answer ≡ done found) × Seeks T found × (features (T .sizes) ≤ mostProgramFeatures))
+
+answers : (input : List ℕ) (answer : Answer Answered) → Prints input answer → Answers answer
+answers input answer prints = elim (test (ltb mostInput (length input) || tooLarge (judgedTask input))) [
+  | on e ↦ inl (Small, rw e at prints)
+  | off e ↦ said (judgedTask input) (λ t. clash (or-right (ltb mostInput (length input)) _ t) e) (rw e at prints)
+]
+  where
+    said : (read : Read Task) → (tooLarge read ≡ true → ⊥) → byRead read (λ T. (found : Answered) × (answer ≡ done found) × Seeks T found) (λ reason. answer ≡ refused (refusal reason)) → Answers answer
+    said (got T next) small (found, e, seeks) = elim (test (ltb mostProgramFeatures (features (T .sizes)))) [
+      | on t ↦ absurd (small t)
+      | off t ↦ inr (T, found, e, seeks, ltb-false mostProgramFeatures (features (T .sizes)) t)
+    ]
+    said (fault reason place) small e = inl (reason, e)
+
+-- ---- the numbers of refusals
+
+-- A refusal's number has few enough digits for a line.
+abbrev pub ShortNumber : Found → Type 0
+ShortNumber Separated = Unit {0}
+ShortNumber Nothing = Unit {0}
+ShortNumber (Refused number) = number < 10 ^ mostDigits
+
+refusal-short : (reason : Reason) → refusal reason < 10 ^ mostDigits
+refusal-short Ends = omega arith
+refusal-short Padded = omega arith
+refusal-short Endless = omega arith
+refusal-short Limit = omega arith
+refusal-short Range = omega arith
+refusal-short Unordered = omega arith
+refusal-short LeftOver = omega arith
+refusal-short Held = omega arith
+refusal-short Unclosed = omega arith
+refusal-short Small = omega arith
+refusal-short Malformed = omega arith
+refusal-short Mislabelled = omega arith
+
+pub prints-short : (input weights : List ℕ) (found : Found) → Prints input (soughtOf found weights) → ShortNumber found
+prints-short input weights Separated prints = tt
+prints-short input weights Nothing prints = tt
+prints-short input weights (Refused number) prints = elim (answers input (refused number) prints) [
+  | inl (reason, e) ↦ let same : number ≡ refusal reason = cc in rw same (refusal-short reason)
+  | inr (T, found, e, seeks, few) ↦ absurd (let z : _≡_ {A = ℕ} 0 1 = cc in omega arith)
+]
+
+-- ---- the longest line
+
+-- `separated`, the count and the most features, and the line's end.
+abbrev pub lineBytes : ℕ
+lineBytes = 9 + wordWidth * (1 + mostProgramFeatures) + 1
+
+features-few : (input fs : List ℕ) → Prints input (done (separating fs)) → length fs ≤ mostProgramFeatures
+features-few input fs prints = elim (answers input (done (separating fs)) prints) [
+  | inl (reason, e) ↦ absurd (let z : _≡_ {A = ℕ} 0 1 = cc in omega arith)
+  | inr (T, found, e, seeks, few) ↦
+      let same : found ≡ separating fs = cc in
+      let run = subst (Seeks T) same seeks .0 in
+      omega (arith, run-length 0 (features (T .sizes)) fs run)
+]
+
+line-short : (input : List ℕ) (answer : Answer Answered) → Prints input answer → length (line answer) ≤ lineBytes
+unfolding line
+line-short input (done (separating fs)) prints =
+    omega (arith, length-append (wordsIn (length fs ∷ fs)) (10 ∷ []), words-few (length fs ∷ fs), features-few input fs prints)
+line-short input (done nothing) prints = omega arith
+line-short input (refused number) prints = omega (arith, length-append (word number) (10 ∷ []), word-few number)
+
+-- A room as long as that is never refused.
+pub lines-written : (input room : List ℕ) (outcome : Outcome ℕ) → lineBytes ≤ length room → Lines input room outcome
+    → (answer : Answer Answered) × Prints input answer × (outcome ≡ writes (length (line answer)) (line answer) room)
+lines-written input room outcome long (answer, prints, e) = (answer, prints, e ∙ delivered-whole (line answer) room (omega (arith, line-short input answer prints)))
+
+-- The line ends within it.
+pub line-ends : (input room left : List ℕ) (result : Printed) (end : ℕ) → lineBytes ≤ length room
+    → Lines input room (record { answer = printedOf result; lent = left }) → result ≡ printed.Printed end → end ≤ length room
+line-ends input room left result end long lines is =
+    let (answer, prints, e) = lines-written input room _ long lines in
+    let same : done end ≡ done (length (line answer)) = sym (ap printedOf is) ∙ ap (λ (o : Outcome ℕ). o .answer) e in
+    let at : end ≡ length (line answer) = cc in
+    omega (arith, line-short input answer prints)

@@ -27,12 +27,12 @@ abbrev pub printedOf : Printed → Answer ℕ
 printedOf (printed.Printed n) = done n
 printedOf (printed.Refused number) = refused number
 
--- The features found are the members of the words that the finder left.
-abbrev pub separatedBy : List ℕ → Answer meaning.Found
-separatedBy weights = done (meaning.separating (members (wordBits * length weights) (has weights)))
+-- The features that words hold, increasing.
+abbrev pub featuresIn : List ℕ → List ℕ
+featuresIn words = members (wordBits * length words) (has words)
 
--- The program's answer, from that of the finder and these words.
+-- The program's answer, from that of the finder and the words that it left.
 abbrev pub soughtOf : Found → List ℕ → Answer meaning.Found
-soughtOf found.Separated weights = separatedBy weights
+soughtOf found.Separated weights = done (meaning.separating (featuresIn weights))
 soughtOf found.Nothing weights = done meaning.nothing
 soughtOf (found.Refused number) weights = refused number

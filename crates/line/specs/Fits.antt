@@ -41,7 +41,9 @@ answers input answer prints = elim (test (ltb mostInput (length input) || tooLar
   | off e ↦ said (judgedTask input) (λ t. clash (or-right (ltb mostInput (length input)) _ t) e) (rw e at prints)
 ]
   where
-    said : (read : Read Task) → (tooLarge read ≡ true → ⊥) → byRead read (λ T. (found : Answered) × (answer ≡ done found) × Seeks T found) (λ reason. answer ≡ refused (refusal reason)) → Answers answer
+    said : (read : Read Task) → (tooLarge read ≡ true → ⊥)
+        → byRead read (λ T. (found : Answered) × (answer ≡ done found) × Seeks T found) (λ reason. answer ≡ refused (refusal reason))
+        → Answers answer
     said (got T next) small (found, e, seeks) = elim (test (ltb mostProgramFeatures (features (T .sizes)))) [
       | on t ↦ absurd (small t)
       | off t ↦ inr (T, found, e, seeks, ltb-false mostProgramFeatures (features (T .sizes)) t)
@@ -103,7 +105,8 @@ line-short input (refused number) prints = omega (arith, length-append (word num
 -- A room as long as that is never refused.
 pub lines-written : (input room : List ℕ) (outcome : Outcome ℕ) → lineBytes ≤ length room → Lines input room outcome
     → (answer : Answer Answered) × Prints input answer × (outcome ≡ writes (length (line answer)) (line answer) room)
-lines-written input room outcome long (answer, prints, e) = (answer, prints, e ∙ delivered-whole (line answer) room (omega (arith, line-short input answer prints)))
+lines-written input room outcome long (answer, prints, e) =
+    (answer, prints, e ∙ delivered-whole (line answer) room (omega (arith, line-short input answer prints)))
 
 -- The line ends within it.
 pub line-ends : (input room left : List ℕ) (result : Printed) (end : ℕ) → lineBytes ≤ length room

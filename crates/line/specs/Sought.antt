@@ -1,8 +1,8 @@
 -- Opening a task file and finding in its workspace gives the program's answer.
-use Prim.Native.Nat.{ℕ, _+_, _-_, _*_, _<_, _≤_}
+use Prim.Native.Nat.{ℕ, suc, _+_, _-_, _*_, _<_, _≤_}
 use mathlib.Core.Path.{_≡_, refl, sym, ap, _∙_, subst, fun-ext}
 use mathlib.Core.Logic.{inl, inr}
-use mathlib.Core.Bool.{true, false, _&&_}
+use mathlib.Core.Bool.{false, _&&_}
 use mathlib.Core.List.{List, _++_}
 use native.Mathlib.Omega.{arith}
 use native.Mathlib.Nat.{mul-le-mul}
@@ -20,12 +20,13 @@ use Rattle.meaning.specs.Workspace.{wordsFor, wordsDue, has, packed, Content}
 use Rattle.meaning.specs.Answer.{Answer, done, refused, Outcome, refuses, Opens, Finding, FindsBy, Finds}
 use Rattle.meaning.specs.Line.{Found as Answered, separating, nothing, Seeks, Prints}
 use Rattle.theory.specs.Truth.{on, off, test}
+use Rattle.theory.specs.Search.{and-none-right}
 use Rattle.theory.specs.Run.{members, run-members, listed-members, run-same}
 use Rattle.theory.specs.Cut.{cut, cut-below, separates-cut}
 use Rattle.theory.specs.Whole.{whole-cong}
 use Rattle.theory.specs.Words.{has-packed}
 use Rattle.theory.specs.Accepted.{accepted}
-use Rattle.theory.specs.Histories.{StandsFor, opened-stands, stands-formed, stands-content}
+use Rattle.theory.specs.Histories.{opened-stands, stands-formed, stands-content}
 use Rattle.theory.specs.Demands.{none-said, least-given}
 use Rattle.words.specs.Part.{has-front, has-back, has-drop, has-none, has-past}
 use Rattle.opening.specs.Answer.{openedOf}
@@ -34,7 +35,7 @@ use Rattle.opening.specs.declared.Opened.the-variants as opening
 use Rattle.finding.specs.Found.{foundOf}
 use Rattle.finding.specs.declared.Found.{Found}
 use Rattle.finding.specs.declared.Found.the-variants.{Separated, Nothing, Refused}
-use Rattle.line.specs.Answer.{soughtOf}
+use Rattle.line.specs.Answer.{featuresIn, soughtOf}
 
 -- ---- how many words are due
 
@@ -50,7 +51,7 @@ due-fits : (v n : ℕ) → v ≤ mostVariables → n ≤ mostProgramFeatures →
 due-fits v n h k = let words : wordsFor n ≤ weightWords = omega arith in omega (arith, mul-le-mul k words)
 
 due-exceeds : (v n : ℕ) → mostProgramFeatures < n → mostDue < wordsDue v n
-due-exceeds v n h = let words : 11 ≤ wordsFor n = omega arith in let many : 641 ≤ n = omega arith in omega (arith, mul-le-mul many words)
+due-exceeds v n h = let words : suc weightWords ≤ wordsFor n = omega arith in omega (arith, mul-le-mul h words)
 
 -- ---- what the words of the weights list
 
@@ -58,35 +59,39 @@ due-exceeds v n h = let words : 11 ≤ wordsFor n = omega arith in let many : 64
 zeros-behind : (l : List ℕ) (k f : ℕ) → has (l ++ drop (length l) (replicate k 0)) f ≡ has l f
 zeros-behind l k f = elim (test (ltb f (wordBits * length l))) [
   | on e ↦ has-front l _ f (ltb-true _ _ e)
-  | off e ↦ let there : length l * wordBits + (f - length l * wordBits) ≡ f = omega (arith, ltb-false f (wordBits * length l) e) in
+  | off e ↦
+      let there : length l * wordBits + (f - length l * wordBits) ≡ f = omega (arith, ltb-false f (wordBits * length l) e) in
       subst (λ g. has (l ++ drop (length l) (replicate k 0)) g ≡ has l g) there (past (f - length l * wordBits))
 ]
   where
     past : (g : ℕ) → has (l ++ drop (length l) (replicate k 0)) (length l * wordBits + g) ≡ has l (length l * wordBits + g)
     past g = has-back l _ g ∙ has-drop (length l) (replicate k 0) g ∙ has-none k _ ∙ sym (has-past l _ (omega arith))
 
+-- Weights of n features in the first of words that were zeros.
 module _ (n k : ℕ) (w : Set) (fits : n ≤ wordBits * k) (words : List ℕ) (size : length words ≡ k)
     (e : words ≡ packed n w ++ drop (length (packed n w)) (replicate k 0)) where
-  -- The members of the words are those of the weights below n.
-  listed-weights : listed (members (wordBits * length words) (has words)) ≡ cut n w
+  -- The features that the words hold are the weights below n.
+  listed-weights : listed (featuresIn words) ≡ cut n w
   unfolding cut
   listed-weights = fun-ext (λ f. listed-members (wordBits * length words) (has words) f
-      ∙ ap (λ b. ltb f (wordBits * length words) && b) (ap (λ l. has l f) e ∙ zeros-behind (packed n w) k f ∙ has-packed n w f) ∙ below f)
+      ∙ ap (λ b. ltb f (wordBits * length words) && b) (ap (λ l. has l f) e ∙ zeros-behind (packed n w) k f ∙ has-packed n w f)
+      ∙ below f)
     where
       below : (f : ℕ) → (ltb f (wordBits * length words) && (ltb f n && w f)) ≡ (ltb f n && w f)
       below f = elim (test (ltb f n)) [
         | on t ↦ rw (lt-ltb f (wordBits * length words) (omega (arith, ltb-true f n t)))
-        | off t ↦ rw t (elim (ltb f (wordBits * length words)) as (λ b. (b && false) ≡ false) [ true ↦ refl | false ↦ refl ])
+        | off t ↦ rw t (and-none-right (ltb f (wordBits * length words)) false refl)
       ]
 
-  weights-run : Run 0 (members (wordBits * length words) (has words)) n
+  weights-run : Run 0 (featuresIn words) n
   unfolding cut
   weights-run = subst (λ l. Run 0 l n) (sym same) (run-members n w)
     where
-      same : members (wordBits * length words) (has words) ≡ members n w
-      same = run-same 0 _ 0 n _ _ (run-members _ (has words)) (run-members n w) (λ f. ap (λ a. a f) listed-weights ∙ sym (listed-members n w f))
+      same : featuresIn words ≡ members n w
+      same = run-same 0 _ 0 n _ _ (run-members _ (has words)) (run-members n w)
+          (λ f. ap (λ a. a f) listed-weights ∙ sym (listed-members n w f))
 
-  least-weights : (T : Task) → n ≡ features (T .sizes) → LeastOf n (Separates T) w → Seeks T (separating (members (wordBits * length words) (has words)))
+  least-weights : (T : Task) → n ≡ features (T .sizes) → LeastOf n (Separates T) w → Seeks T (separating (featuresIn words))
   least-weights T q best = (
     subst (Run 0 _) q weights-run,
     record {
@@ -98,7 +103,8 @@ module _ (n k : ℕ) (w : Set) (fits : n ≤ wordBits * k) (words : List ℕ) (s
 -- ---- the program's answer
 
 -- A finder with enough room does not refuse a content.
-room-taken : (c : Content) (room left : List ℕ) (number : ℕ) → wordsFor (features (c .sizes)) ≤ length room → FindsBy c room (record { answer = refused number; lent = left }) → ⊥
+room-taken : (c : Content) (room left : List ℕ) (number : ℕ) → wordsFor (features (c .sizes)) ≤ length room
+    → FindsBy c room (record { answer = refused number; lent = left }) → ⊥
 room-taken c room left number h finds = elim (rw (le-ltb (length room) (wordsFor (features (c .sizes))) h) at finds) [
   | inl k ↦ let z : _≡_ {A = ℕ} 0 1 = cc (ap (λ (o : Outcome Finding). o .answer) (k .1)) in omega arith
   | inr k ↦ let z : _≡_ {A = ℕ} 0 1 = cc (ap (λ (o : Outcome Finding). o .answer) (k .2)) in omega arith
@@ -120,7 +126,7 @@ module _ (input : List ℕ) where
         by : (read : Read Task) → judgedTask input ≡ read → Told (outcome .answer)
         by (fault reason place) e =
             let q : outcome ≡ refuses reason room = rw e at opens in
-            subst Told (sym (ap (λ (o : Outcome ℕ). o .answer) q)) (rw (le-ltb mostInput (length input) few, e) refl)
+            rw (q, le-ltb mostInput (length input) few, e) refl
         by (got T next) e =
             let v = length (T .sizes) in
             let n = features (T .sizes) in
@@ -129,15 +135,16 @@ module _ (input : List ℕ) where
               | on t ↦
                   let short : length room < wordsDue v n = omega (arith, size, due-exceeds v n (ltb-true mostProgramFeatures n t)) in
                   let q : outcome ≡ refuses Small room = rw (e, lt-ltb (length room) (wordsDue v n) short) at opens in
-                  subst Told (sym (ap (λ (o : Outcome ℕ). o .answer) q)) (rw (le-ltb mostInput (length input) few, e, t) refl)
+                  rw (q, le-ltb mostInput (length input) few, e, t) refl
               | off t ↦
                   let total : n ≤ mostProgramFeatures = ltb-false mostProgramFeatures n t in
                   let long : wordsDue v n ≤ length room = omega (arith, size, due-fits v n (limits .variables .1) total) in
                   let (slots, are, q) = rw (e, le-ltb (length room) (wordsDue v n) long) at opens in
-                  subst Told (sym (ap (λ (o : Outcome ℕ). o .answer) q)) (T, next, e, total)
+                  rw q (T, next, e, total)
             ]
 
-    seeks-prints : (T : Task) (next : ℕ) (found : Answered) → judgedTask input ≡ got T next → features (T .sizes) ≤ mostProgramFeatures → Seeks T found → Prints input (done found)
+    seeks-prints : (T : Task) (next : ℕ) (found : Answered) → judgedTask input ≡ got T next → features (T .sizes) ≤ mostProgramFeatures
+        → Seeks T found → Prints input (done found)
     seeks-prints T next found e total seeks =
         rw (le-ltb mostInput (length input) few, e, le-ltb mostProgramFeatures (features (T .sizes)) total) (found, refl, seeks)
 
@@ -149,28 +156,32 @@ module _ (input : List ℕ) where
         opens-done : Opens input room (record { answer = done due; lent = workspace })
         opens-done = rw is at opens
 
-        stands : (T : Task) × StandsFor T workspace × (features (T .sizes) ≤ mostProgramFeatures)
-        stands = let (T, next, e, total) = told _ opens-done in (T, opened-stands T input room workspace next due e opens-done, total)
-
         -- The finder does not refuse the opened workspace and so many words.
         not-refused : (left : List ℕ) (number : ℕ) → Finds workspace (replicate weightWords 0) (record { answer = refused number; lent = left }) → ⊥
-        not-refused left number (inl h) = let (T, S, total) = stands in h .0 (stands-formed T workspace S)
-        not-refused left number (inr (formed, h)) =
-            let (T, S, total) = stands in
-            let few : features (formed .content .sizes) ≤ mostProgramFeatures = omega (arith, ap (λ c. features (c .sizes)) (stands-content T workspace S formed)) in
-            room-taken (formed .content) (replicate weightWords 0) left number (omega (arith, length-replicate {A = ℕ} weightWords 0)) h
+        not-refused left number finds =
+            let (T, next, e, total) = told _ opens-done in
+            let S = opened-stands T input room workspace next due e opens-done in
+            elim finds [
+              | inl h ↦ h .0 (stands-formed T workspace S)
+              | inr (formed, h) ↦
+                  let content = stands-content T workspace S formed in
+                  let n : features (formed .content .sizes) ≤ mostProgramFeatures = omega (arith, ap (λ c. features (c .sizes)) content) in
+                  room-taken (formed .content) (replicate weightWords 0) left number (omega (arith, length-replicate {A = ℕ} weightWords 0)) h
+            ]
 
-        pub sought : (words weights : List ℕ) (found : Found) → words ≡ replicate weightWords 0 → length weights ≡ length words
-            → Finds workspace words (record { answer = foundOf found; lent = weights }) → Prints input (soughtOf found weights)
-        sought words weights found zeros size finds = by found (rw zeros at finds)
-          where
-            by : (found : Found) → Finds workspace (replicate weightWords 0) (record { answer = foundOf found; lent = weights }) → Prints input (soughtOf found weights)
-            by Separated h =
-                let (T, next, e, total) = told _ opens-done in
-                let (w, best, q) = least-given input T next e room workspace due opens-done (replicate weightWords 0) weights h in
-                let many : length weights ≡ weightWords = size ∙ ap length zeros ∙ length-replicate {A = ℕ} weightWords 0 in
-                seeks-prints T next _ e total (least-weights (features (T .sizes)) weightWords w total weights many q T refl best)
-            by Nothing h =
-                let (T, next, e, total) = told _ opens-done in
-                seeks-prints T next nothing e total (none-said input T next e room workspace due opens-done (replicate weightWords 0) weights h)
-            by (Refused number) h = absurd (not-refused weights number h)
+        found-so : (left : List ℕ) (found : Found) → length left ≡ weightWords
+            → Finds workspace (replicate weightWords 0) (record { answer = foundOf found; lent = left }) → Prints input (soughtOf found left)
+        found-so left Separated many finds =
+            let (T, next, e, total) = told _ opens-done in
+            let (w, best, q) = least-given input T next e room workspace due opens-done (replicate weightWords 0) left finds in
+            seeks-prints T next _ e total (least-weights (features (T .sizes)) weightWords w total left many q T refl best)
+        found-so left Nothing many finds =
+            let (T, next, e, total) = told _ opens-done in
+            seeks-prints T next nothing e total (none-said input T next e room workspace due opens-done (replicate weightWords 0) left finds)
+        found-so left (Refused number) many finds = absurd (not-refused left number finds)
+
+        -- What is found in the opened workspace, in words that were zeros, is the program's answer.
+        pub sought : (weights left : List ℕ) (found : Found) → weights ≡ replicate weightWords 0 → length left ≡ length weights
+            → Finds workspace weights (record { answer = foundOf found; lent = left }) → Prints input (soughtOf found left)
+        sought weights left found zeros same finds =
+            found-so left found (same ∙ ap length zeros ∙ length-replicate {A = ℕ} weightWords 0) (rw zeros at finds)

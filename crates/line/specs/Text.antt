@@ -1,18 +1,16 @@
 -- Bytes copied into a text, and the parts of a line one behind the other.
-use Prim.Native.Nat.{ℕ, _+_, _*_, _<_, _≤_}
+use Prim.Native.Nat.{ℕ, _+_, _<_, _≤_}
 use mathlib.Core.Path.{_≡_, sym, ap, _∙_}
 use mathlib.Core.List.{List, [], _∷_, _++_, append-assoc}
 use native.Mathlib.Omega.{arith}
 use native.Mathlib.Numerals.{add-one}
 use lib.ListN.{length, getD, set, take, drop, length-append}
 use lib.Seq.{paste, paste-suc, take-all, take-at}
-use Rattle.meaning.specs.Limits.{wordBits}
-use Rattle.meaning.specs.Workspace.{has}
-use Rattle.meaning.specs.Answer.{refused}
-use Rattle.meaning.specs.Line.{word, wordsIn, line}
-use Rattle.theory.specs.Run.{members}
+use Rattle.meaning.specs.Answer.{done, refused}
+use Rattle.meaning.specs.Line.{separating, word, wordsIn, line}
+use Rattle.decimal.specs.Decimal.{wordWidth, word-few}
 use Rattle.decimal.specs.Written.{Written, written-behind}
-use Rattle.line.specs.Answer.{separatedBy}
+use Rattle.line.specs.Answer.{featuresIn}
 
 -- ---- bytes copied
 
@@ -39,16 +37,26 @@ written-front entry part exit after w = ap (take after) (w .stands) ∙ take-at 
 pub written-within : (entry part exit : List ℕ) (after : ℕ) → Written entry 0 part after exit → after ≤ length exit
 written-within entry part exit after w = omega (arith, w .place, ap length (w .stands), length-append part (drop after entry))
 
--- Three parts behind the first make the line for weights that separate.
-pub separated-written : (weights : List ℕ) {text : List ℕ} {first : ℕ} {line₁ : List ℕ} {second : ℕ} {line₂ : List ℕ} {third : ℕ} {line₃ : List ℕ} {end : ℕ} {line₄ : List ℕ}
-    → let found = members (wordBits * length weights) (has weights) in (count : ℕ) → count ≡ length found → first ≤ length line₁
-    → Written text 0 (115 ∷ 101 ∷ 112 ∷ 97 ∷ 114 ∷ 97 ∷ 116 ∷ 101 ∷ 100 ∷ []) first line₁ → Written line₁ first (word count) second line₂
-    → Written line₂ second (wordsIn found) third line₃ → Written line₃ third (10 ∷ []) end line₄ → Written text 0 (line (separatedBy weights)) end line₄
+-- A word has few bytes.
+pub word-ends : (at n after : ℕ) → after ≡ at + length (word n) → after ≤ at + wordWidth
+word-ends at n after e = omega (arith, word-few n)
+
+-- The line for weights that separate, part by part.
+pub separated-written : (weights : List ℕ) {text line₁ line₂ line₃ line₄ : List ℕ} {first second third end : ℕ} (count : ℕ)
+    → count ≡ length (featuresIn weights) → first ≤ length line₁
+    → Written text 0 (115 ∷ 101 ∷ 112 ∷ 97 ∷ 114 ∷ 97 ∷ 116 ∷ 101 ∷ 100 ∷ []) first line₁
+    → Written line₁ first (word count) second line₂
+    → Written line₂ second (wordsIn (featuresIn weights)) third line₃
+    → Written line₃ third (10 ∷ []) end line₄
+    → Written text 0 (line (done (separating (featuresIn weights)))) end line₄
 unfolding line wordsIn
 separated-written weights count e h a b c d = written-behind (omega arith) a (written-behind h (written-behind h (rw e at b) c) d)
 
-pub refused-written : (number : ℕ) {text : List ℕ} {first : ℕ} {line₁ : List ℕ} {second : ℕ} {line₂ : List ℕ} {end : ℕ} {line₃ : List ℕ} → first ≤ length line₁
-    → Written text 0 (114 ∷ 101 ∷ 102 ∷ 117 ∷ 115 ∷ 101 ∷ 100 ∷ []) first line₁ → Written line₁ first (word number) second line₂
-    → Written line₂ second (10 ∷ []) end line₃ → Written text 0 (line (refused number)) end line₃
+-- The line for a refusal, part by part.
+pub refused-written : (number : ℕ) {text line₁ line₂ line₃ : List ℕ} {first second end : ℕ} → first ≤ length line₁
+    → Written text 0 (114 ∷ 101 ∷ 102 ∷ 117 ∷ 115 ∷ 101 ∷ 100 ∷ []) first line₁
+    → Written line₁ first (word number) second line₂
+    → Written line₂ second (10 ∷ []) end line₃
+    → Written text 0 (line (refused number)) end line₃
 unfolding line
 refused-written number h a b c = written-behind (omega arith) a (written-behind h b c)

@@ -2,11 +2,11 @@
 ghost use mathlib.Core.Path.{_≡_};
 ghost use Prim.Native.Nat.{_+_, _^_, _<_, _≤_};
 ghost use lib.ListN.{length, replicate};
-ghost use Rattle.meaning.specs.Line.{mostDigits, line, Prints};
-ghost use Rattle.meaning.specs.Answer.{refused, delivered};
+ghost use Rattle.meaning.specs.Line.{separating, Prints, mostDigits, line};
+ghost use Rattle.meaning.specs.Answer.{done, refused, delivered};
 ghost use Rattle.decimal.specs.Written.{Written};
-ghost use Rattle.line.specs.Answer.{Lines, printedOf, soughtOf, separatedBy};
-ghost use Rattle.line.specs.Sought.{weightWords};
+ghost use Rattle.line.specs.Answer.{Lines, printedOf, featuresIn, soughtOf};
+ghost use Rattle.line.specs.Sought.{mostDue, weightWords};
 ghost use Rattle.line.specs.Fits.{lineBytes, ShortNumber};
 use decimal::WORD_WIDTH;
 use finding::Found;
@@ -36,17 +36,16 @@ const WORKSPACE_WORDS: usize = 1 + 3 * MOST_VARIABLES + WEIGHT_WORDS + MOST_FEAT
 // The longest line: `separated`, the count and the most features, and the line's end.
 pub const LINE_BYTES: usize = 9 + WORD_WIDTH * (1 + MOST_FEATURES) + 1;
 
-// Finds the least weights for a task file. The words of the weights come as zeros.
-fn seek(input: &[u8], weights: &mut [u64]) -> Found
-    requires { ⌜ now weights ≡ replicate weightWords 0 ⌝ }
+// Finds the least weights for a task file. Its workspace is spent, and the words of the weights come as zeros.
+fn seek(input: &[u8], workspace: &mut [u64], weights: &mut [u64]) -> Found
+    requires { ⌜ (length (now workspace) ≡ mostDue) × (now weights ≡ replicate weightWords 0) ⌝ }
     ensures { λ r. ⌜ Prints (now (input .entry)) (soughtOf r (now (weights .exit))) ⌝ }
 {
     if MOST_INPUT < input.len() {
         return Found::Refused(number::refusal(Reason::Small));
     }
-    let mut workspace = [0u64; WORKSPACE_WORDS];
-    match opening::open(input, &mut workspace) {
-        Opened::Opened(_) => finding::find(&workspace, weights),
+    match opening::open(input, workspace) {
+        Opened::Opened(_) => finding::find(workspace, weights),
         Opened::Refused(number) => Found::Refused(number),
     }
 }
@@ -67,10 +66,11 @@ fn put(text: &mut [u8], at: usize, bytes: &[u8]) -> usize
 // Puts the line for weights that separate.
 fn put_separated(text: &mut [u8], weights: &[u64]) -> usize
     requires { ⌜ (length (now text) ≡ lineBytes) × (length (now weights) ≡ weightWords) ⌝ }
-    ensures { λ r. ⌜ Written (now (text .entry)) 0 (line (separatedBy (now (weights .entry)))) r (now (text .exit)) ⌝ }
+    ensures { λ r. ⌜ Written (now (text .entry)) 0 (line (done (separating (featuresIn (now (weights .entry)))))) r (now (text .exit)) ⌝ }
 {
+    let count = decimal::count(weights);
     let first = put(text, 0, b"separated");
-    let second = decimal::put_word(text, first, decimal::count(weights));
+    let second = decimal::put_word(text, first, count);
     let third = decimal::put_members(text, second, weights);
     put(text, third, b"\n")
 }
@@ -111,8 +111,9 @@ fn deliver(text: &[u8], room: &mut [u8]) -> Printed
 pub fn line(input: &[u8], room: &mut [u8]) -> Printed
     ensures { λ r. ⌜ Lines (now (input .entry)) (now (room .entry)) (record { answer = printedOf r; lent = now (room .exit) }) ⌝ }
 {
+    let mut workspace = [0u64; WORKSPACE_WORDS];
     let mut weights = [0u64; WEIGHT_WORDS];
-    let found = seek(input, &mut weights);
+    let found = seek(input, &mut workspace, &mut weights);
     let mut text = [0u8; LINE_BYTES];
     let end = put_line(&mut text, found, &weights);
     deliver(&text[..end], room)

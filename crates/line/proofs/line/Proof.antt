@@ -12,6 +12,9 @@ use Rattle.line.proofs.line.Tie as tie
 slice-aggregate-seek : tie.Need-slice-aggregate-seek
 slice-aggregate-seek c = search needs
 
+slice-aggregate-seek-2 : tie.Need-slice-aggregate-seek-2
+slice-aggregate-seek-2 c = search needs
+
 seek-requires : tie.Need-seek-requires
 seek-requires c κs = search needs
 
@@ -23,9 +26,9 @@ slice-aggregate-put-line-2 c = search needs
 
 put-line-requires : tie.Need-put-line-requires
 put-line-requires c κs =
-    let input = c .before .before .before .before .before .before .before .args .input .now in
-    let sought = c .before .before .before .seek in
-    (search needs, search needs, prints-short input (sought .last .1 .0) (sought .result) (sought .ensures))
+    let input = c .before .before .before .before .before .before .before .before .before .args .input .now in
+    let sought = c .before .before .before .before .seek in
+    (search needs, search needs, prints-short input (sought .last .1 .1 .0) (sought .result) (sought .ensures))
 
 array-share-prefix-text : tie.Need-array-share-prefix-text
 array-share-prefix-text c = omega (arith, written-within _ _ _ _ (c .before .put-line .ensures))
@@ -41,15 +44,16 @@ same-length c = search needs
 
 returns : tie.Need-returns
 returns c =
-    let room = c .before .before .before .before .before .before .before .before .before .before .before .before .before .before .args .room .now in
+    let room = c .before .before .before .before .before .before .before .before .before .before .before .before .before .before .before .before .args .room .now in
     let text = c .before .before .before .before .before .before .put-line .ensures in
-    (_, c .before .before .before .before .before .before .before .before .before .before .seek .ensures, c .before .before .deliver .ensures ∙ ap (λ bytes. delivered bytes room) (written-front _ _ _ _ text))
+    (_, c .before .before .before .before .before .before .before .before .before .before .before .seek .ensures, c .before .before .deliver .ensures ∙ ap (λ bytes. delivered bytes room) (written-front _ _ _ _ text))
 
 pub line-spec : {M : Type 1} → statement M
 line-spec =
     tie.close
     (tie.spec
     slice-aggregate-seek
+    slice-aggregate-seek-2
     seek-requires
     slice-aggregate-put-line
     slice-aggregate-put-line-2

@@ -1,7 +1,6 @@
 -- `put_refused`: three parts one behind the other.
 use native.Mathlib.Omega.{arith}
-use Rattle.decimal.specs.Decimal.{word-few}
-use Rattle.line.specs.Text.{refused-written}
+use Rattle.line.specs.Text.{word-ends, refused-written}
 use borrow.Author.Needs.{needs}
 use Rattle.line.proofs.put_refused.Statement.{statement}
 use Rattle.line.proofs.put_refused.Tie as tie
@@ -20,9 +19,8 @@ slice-aggregate-put-2 c = search needs
 
 put-requires-2 : tie.Need-put-requires-2
 put-requires-2 c κs =
-    let number = c .before .before .before .before .before .before .before .before .before .before .before .before .args .number in
     let first = c .before .before .before .before .before .before .before .before .put .ensures in
-    omega (arith, first .place, c .before .before .before .before .put-word .ensures .0, word-few number)
+    omega (arith, first .place, word-ends _ _ _ (c .before .before .before .before .put-word .ensures .0))
 
 same-length : tie.Need-same-length
 same-length c = search needs

@@ -1,0 +1,102 @@
+//! Runs each call once and holds the answers and words against each other; a difference ends the run.
+
+use crate::m4ri::{self, Echelon};
+use crate::plain::{self, Task};
+use crate::tasks::Case;
+use crate::{answer, library};
+
+/// What a case is like, once all its answers agree.
+pub struct Checked {
+    pub features: usize,
+    pub operators: usize,
+    pub rows: Vec<u64>,
+    pub workspace: Vec<u64>,
+    /// How many slots are not empty.
+    pub filled: usize,
+    pub separates: bool,
+}
+
+impl Checked {
+    /// How many words a set of features takes.
+    pub fn width(&self) -> usize {
+        self.features.div_ceil(64)
+    }
+
+    pub fn row_count(&self) -> usize {
+        self.rows.len() / self.width()
+    }
+
+    /// The slots that are not empty, one after the other.
+    fn filled_slots(&self) -> Vec<u64> {
+        let slots = &self.workspace[self.workspace.len() - self.features * self.width()..];
+        let filled = slots
+            .chunks_exact(self.width())
+            .filter(|slot| slot.iter().any(|&word| word != 0));
+        filled.flatten().copied().collect()
+    }
+}
+
+/// More words than any workspace has, of a value that no call leaves by chance.
+fn room(words: usize) -> Vec<u64> {
+    vec![0xA5A5_A5A5_A5A5_A5A5; words]
+}
+
+pub fn check(case: &Case) -> Result<Checked, String> {
+    let task = Task::read(&case.file).map_err(|refusal| format!("refused: {refusal:?}"))?;
+    let features = task.features.count();
+    let mut checked = Checked {
+        features,
+        operators: task.operators.len(),
+        rows: plain::rows_of(&task),
+        workspace: opened(&case.file, features)?,
+        filled: 0,
+        separates: false,
+    };
+    checked.separates = separated(&checked)?;
+    let filled = checked.filled_slots();
+    checked.filled = filled.len() / checked.width();
+    check_echelon(&checked, &filled)?;
+    Ok(checked)
+}
+
+/// The workspace that both openings make.
+fn opened(file: &[u8], features: usize) -> Result<Vec<u64>, String> {
+    let words = 300 + features * features.div_ceil(64);
+    let (mut of_library, mut of_plain) = (room(words), room(words));
+    let answer = library::open(file, &mut of_library);
+    if answer != answer::opened(plain::open(file, &mut of_plain)) {
+        return Err("the openings answer differently".into());
+    }
+    if of_library != of_plain {
+        return Err("the openings leave different words".into());
+    }
+    of_library.truncate(answer::value(answer).ok_or("the opening is refused")?);
+    Ok(of_library)
+}
+
+/// Whether both finders find weights, the same ones.
+fn separated(checked: &Checked) -> Result<bool, String> {
+    let words = checked.width() + 1;
+    let (mut of_library, mut of_plain) = (room(words), room(words));
+    let answer = library::find(&checked.workspace, &mut of_library);
+    if answer != answer::found(plain::find(&checked.workspace, &mut of_plain)) {
+        return Err("the finders answer differently".into());
+    }
+    if of_library != of_plain {
+        return Err("the finders leave different words".into());
+    }
+    Ok(answer == 0)
+}
+
+/// libm4ri's reduced echelon form is the slots that are not empty.
+fn check_echelon(checked: &Checked, filled: &[u64]) -> Result<(), String> {
+    let mut echelon = Echelon::new(&checked.rows, checked.features);
+    for (way, name) in m4ri::WAYS.iter().enumerate() {
+        echelon.refill();
+        let rank = echelon.reduce(way);
+        if echelon.words(rank) != filled {
+            return Err(format!("{name} is another form than the slots"));
+        }
+    }
+    Ok(())
+}

@@ -1,0 +1,41 @@
+//! The proved library's functions as they are exported, and safe wrappers over them.
+
+// In C a slice is a pointer and then a length.
+extern "C" {
+    fn florumeja_open(
+        task: *const u8,
+        task_length: usize,
+        room: *mut u64,
+        room_length: usize,
+    ) -> u64;
+    fn florumeja_find(
+        workspace: *const u64,
+        workspace_length: usize,
+        room: *mut u64,
+        room_length: usize,
+    ) -> u64;
+    fn florumeja_build(bay: *const u8, bay_length: usize, room: *mut u8, room_length: usize)
+        -> u64;
+}
+
+pub fn open(task: &[u8], room: &mut [u64]) -> u64 {
+    // SAFETY: both slices are alive and apart; only the room is lent for writing.
+    unsafe { florumeja_open(task.as_ptr(), task.len(), room.as_mut_ptr(), room.len()) }
+}
+
+pub fn find(workspace: &[u64], room: &mut [u64]) -> u64 {
+    // SAFETY: both slices are alive and apart; only the room is lent for writing.
+    unsafe {
+        florumeja_find(
+            workspace.as_ptr(),
+            workspace.len(),
+            room.as_mut_ptr(),
+            room.len(),
+        )
+    }
+}
+
+pub fn build(bay: &[u8], room: &mut [u8]) -> u64 {
+    // SAFETY: both slices are alive and apart; only the room is lent for writing.
+    unsafe { florumeja_build(bay.as_ptr(), bay.len(), room.as_mut_ptr(), room.len()) }
+}

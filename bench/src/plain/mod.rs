@@ -1,0 +1,14 @@
+//! Plain Rust of the library's algorithm, as one would write it without proofs.
+
+mod features;
+mod file;
+mod pairs;
+mod rows;
+mod set;
+mod slots;
+mod task;
+mod workspace;
+
+pub use file::Refusal;
+pub use task::Task;
+pub use workspace::{find, open, rows_of};

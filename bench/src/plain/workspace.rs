@@ -1,0 +1,164 @@
+//! A workspace in lent words: opened from a task file, and searched for the least weights that separate.
+
+use super::features::{Atom, Features, MOST_FEATURES};
+use super::file::Refusal;
+use super::pairs::Pairs;
+use super::rows::Rows;
+use super::set;
+use super::slots::{self, Slots};
+use super::task::{Task, MOST_SIZE, MOST_VARIABLES};
+
+/// Where the parts of a workspace begin; the sizes begin behind the first word.
+struct Layout {
+    start: usize,
+    goal: usize,
+    pairs: usize,
+    slots: usize,
+    end: usize,
+}
+
+impl Layout {
+    fn new(features: &Features) -> Layout {
+        let variables = features.variables();
+        let start = 1 + variables;
+        let goal = start + variables;
+        let pairs = goal + variables;
+        let slots = pairs + features.words();
+        let end = slots + features.count() * features.words();
+        Layout {
+            start,
+            goal,
+            pairs,
+            slots,
+            end,
+        }
+    }
+}
+
+/// Opens a workspace, and answers how many words are due.
+pub fn open(file: &[u8], room: &mut [u64]) -> Result<usize, Refusal> {
+    let task = Task::read(file)?;
+    let layout = Layout::new(&task.features);
+    let workspace = room.get_mut(..layout.end).ok_or(Refusal::Small)?;
+    let (header, slots) = workspace.split_at_mut(layout.slots);
+    fill_header(&task, header);
+    slots.fill(0);
+    visit_rows(&task, |row| slots::insert(slots, row));
+    Ok(layout.end)
+}
+
+fn fill_header(task: &Task, header: &mut [u64]) {
+    let numbers = [task.features.variables()]
+        .into_iter()
+        .chain(task.features.sizes().iter().copied())
+        .chain(task.start.iter().copied())
+        .chain(task.goal.iter().copied())
+        .map(|number| number as u64);
+    let words = numbers.chain(task.listed.iter().copied());
+    for (word, value) in header.iter_mut().zip(words) {
+        *word = value;
+    }
+}
+
+/// Hands over the rows of each operator that is not idle.
+fn visit_rows(task: &Task, mut visit: impl FnMut(&mut [u64])) {
+    let pairs = task.pairs();
+    for operator in &task.operators {
+        let possible = pairs.possible(operator);
+        if !pairs.is_idle(operator, &possible) {
+            Rows::new(&task.features, operator, &possible).visit(&mut visit);
+        }
+    }
+}
+
+/// The rows of a task one after the other, each of as many words as its features take.
+pub fn rows_of(task: &Task) -> Vec<u64> {
+    let mut rows = Vec::new();
+    visit_rows(task, |row| rows.extend_from_slice(row));
+    rows
+}
+
+/// A well formed workspace, cut into its parts.
+struct Parts<'a> {
+    features: Features,
+    start: Vec<usize>,
+    goal: Vec<usize>,
+    slots: Slots<'a>,
+}
+
+impl Parts<'_> {
+    fn of(workspace: &[u64]) -> Option<Parts<'_>> {
+        let features = features_of(workspace)?;
+        let layout = Layout::new(&features);
+        let workspace = workspace.get(..layout.end)?;
+        let start = state_of(&features, &workspace[layout.start..layout.goal])?;
+        let goal = state_of(&features, &workspace[layout.goal..layout.pairs])?;
+        let listed = &workspace[layout.pairs..layout.slots];
+        let slots = Slots::new(&workspace[layout.slots..], features.words());
+        let formed = set::least(listed).is_none_or(|least| least >= features.atoms())
+            && set::is_below(listed, features.count())
+            && !Pairs::new(&features, listed).are_held_by(&start)
+            && slots.are_reduced(features.count());
+        formed.then_some(Parts {
+            features,
+            start,
+            goal,
+            slots,
+        })
+    }
+}
+
+fn features_of(workspace: &[u64]) -> Option<Features> {
+    let variables = number_within(*workspace.first()?, MOST_VARIABLES)?;
+    let sizes = workspace
+        .get(1..1 + variables)?
+        .iter()
+        .map(|&size| number_within(size, MOST_SIZE))
+        .collect::<Option<Vec<usize>>>()?;
+    let features = Features::new(sizes);
+    (features.count() <= MOST_FEATURES).then_some(features)
+}
+
+fn number_within(word: u64, most: usize) -> Option<usize> {
+    let number = usize::try_from(word).ok()?;
+    (1..=most).contains(&number).then_some(number)
+}
+
+fn state_of(features: &Features, words: &[u64]) -> Option<Vec<usize>> {
+    features
+        .sizes()
+        .iter()
+        .zip(words)
+        .map(|(&size, &word)| usize::try_from(word).ok().filter(|&value| value < size))
+        .collect()
+}
+
+/// Whether weights separate; the least that do go to the first words of the room.
+pub fn find(workspace: &[u64], room: &mut [u64]) -> Result<bool, Refusal> {
+    let parts = Parts::of(workspace).ok_or(Refusal::Malformed)?;
+    let width = parts.features.words();
+    let weights = room.get_mut(..width).ok_or(Refusal::Small)?;
+    let mut difference = vec![0; width];
+    toggle_true(&parts.features, &parts.start, &mut difference);
+    toggle_true(&parts.features, &parts.goal, &mut difference);
+    parts.slots.reduce(&mut difference);
+    let least = set::least(&difference);
+    if let Some(index) = least {
+        parts.slots.witness(index, weights);
+    }
+    Ok(least.is_some())
+}
+
+/// Toggles the features that are true in a state.
+fn toggle_true(features: &Features, state: &[usize], row: &mut [u64]) {
+    let atom = |variable: usize| Atom {
+        variable,
+        value: state[variable],
+    };
+    for high in 0..state.len() {
+        set::toggle(row, features.single(atom(high)));
+        for low in 0..high {
+            set::toggle(row, features.pair(atom(low), atom(high)));
+        }
+    }
+}

@@ -1,0 +1,145 @@
+//! The table of all measurements, and whether the targets are met.
+
+use crate::check::Checked;
+use crate::m4ri;
+use crate::measure::Times;
+use crate::tasks::Case;
+
+/// The library takes at most so many times as long as the plain Rust.
+const PLAIN_TARGET: f64 = 1.5;
+
+/// The library opens the large bay at least so many times faster than libm4ri reduces its rows.
+const ECHELON_TARGET: f64 = 3.0;
+
+/// One line of the table: a case and a call, with seconds and ratios.
+pub struct Line {
+    case: String,
+    call: &'static str,
+    size: String,
+    library: f64,
+    plain: f64,
+    over_plain: f64,
+    echelon: Option<Echelon>,
+    is_target: bool,
+}
+
+/// libm4ri's best way.
+struct Echelon {
+    seconds: f64,
+    over_library: f64,
+    way: &'static str,
+}
+
+impl Line {
+    /// A line from the times of the library, of the plain Rust and of libm4ri's ways, in this order.
+    pub fn new(case: &Case, call: &'static str, checked: &Checked, times: &[Times]) -> Line {
+        Line {
+            case: case.name.clone(),
+            call,
+            size: size(checked),
+            library: times[0].median(),
+            plain: times[1].median(),
+            over_plain: times[0].over(&times[1]),
+            echelon: best(&times[0], &times[2..]),
+            is_target: case.is_large_bay,
+        }
+    }
+}
+
+fn size(checked: &Checked) -> String {
+    format!(
+        "{} | {} | {} | {}",
+        checked.features,
+        checked.operators,
+        checked.row_count(),
+        checked.filled
+    )
+}
+
+fn best(library: &Times, ways: &[Times]) -> Option<Echelon> {
+    let all = ways.iter().zip(m4ri::WAYS).map(|(times, way)| Echelon {
+        seconds: times.median(),
+        over_library: times.over(library),
+        way,
+    });
+    all.min_by(|one, other| one.seconds.total_cmp(&other.seconds))
+}
+
+/// A time in the unit that suits it.
+fn shown(seconds: f64) -> String {
+    if seconds < 1e-3 {
+        format!("{:.1} µs", seconds * 1e6)
+    } else {
+        format!("{:.2} ms", seconds * 1e3)
+    }
+}
+
+pub fn print(lines: &[Line]) {
+    println!("| case | features | operators | rows | slots filled | call | library | plain Rust | library / plain | libm4ri | libm4ri / library |");
+    println!("|---|---|---|---|---|---|---|---|---|---|---|");
+    for line in lines {
+        print_line(line);
+    }
+    println!();
+    print_plain_target(lines);
+    print_echelon_target(lines);
+}
+
+fn print_line(line: &Line) {
+    let echelon = match &line.echelon {
+        Some(best) => format!(
+            "{} ({}) | {:.2}",
+            shown(best.seconds),
+            best.way,
+            best.over_library
+        ),
+        None => "- | -".to_string(),
+    };
+    println!(
+        "| {} | {} | {} | {} | {} | {:.2} | {echelon} |",
+        line.case,
+        line.size,
+        line.call,
+        shown(line.library),
+        shown(line.plain),
+        line.over_plain,
+    );
+}
+
+fn verdict(is_met: bool) -> &'static str {
+    if is_met {
+        "met"
+    } else {
+        "missed"
+    }
+}
+
+fn print_plain_target(lines: &[Line]) {
+    let worst = lines
+        .iter()
+        .max_by(|one, other| one.over_plain.total_cmp(&other.over_plain));
+    if let Some(line) = worst {
+        println!(
+            "target {PLAIN_TARGET} (library over plain Rust, at most): {}; the largest is {:.2}, {} of {}",
+            verdict(line.over_plain <= PLAIN_TARGET),
+            line.over_plain,
+            line.call,
+            line.case
+        );
+    }
+}
+
+fn print_echelon_target(lines: &[Line]) {
+    let measured = lines
+        .iter()
+        .filter(|line| line.is_target)
+        .find_map(|line| line.echelon.as_ref());
+    match measured {
+        Some(best) => println!(
+            "target {ECHELON_TARGET} (libm4ri over library on the 3 by 3 bay's rows, at least): {}; it is {:.2}",
+            verdict(best.over_library >= ECHELON_TARGET),
+            best.over_library
+        ),
+        None => println!("target {ECHELON_TARGET} (libm4ri over library): not measured, libm4ri is missing"),
+    }
+}

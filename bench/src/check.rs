@@ -1,7 +1,7 @@
 //! Runs each call once and holds the answers and words against each other; a difference ends the run.
 
 use crate::m4ri::{self, Echelon};
-use crate::plain::{self, Task};
+use crate::plain::{self, Task, WORD_BITS};
 use crate::tasks::Case;
 use crate::{answer, library};
 
@@ -19,7 +19,7 @@ pub struct Checked {
 impl Checked {
     /// How many words a set of features takes.
     pub fn width(&self) -> usize {
-        self.features.div_ceil(64)
+        self.features.div_ceil(WORD_BITS)
     }
 
     pub fn row_count(&self) -> usize {
@@ -36,7 +36,10 @@ impl Checked {
     }
 }
 
-/// More words than any workspace has, of a value that no call leaves by chance.
+/// More words than a workspace has in front of its slots.
+const MORE_THAN_HEADER: usize = 300;
+
+/// Words that no call leaves by chance.
 fn room(words: usize) -> Vec<u64> {
     vec![0xA5A5_A5A5_A5A5_A5A5; words]
 }
@@ -55,13 +58,13 @@ pub fn check(case: &Case) -> Result<Checked, String> {
     checked.separates = separated(&checked)?;
     let filled = checked.filled_slots();
     checked.filled = filled.len() / checked.width();
-    check_echelon(&checked, &filled)?;
+    check_ways(&checked, &filled)?;
     Ok(checked)
 }
 
 /// The workspace that both openings make.
 fn opened(file: &[u8], features: usize) -> Result<Vec<u64>, String> {
-    let words = 300 + features * features.div_ceil(64);
+    let words = MORE_THAN_HEADER + features * features.div_ceil(WORD_BITS);
     let (mut of_library, mut of_plain) = (room(words), room(words));
     let answer = library::open(file, &mut of_library);
     if answer != answer::opened(plain::open(file, &mut of_plain)) {
@@ -88,13 +91,12 @@ fn separated(checked: &Checked) -> Result<bool, String> {
     Ok(answer == 0)
 }
 
-/// libm4ri's reduced echelon form is the slots that are not empty.
-fn check_echelon(checked: &Checked, filled: &[u64]) -> Result<(), String> {
+/// Each way of libm4ri has to lead to the slots that are not empty.
+fn check_ways(checked: &Checked, filled: &[u64]) -> Result<(), String> {
     let mut echelon = Echelon::new(&checked.rows, checked.features);
     for (way, name) in m4ri::WAYS.iter().enumerate() {
-        echelon.refill();
-        let rank = echelon.reduce(way);
-        if echelon.words(rank) != filled {
+        echelon.timed_reduction(way);
+        if echelon.words() != filled {
             return Err(format!("{name} is another form than the slots"));
         }
     }

@@ -1,6 +1,9 @@
 //! libm4ri's reduced echelon form, through the C side in m4ri/echelon.c.
 
+use crate::measure;
+use crate::plain::WORD_BITS;
 use std::ffi::{c_int, c_void};
+use std::time::Duration;
 
 extern "C" {
     fn echelon_new(words: *const u64, count: usize, features: usize) -> *mut c_void;
@@ -17,31 +20,35 @@ pub const WAYS: [&str; 3] = ["echelonize", "echelonize_m4ri", "echelonize_pluq"]
 pub struct Echelon {
     matrix: *mut c_void,
     width: usize,
+    /// The rank that the last reduction answered.
+    rank: usize,
 }
 
 impl Echelon {
     pub fn new(rows: &[u64], features: usize) -> Echelon {
-        let width = features.div_ceil(64);
+        let width = features.div_ceil(WORD_BITS);
         // SAFETY: the rows are alive and have `width` words each; they are copied.
         let matrix = unsafe { echelon_new(rows.as_ptr(), rows.len() / width, features) };
-        Echelon { matrix, width }
+        Echelon {
+            matrix,
+            width,
+            rank: 0,
+        }
     }
 
-    /// Makes the worked matrix the rows as they came.
-    pub fn refill(&mut self) {
+    /// Brings the rows as they came to their reduced echelon form, and answers how long that took.
+    pub fn timed_reduction(&mut self, way: usize) -> Duration {
         // SAFETY: the matrix is alive until drop.
-        unsafe { echelon_refill(self.matrix) }
+        unsafe { echelon_refill(self.matrix) };
+        // SAFETY: the same.
+        measure::timed(1, || {
+            self.rank = unsafe { echelon_reduce(self.matrix, way as c_int) }
+        })
     }
 
-    /// Brings the worked matrix to its reduced echelon form, and answers its rank.
-    pub fn reduce(&mut self, way: usize) -> usize {
-        // SAFETY: the matrix is alive until drop.
-        unsafe { echelon_reduce(self.matrix, way as c_int) }
-    }
-
-    /// The first so many rows of the worked matrix.
-    pub fn words(&self, rank: usize) -> Vec<u64> {
-        let places = (0..rank).flat_map(|row| (0..self.width).map(move |word| (row, word)));
+    /// The rows of the reduced form that are not zero, one after the other.
+    pub fn words(&self) -> Vec<u64> {
+        let places = (0..self.rank).flat_map(|row| (0..self.width).map(move |word| (row, word)));
         places
             // SAFETY: the matrix is alive until drop, and has the row and the word.
             .map(|(row, word)| unsafe { echelon_word(self.matrix, row, word) })

@@ -2,6 +2,7 @@
 
 mod answer;
 mod check;
+mod clock;
 mod library;
 #[cfg_attr(not(feature = "m4ri"), path = "no_m4ri.rs")]
 mod m4ri;
@@ -12,37 +13,54 @@ mod tasks;
 
 use check::Checked;
 use m4ri::Echelon;
-use measure::{in_turn, timed, Contestant};
+use measure::{in_turn, timed_warm, Contestant, FIGURE, TRIAL};
 use std::process::ExitCode;
 use table::Line;
 use tasks::Case;
 
-/// Opening by the library, by the plain Rust, and libm4ri's ways to reduce the same rows.
+/// Opening by the library, by the plain Rust, and libm4ri's fastest way to reduce the same rows.
 fn measure_opening(case: &Case, checked: &Checked) -> Line {
     let mut of_library = checked.workspace.clone();
     let mut of_plain = checked.workspace.clone();
     let mut contestants: Vec<Contestant> = vec![
-        Box::new(|| timed(|| library::open(&case.file, &mut of_library))),
-        Box::new(|| timed(|| plain::open(&case.file, &mut of_plain))),
+        Box::new(|repeats| timed_warm(repeats, || library::open(&case.file, &mut of_library))),
+        Box::new(|repeats| timed_warm(repeats, || plain::open(&case.file, &mut of_plain))),
     ];
-    for way in 0..m4ri::WAYS.len() {
-        let mut echelon = Echelon::new(&checked.rows, checked.features);
-        contestants.push(Box::new(move || {
-            echelon.refill();
-            timed(|| echelon.reduce(way))
-        }));
+    let way = fastest_way(checked);
+    contestants.extend(way.map(|way| reduction(checked, way)));
+    let times = in_turn(&FIGURE, contestants);
+    let line = Line::new(case, "open", checked, &times);
+    match way {
+        Some(way) => line.with_echelon(m4ri::WAYS[way], &times[2], &times[0]),
+        None => line,
     }
-    Line::new(case, "open", checked, &in_turn(contestants))
+}
+
+fn fastest_way(checked: &Checked) -> Option<usize> {
+    let ways = 0..m4ri::WAYS.len();
+    let contestants = ways.clone().map(|way| reduction(checked, way)).collect();
+    let times = in_turn(&TRIAL, contestants);
+    ways.min_by(|&one, &other| times[one].median().total_cmp(&times[other].median()))
+}
+
+fn reduction(checked: &Checked, way: usize) -> Contestant<'_> {
+    let mut echelon = Echelon::new(&checked.rows, checked.features);
+    Box::new(move |repeats| (0..repeats).map(|_| echelon.timed_reduction(way)).sum())
 }
 
 fn measure_finding(case: &Case, checked: &Checked) -> Line {
     let mut of_library = vec![0; checked.width()];
     let mut of_plain = vec![0; checked.width()];
     let contestants: Vec<Contestant> = vec![
-        Box::new(|| timed(|| library::find(&checked.workspace, &mut of_library))),
-        Box::new(|| timed(|| plain::find(&checked.workspace, &mut of_plain))),
+        Box::new(|repeats| {
+            timed_warm(repeats, || {
+                library::find(&checked.workspace, &mut of_library)
+            })
+        }),
+        Box::new(|repeats| timed_warm(repeats, || plain::find(&checked.workspace, &mut of_plain))),
     ];
-    Line::new(case, finding(checked), checked, &in_turn(contestants))
+    let times = in_turn(&FIGURE, contestants);
+    Line::new(case, finding(checked), checked, &times)
 }
 
 fn finding(checked: &Checked) -> &'static str {
@@ -53,15 +71,25 @@ fn finding(checked: &Checked) -> &'static str {
     }
 }
 
+fn measure(case: &Case) -> Result<[Line; 2], String> {
+    eprintln!("{} ..", case.name);
+    let checked = check::check(case)?;
+    Ok([
+        measure_opening(case, &checked),
+        measure_finding(case, &checked),
+    ])
+}
+
+/// Measures each case, or those whose names contain the first argument.
 fn main() -> ExitCode {
+    let wanted = std::env::args().nth(1).unwrap_or_default();
     let mut lines = Vec::new();
     for case in tasks::cases() {
-        eprintln!("{} ..", case.name);
-        match check::check(&case) {
-            Ok(checked) => {
-                lines.push(measure_opening(&case, &checked));
-                lines.push(measure_finding(&case, &checked));
-            }
+        if !case.name.contains(&wanted) {
+            continue;
+        }
+        match measure(&case) {
+            Ok(measured) => lines.extend(measured),
             Err(difference) => {
                 eprintln!("{}: {difference}", case.name);
                 return ExitCode::FAILURE;

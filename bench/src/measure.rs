@@ -1,18 +1,36 @@
 //! Measures contestants in turn, so that a busy machine disturbs all of them alike.
 
+use crate::clock;
 use std::time::{Duration, Instant};
 
-/// Runs once, and answers how long that took without its preparation.
-pub type Contestant<'a> = Box<dyn FnMut() -> Duration + 'a>;
+/// Runs so many times, and answers how long that took without any preparation.
+pub type Contestant<'a> = Box<dyn FnMut(u32) -> Duration + 'a>;
 
-const LEAST_ROUNDS: usize = 15;
-const MOST_ROUNDS: usize = 301;
-const BUDGET: Duration = Duration::from_secs(4);
+/// How many rounds there are: no more begin after so long, once there were enough.
+pub struct Plan {
+    least_rounds: usize,
+    most_rounds: usize,
+    budget: Duration,
+}
 
-/// A contestant that is done sooner runs again in its turn.
-const LEAST_TURN: Duration = Duration::from_micros(500);
+/// Enough for a figure in the table.
+pub const FIGURE: Plan = Plan {
+    least_rounds: 15,
+    most_rounds: 301,
+    budget: Duration::from_secs(4),
+};
 
-/// Seconds for each round.
+/// Enough to see which of several ways is the fastest.
+pub const TRIAL: Plan = Plan {
+    least_rounds: 3,
+    most_rounds: 31,
+    budget: Duration::from_secs(2),
+};
+
+/// A contestant that is done sooner runs more than once in its turn.
+const LEAST_TURN: Duration = Duration::from_millis(1);
+
+/// Seconds of one run, for each round.
 pub struct Times {
     seconds: Vec<f64>,
 }
@@ -34,38 +52,40 @@ fn median(mut numbers: Vec<f64>) -> f64 {
     numbers[numbers.len() / 2]
 }
 
-/// How long a call takes.
-pub fn timed<A>(call: impl FnOnce() -> A) -> Duration {
-    let begun = Instant::now();
-    std::hint::black_box(call());
-    begun.elapsed()
+/// How long so many calls take.
+pub fn timed<A>(repeats: u32, mut call: impl FnMut() -> A) -> Duration {
+    let begun = clock::now();
+    for _ in 0..repeats {
+        std::hint::black_box(call());
+    }
+    clock::now() - begun
 }
 
-/// The times of each contestant; each runs once in every round.
-pub fn in_turn(mut contestants: Vec<Contestant>) -> Vec<Times> {
-    let repeats: Vec<u32> = contestants.iter_mut().map(repeats).collect();
-    let mut all: Vec<Times> = contestants
-        .iter()
-        .map(|_| Times { seconds: vec![] })
-        .collect();
+/// How long so many calls take after one that is not counted, so that each turn finds its own words in the caches.
+pub fn timed_warm<A>(repeats: u32, mut call: impl FnMut() -> A) -> Duration {
+    call();
+    timed(repeats, call)
+}
+
+/// The times of each contestant; each has its turn in every round.
+pub fn in_turn(plan: &Plan, mut contestants: Vec<Contestant>) -> Vec<Times> {
+    let repeats: Vec<u32> = contestants.iter_mut().map(repeats_of).collect();
+    let mut all: Vec<Times> = repeats.iter().map(|_| Times { seconds: vec![] }).collect();
     let begun = Instant::now();
-    for round in 0..MOST_ROUNDS {
-        if round >= LEAST_ROUNDS && begun.elapsed() > BUDGET {
+    for round in 0..plan.most_rounds {
+        if round >= plan.least_rounds && begun.elapsed() > plan.budget {
             break;
         }
         for ((times, contestant), &repeats) in all.iter_mut().zip(&mut contestants).zip(&repeats) {
-            times.seconds.push(turn(contestant, repeats));
+            let turn = contestant(repeats);
+            times.seconds.push(turn.as_secs_f64() / f64::from(repeats));
         }
     }
     all
 }
 
-fn repeats(contestant: &mut Contestant) -> u32 {
-    let first = contestant().max(Duration::from_nanos(100));
-    LEAST_TURN.as_nanos().div_ceil(first.as_nanos()) as u32
-}
-
-fn turn(contestant: &mut Contestant, repeats: u32) -> f64 {
-    let total: Duration = (0..repeats).map(|_| contestant()).sum();
-    total.as_secs_f64() / f64::from(repeats)
+/// How many runs make a turn.
+fn repeats_of(contestant: &mut Contestant) -> u32 {
+    let run = contestant(1).max(Duration::from_nanos(100));
+    LEAST_TURN.as_nanos().div_ceil(run.as_nanos()) as u32
 }

@@ -1,4 +1,6 @@
-//! Stands in where libm4ri is not installed: there is no way to measure.
+//! Stands in where libm4ri is not installed: it has no way to measure.
+
+use std::time::Duration;
 
 pub const WAYS: [&str; 0] = [];
 
@@ -9,13 +11,11 @@ impl Echelon {
         Echelon
     }
 
-    pub fn refill(&mut self) {}
-
-    pub fn reduce(&mut self, _way: usize) -> usize {
-        0
+    pub fn timed_reduction(&mut self, _way: usize) -> Duration {
+        Duration::ZERO
     }
 
-    pub fn words(&self, _rank: usize) -> Vec<u64> {
+    pub fn words(&self) -> Vec<u64> {
         Vec::new()
     }
 }

@@ -1,7 +1,6 @@
 //! The table of all measurements, and whether the targets are met.
 
 use crate::check::Checked;
-use crate::m4ri;
 use crate::measure::Times;
 use crate::tasks::Case;
 
@@ -23,7 +22,7 @@ pub struct Line {
     is_target: bool,
 }
 
-/// libm4ri's best way.
+/// libm4ri's fastest way.
 struct Echelon {
     seconds: f64,
     over_library: f64,
@@ -31,7 +30,7 @@ struct Echelon {
 }
 
 impl Line {
-    /// A line from the times of the library, of the plain Rust and of libm4ri's ways, in this order.
+    /// A line from the times of the library and of the plain Rust, which come first.
     pub fn new(case: &Case, call: &'static str, checked: &Checked, times: &[Times]) -> Line {
         Line {
             case: case.name.clone(),
@@ -40,9 +39,19 @@ impl Line {
             library: times[0].median(),
             plain: times[1].median(),
             over_plain: times[0].over(&times[1]),
-            echelon: best(&times[0], &times[2..]),
+            echelon: None,
             is_target: case.is_large_bay,
         }
+    }
+
+    /// The line with the times of one of libm4ri's ways beside those of the library.
+    pub fn with_echelon(mut self, way: &'static str, reduction: &Times, library: &Times) -> Line {
+        self.echelon = Some(Echelon {
+            seconds: reduction.median(),
+            over_library: reduction.over(library),
+            way,
+        });
+        self
     }
 }
 
@@ -54,15 +63,6 @@ fn size(checked: &Checked) -> String {
         checked.row_count(),
         checked.filled
     )
-}
-
-fn best(library: &Times, ways: &[Times]) -> Option<Echelon> {
-    let all = ways.iter().zip(m4ri::WAYS).map(|(times, way)| Echelon {
-        seconds: times.median(),
-        over_library: times.over(library),
-        way,
-    });
-    all.min_by(|one, other| one.seconds.total_cmp(&other.seconds))
 }
 
 /// A time in the unit that suits it.
@@ -87,11 +87,11 @@ pub fn print(lines: &[Line]) {
 
 fn print_line(line: &Line) {
     let echelon = match &line.echelon {
-        Some(best) => format!(
+        Some(echelon) => format!(
             "{} ({}) | {:.2}",
-            shown(best.seconds),
-            best.way,
-            best.over_library
+            shown(echelon.seconds),
+            echelon.way,
+            echelon.over_library
         ),
         None => "- | -".to_string(),
     };
@@ -135,11 +135,11 @@ fn print_echelon_target(lines: &[Line]) {
         .filter(|line| line.is_target)
         .find_map(|line| line.echelon.as_ref());
     match measured {
-        Some(best) => println!(
+        Some(echelon) => println!(
             "target {ECHELON_TARGET} (libm4ri over library on the 3 by 3 bay's rows, at least): {}; it is {:.2}",
-            verdict(best.over_library >= ECHELON_TARGET),
-            best.over_library
+            verdict(echelon.over_library >= ECHELON_TARGET),
+            echelon.over_library
         ),
-        None => println!("target {ECHELON_TARGET} (libm4ri over library): not measured, libm4ri is missing"),
+        None => println!("target {ECHELON_TARGET} (libm4ri over library on the 3 by 3 bay's rows, at least): not measured"),
     }
 }

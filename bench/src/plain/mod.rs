@@ -10,5 +10,6 @@ mod task;
 mod workspace;
 
 pub use file::Refusal;
+pub use set::WORD_BITS;
 pub use task::Task;
 pub use workspace::{find, open, rows_of};

@@ -39,5 +39,7 @@ pub fn members(words: &[u64]) -> impl Iterator<Item = usize> + '_ {
 
 /// Whether every member is below `end`, where the words reach no further than the word of `end`.
 pub fn is_below(words: &[u64], end: usize) -> bool {
-    end % WORD_BITS == 0 || words[end / WORD_BITS] >> (end % WORD_BITS) == 0
+    words
+        .get(end / WORD_BITS)
+        .is_none_or(|word| word >> (end % WORD_BITS) == 0)
 }

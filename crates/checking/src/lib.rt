@@ -14,10 +14,11 @@ ghost use Rattle.condition.specs.Walk.{RowFor};
 ghost use Rattle.task.specs.Answer.{Known};
 ghost use Rattle.checking.specs.Breaking.{breakingFrom};
 ghost use Rattle.checking.specs.Answer.{verdictOf, verdictFrom};
+use limits::HEADER_WORDS;
+use limits::MOST_WORDS;
+use limits::SIZES_AT;
 use number::Step;
-use task::HEADER_WORDS;
 use task::Judged;
-use task::SIZES_AT;
 use words::WORD_BITS;
 
 // The checker's answers: accepted, rejected as the ends are alike, rejected at an operator, or refused with the paper's number.
@@ -27,9 +28,6 @@ pub enum Verdict {
     Operator(usize),
     Refused(u64),
 }
-
-// Room for a bit for each feature of a task.
-const FEATURE_WORDS: usize = 64;
 
 // How many of so many operators come before the first that the weights do not allow; what cannot be read is allowed.
 fn first_breaking(
@@ -104,7 +102,7 @@ fn judge_weights(
         count (now (bytes .entry)) at ⌝ }
 {
     let w = weights.len();
-    let mut row = [0u64; FEATURE_WORDS];
+    let mut row = [0u64; MOST_WORDS];
     if !do_ends_differ(sizes, start, goal, weights, &mut row[..w]) {
         return Verdict::EndsAlike;
     }
@@ -162,7 +160,7 @@ pub fn check(task: &[u8], weights: &[u8]) -> Verdict
             operators,
             at,
         } => {
-            let mut words = [0u64; FEATURE_WORDS];
+            let mut words = [0u64; MOST_WORDS];
             let w = (features + (WORD_BITS - 1)) / WORD_BITS;
             weigh(
                 task,

@@ -1,4 +1,6 @@
 // One operator's condition: whether weights allow it, and its rows inserted into a workspace's slots. The difference of two states.
+use limits::MOST_VARIABLES;
+use limits::MOST_WORDS;
 use rows::Place;
 ghost use mathlib.Core.Path.{_≡_};
 ghost use mathlib.Core.Bool.{true, false};
@@ -25,11 +27,6 @@ ghost use Rattle.rows.specs.Apart.{wantedBy, wantedFrom, placesFrom};
 ghost use Rattle.condition.specs.Ends.{trueAtoms, truePairsOf, truePairs, trueFeatures};
 ghost use Rattle.condition.specs.Walk.{Prepared, RowFor, rowAt, rowsBy, allEven};
 ghost use Rattle.condition.specs.Slotted.{sizeWords, pairWords, heldSlots, slotted, Opened};
-
-// As many words as the most features take, and a place for each variable.
-const MOST_WORDS: usize = 64;
-
-const MOST_VARIABLES: usize = 64;
 
 // Toggles the atoms of a state.
 fn toggle_atoms(sizes: &[u64], state: &[u64], row: &mut [u64])

@@ -1,5 +1,7 @@
 // Edits of a workspace: another goal, another start, one more operator. A refused edit changes no word.
 use formed::Formed;
+use limits::MOST_WORDS;
+use limits::SIZES_AT;
 use number::Reason;
 use operator::Judgement;
 use operator::Operator;
@@ -19,12 +21,6 @@ pub enum Edited {
     Done,
     Refused(u64),
 }
-
-// As many words as the most features take.
-const MOST_WORDS: usize = 64;
-
-// Where the sizes begin.
-const SIZES_AT: usize = 1;
 
 // Judges new values: their length, then each value.
 fn judge_values(sizes: &[u64], values: &[u64]) -> Judgement

@@ -1,5 +1,7 @@
 // The finder: the least weights that separate a workspace's start from its goal, or that there are none.
 use formed::Formed;
+use limits::MOST_WORDS;
+use limits::SIZES_AT;
 use number::Reason;
 use words::WORD_BITS;
 ghost use mathlib.Core.Path.{_≡_};
@@ -22,12 +24,6 @@ pub enum Found {
     Nothing,
     Refused(u64),
 }
-
-// As many words as the most features take.
-const MOST_WORDS: usize = 64;
-
-// Where the sizes begin.
-const SIZES_AT: usize = 1;
 
 // Finds by what is left of the ends' difference once it is reduced by the slots. The row is spent.
 fn search(

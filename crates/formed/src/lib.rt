@@ -9,6 +9,12 @@ ghost use Rattle.theory.specs.Tells.{Tells};
 ghost use Rattle.formed.specs.Tests.{EachSize, Within};
 ghost use Rattle.formed.specs.Parts.{contentFrom, Cut, Sized};
 ghost use Rattle.formed.specs.Formed.{FormedIs};
+use limits::LEAST_SIZE;
+use limits::LEAST_VARIABLES;
+use limits::MOST_FEATURES;
+use limits::MOST_SIZE;
+use limits::MOST_VARIABLES;
+use limits::SIZES_AT;
 use words::WORD_BITS;
 
 // Whether words are a well formed workspace, and how many variables and features it has then.
@@ -17,32 +23,17 @@ pub enum Formed {
     No,
 }
 
-// "v 1 to 64"
-const LEAST_VARIABLES: u64 = 1;
-
-const MOST_VARIABLES: u64 = 64;
-
-// "d 1 to 64"
-const LEAST_SIZE: u64 = 1;
-
-const MOST_SIZE: u64 = 64;
-
-// "N at most 4,096"
-const MOST_FEATURES: usize = 4096;
-
-// Where the sizes begin.
-const SIZES_AT: usize = 1;
-
 // Whether each size is within its limits.
 fn are_sizes(sizes: &[u64]) -> bool
     ensures { λ r. ⌜ Tells r (EachSize (now (sizes .entry)) (length (now (sizes .entry)))) ⌝ }
 {
     let mut i = 0;
     while i < sizes.len() {
-        if sizes[i] < LEAST_SIZE {
+        let size = sizes[i] as usize;
+        if size < LEAST_SIZE {
             return false;
         }
-        if MOST_SIZE < sizes[i] {
+        if MOST_SIZE < size {
             return false;
         }
         i += 1;
@@ -134,13 +125,13 @@ pub fn well_formed(workspace: &[u64]) -> Formed
     if workspace.len() == 0 {
         return Formed::No;
     }
-    if workspace[0] < LEAST_VARIABLES {
-        return Formed::No;
-    }
-    if MOST_VARIABLES < workspace[0] {
-        return Formed::No;
-    }
     let v = workspace[0] as usize;
+    if v < LEAST_VARIABLES {
+        return Formed::No;
+    }
+    if MOST_VARIABLES < v {
+        return Formed::No;
+    }
     let start = SIZES_AT + v;
     if workspace.len() < start {
         return Formed::No;

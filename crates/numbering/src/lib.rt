@@ -7,9 +7,7 @@ ghost use Rattle.meaning.specs.Task.{size};
 ghost use Rattle.meaning.specs.Feature.{sumOf, atoms, features, single, pairStart, double, both};
 ghost use Rattle.numbering.specs.Sizes.{SmallSizes};
 ghost use Rattle.numbering.specs.Starts.{startingNumbers};
-
-// "v 1 to 64": the length of a table with a place for each variable.
-const MOST_VARIABLES: usize = 64;
+use limits::MOST_VARIABLES;
 
 // The size of variable i.
 pub fn size(sizes: &[u64], i: usize) -> usize

@@ -11,11 +11,11 @@ ghost use Rattle.number.specs.Answers.{placeOf};
 ghost use Rattle.condition.specs.Slotted.{sizeWords};
 ghost use Rattle.opening.specs.Answer.{openedOf};
 ghost use Rattle.opening.specs.Adding.{Workable, withRead, addedFrom};
+use limits::HEADER_WORDS;
+use limits::SIZES_AT;
 use number::Reason;
 use number::Step;
-use task::HEADER_WORDS;
 use task::Judged;
-use task::SIZES_AT;
 use words::WORD_BITS;
 
 // The number of words due, or the paper's number of a refusal.

@@ -1,4 +1,5 @@
 // An operator as one record of its entries: read from a file, or judged where it is handed over.
+use limits::MOST_ENTRIES;
 use number::Number;
 use number::Reason;
 use number::Step;
@@ -11,9 +12,6 @@ ghost use Rattle.meaning.specs.Number.{Range};
 ghost use Rattle.meaning.specs.File.{inside, entriesOf, operatorOf};
 ghost use Rattle.meaning.specs.Answer.{operatorIn, fine, need, entriesJudged};
 ghost use Rattle.operator.specs.Records.{entryIn, blankFor, recordOf, entryReadOf, operatorReadOf, judgementOf};
-
-// An operator has at most an entry for each variable, and there are at most 64.
-pub const MOST_ENTRIES: usize = 64;
 
 // The entries below the count, each a variable with its before and its after value.
 pub struct Operator {

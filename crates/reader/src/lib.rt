@@ -12,6 +12,12 @@ ghost use Rattle.reader.specs.Answer.{written, featureWords, begun, size
 ghost use Rattle.words.specs.Toggled.{toggledAll};
 ghost use Rattle.reader.specs.Front.{statesOf, stateWords, frontOf, HeaderInto};
 ghost use Rattle.reader.specs.Pairs.{Cleared};
+use limits::LEAST_SIZE;
+use limits::LEAST_VARIABLES;
+use limits::MOST_FEATURES;
+use limits::MOST_SIZE;
+use limits::MOST_VARIABLES;
+use limits::SIZES_AT;
 use number::Number;
 use number::Reason;
 use number::Step;
@@ -28,22 +34,6 @@ pub enum Header {
     },
     Fault(Reason, usize),
 }
-
-// "v 1 to 64"
-const LEAST_VARIABLES: usize = 1;
-
-const MOST_VARIABLES: usize = 64;
-
-// "d 1 to 64"
-const LEAST_SIZE: usize = 1;
-
-const MOST_SIZE: usize = 64;
-
-// "N at most 4,096"
-const MOST_FEATURES: usize = 4096;
-
-// Where the sizes begin.
-const SIZES_AT: usize = 1;
 
 // Reads v sizes.
 fn sizes_at(bytes: &[u8], at: usize, header: &mut [u64], v: usize) -> Step

@@ -19,9 +19,7 @@ ghost use Rattle.slots.specs.Change.{Led, cleared, marked};
 ghost use Rattle.slots.specs.Inserting.{slotCleared, slotAfter};
 ghost use Rattle.slots.specs.Find.{found};
 ghost use Rattle.slots.specs.Shape.{Apart, Shaped, AllShaped};
-
-// As many words as the most features take.
-const MOST_WORDS: usize = 64;
+use limits::MOST_WORDS;
 
 // Adds a slot to a row, where the slot is not empty. Its index p is its least member then, so the words before that of p stay.
 fn add_slot(row: &mut [u64], slot: &[u64], p: usize)

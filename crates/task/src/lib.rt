@@ -11,6 +11,8 @@ ghost use Rattle.pairs.specs.Ready.{Listed};
 ghost use Rattle.task.specs.Walk.{closedFrom};
 ghost use Rattle.task.specs.Rest.{restOf};
 ghost use Rattle.task.specs.Answer.{JudgedInto};
+use limits::MOST_WORDS;
+use limits::SIZES_AT;
 use number::Reason;
 use number::Step;
 use reader::Header;
@@ -27,15 +29,6 @@ pub enum Judged {
     },
     Refused(Reason, usize),
 }
-
-// Room for the largest header: v, sizes, start, goal and the words of listed pairs.
-pub const HEADER_WORDS: usize = 257;
-
-// Where the sizes begin.
-pub const SIZES_AT: usize = 1;
-
-// Room for a bit for each feature of a task.
-const FEATURE_WORDS: usize = 64;
 
 // Reads so many operators.
 fn operators_at(bytes: &[u8], at: usize, count: usize, sizes: &[u64]) -> Step
@@ -65,7 +58,7 @@ fn are_closed(bytes: &[u8], at: usize, count: usize, sizes: &[u64], pairs: &[u64
     requires { ⌜ Listed (now sizes) (now pairs) ⌝ }
     ensures { λ r. ⌜ r ≡ closedFrom (now (sizes .entry)) (has (now (pairs .entry))) count (now (bytes .entry)) at ⌝ }
 {
-    let mut possible = [0u64; FEATURE_WORDS];
+    let mut possible = [0u64; MOST_WORDS];
     let mut closed = true;
     let mut next = at;
     let mut k = 0;

@@ -8,6 +8,7 @@ ghost use Rattle.meaning.specs.Number.{numberBytes};
 ghost use Rattle.meaning.specs.File.{bytesOf, counted, entryBytes, operatorBytes};
 ghost use Rattle.writer.specs.Parts.{Numbers, Countable, Triples, entryOf, entriesIn};
 ghost use Rattle.writer.specs.Weights.{judgedOf, outcomeOf, weightsJudged, weightsWritten};
+use limits::MOST_FEATURES;
 use number::Reason;
 
 // What is wrong with a list of features: the first fault, or nothing.
@@ -21,9 +22,6 @@ pub enum Written {
     Done(usize),
     Refused(Reason),
 }
-
-// The first number that is no feature of any task.
-const MOST_FEATURES: u64 = 4096;
 
 // How many bytes a list of numbers has, without its count.
 pub fn numbers_width(values: &[u64]) -> usize
@@ -131,10 +129,10 @@ pub fn write_operator(
 fn judge(weights: &[u64]) -> Judged
     ensures { λ r. ⌜ judgedOf r ≡ weightsJudged 0 (now (weights .entry)) ⌝ }
 {
-    let mut least: u64 = 0;
+    let mut least = 0;
     let mut i = 0;
     while i < weights.len() {
-        let feature = weights[i];
+        let feature = weights[i] as usize;
         if MOST_FEATURES <= feature {
             return Judged::Faulty(Reason::Range);
         }

@@ -15,23 +15,17 @@ abbrev μ-loop : tie.MeasureT-loop
 loop-holds : tie.Need-loop-holds Inv-loop μ-loop
 loop-holds c = (omega arith, λ k l. absurd (omega arith))
 
-mul-if1 : tie.Need-mul-if1 Inv-loop μ-loop
-mul-if1 c = omega arith
+mul-size : tie.Need-mul-size Inv-loop μ-loop
+mul-size c = omega arith
 
-shared-slice-read-if1 : tie.Need-shared-slice-read-if1 Inv-loop μ-loop
-shared-slice-read-if1 c = omega arith
+shared-slice-read-size : tie.Need-shared-slice-read-size Inv-loop μ-loop
+shared-slice-read-size c = omega arith
 
 returns : tie.Need-returns Inv-loop μ-loop
 returns c = told-no (λ h. omega (arith, h _ (c .before .before .loop-test .taken), c .if1 .taken))
 
-mul-if2 : tie.Need-mul-if2 Inv-loop μ-loop
-mul-if2 c = omega arith
-
-shared-slice-read-if2 : tie.Need-shared-slice-read-if2 Inv-loop μ-loop
-shared-slice-read-if2 c = omega arith
-
 returns-2 : tie.Need-returns-2 Inv-loop μ-loop
-returns-2 c = told-no (λ h. omega (arith, h _ (c .before .before .before .before .loop-test .taken), c .if2 .taken))
+returns-2 c = told-no (λ h. omega (arith, h _ (c .before .before .before .loop-test .taken), c .if2 .taken))
 
 add-i : tie.Need-add-i Inv-loop μ-loop
 add-i c = omega arith
@@ -40,7 +34,7 @@ loop-less : tie.Need-loop-less Inv-loop μ-loop
 loop-less c = omega arith
 
 loop-again : tie.Need-loop-again Inv-loop μ-loop
-loop-again c = (omega arith, each-next _ _ (c .before .before .before .before .before .loop .inv .1) (omega arith, omega arith))
+loop-again c = (omega arith, each-next _ _ (c .before .before .before .before .loop .inv .1) (omega arith, omega arith))
 
 returns-3 : tie.Need-returns-3 Inv-loop μ-loop
 returns-3 c = told-yes (λ k l. c .before .loop .inv .1 k (omega arith))
@@ -52,11 +46,9 @@ are-sizes-spec =
     Inv-loop
     μ-loop
     loop-holds
-    mul-if1
-    shared-slice-read-if1
+    mul-size
+    shared-slice-read-size
     returns
-    mul-if2
-    shared-slice-read-if2
     returns-2
     add-i
     loop-less

@@ -11,20 +11,14 @@ use Rattle.formed.proofs.well_formed.Tie as tie
 returns : tie.Need-returns
 returns c = formed-no _ (λ f. omega (arith, formed-count _ f, c .if1 .taken))
 
-shared-slice-read-if2 : tie.Need-shared-slice-read-if2
-shared-slice-read-if2 c = search needs
+shared-slice-read-v : tie.Need-shared-slice-read-v
+shared-slice-read-v c = search needs
 
 returns-2 : tie.Need-returns-2
 returns-2 c = formed-no _ (λ f. omega (arith, formed-count _ f, c .if2 .taken))
 
-shared-slice-read-if3 : tie.Need-shared-slice-read-if3
-shared-slice-read-if3 c = search needs
-
 returns-3 : tie.Need-returns-3
 returns-3 c = formed-no _ (λ f. omega (arith, formed-count _ f, c .if3 .taken))
-
-shared-slice-read-v : tie.Need-shared-slice-read-v
-shared-slice-read-v c = search needs
 
 add-start : tie.Need-add-start
 add-start c = search needs
@@ -57,14 +51,14 @@ part-features-end : tie.Need-part-features-end
 part-features-end c = search needs
 
 features-requires : tie.Need-features-requires
-features-requires c κs = let ws = c .before .before .before .before .before .before .before .before .before .before .before .before .args .workspace .now in
+features-requires c κs = let ws = c .before .before .before .before .before .before .before .before .before .before .args .workspace .now in
     sizes-small ws _ (lent-sizes ws) (omega arith) (omega arith) (omega arith) (c .before .before .are-sizes .ensures .yes (not-false _ (c .before .if5 .left)))
 
 returns-6 : tie.Need-returns-6
 returns-6 c = formed-no _ (no-total _ _ (lent-sizes _) _ (c .before .features .ensures) (c .if6 .taken))
 
 is-formed-requires : tie.Need-is-formed-requires
-is-formed-requires c κs = let ws = c .before .before .before .before .before .before .before .before .before .before .before .before .before .before .args .workspace .now in
+is-formed-requires c κs = let ws = c .before .before .before .before .before .before .before .before .before .before .before .before .args .workspace .now in
     sizes-sized ws _ (lent-sizes ws) (omega arith) (omega arith) (omega arith) (c .before .before .before .before .are-sizes .ensures .yes (not-false _ (c .before .before .before .if5 .left)))
     _ (c .before .features .ensures) (c .if6 .left)
 
@@ -79,11 +73,9 @@ well-formed-spec =
     tie.close
     (tie.spec
     returns
-    shared-slice-read-if2
-    returns-2
-    shared-slice-read-if3
-    returns-3
     shared-slice-read-v
+    returns-2
+    returns-3
     add-start
     returns-4
     sub-are-sizes

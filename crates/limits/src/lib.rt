@@ -1,0 +1,25 @@
+// The limits and offsets of document 01 that several crates use, each under one name.
+// "v 1 to 64"
+pub const LEAST_VARIABLES: usize = 1;
+
+pub const MOST_VARIABLES: usize = 64;
+
+// "d 1 to 64"
+pub const LEAST_SIZE: usize = 1;
+
+pub const MOST_SIZE: usize = 64;
+
+// "N at most 4,096"
+pub const MOST_FEATURES: usize = 4096;
+
+// "W = N/64 rounded up", for the most features.
+pub const MOST_WORDS: usize = 64;
+
+// "An operator is held as one record of its entries, at most 64."
+pub const MOST_ENTRIES: usize = 64;
+
+// Where the sizes begin: "v; v sizes; v start values; v goal values; W words of listed pairs".
+pub const SIZES_AT: usize = 1;
+
+// Room for the largest of these headers.
+pub const HEADER_WORDS: usize = 257;

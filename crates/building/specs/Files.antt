@@ -18,14 +18,15 @@ use Rattle.meaning.specs.Feature.{double, both}
 use Rattle.meaning.specs.File.{bytesOf, counted, entryBytes, operatorBytes, weightBytes, taskBytes}
 use Rattle.meaning.specs.Answer.{operatorIn}
 use Rattle.meaning.specs.Bay.{baySizes, neighbours, exchange, slide, bayOperators, bayPairs, taskFor, bayTask}
-use Rattle.theory.specs.Flat.{flat-cong, getD-in}
+use Rattle.theory.specs.Flat.{flat-cong, getD-in, take-replicate}
 use Rattle.theory.specs.Run.{run-length, run-in}
 use Rattle.theory.specs.BayMoves.{operator-slide, bay-size, bay-length, bay-value}
 use Rattle.theory.specs.BayPairs.{pairs-run}
 use Rattle.theory.specs.NumberBack.{number-bytes-length}
 use Rattle.theory.specs.BayTask.{bay-limits}
 use Rattle.numbering.specs.Sizes.{SmallSizes}
-use Rattle.writer.specs.Parts.{Numbers, Countable, Triples, entriesIn}
+use Rattle.theory.specs.Slices.{entriesIn}
+use Rattle.writer.specs.Parts.{Numbers, Countable, Triples}
 use Rattle.writer.specs.Widths.{part-length, counted-length, numbers-few}
 use Rattle.building.specs.Answers.{Sides, bayWith}
 use Rattle.building.specs.Sides.{operators-counted}
@@ -206,12 +207,7 @@ operators-split n columns = ap (_++_ (numberBytes (length (bayOperators n (neigh
 
 -- The prefix of an array that is full of n.
 pub take-sizes : (n : ℕ) → n ≤ mostSlots → take n (replicate mostSlots n) ≡ baySizes n
-take-sizes n h = prefix n mostSlots n h
-  where
-    prefix : (k m a : ℕ) → k ≤ m → take k (replicate m a) ≡ replicate k a
-    prefix zero m a h = refl
-    prefix (suc k) zero a h = absurd (omega arith)
-    prefix (suc k) (suc m) a h = ap (_∷_ a) (prefix k m a (omega arith))
+take-sizes n h = take-replicate n mostSlots n h
 
 -- The pairs stand in front of what else an array holds.
 pub listed-within : (l pairs rest : List ℕ) (count : ℕ) → count ≡ length l → pairs ≡ l ++ rest → count ≤ length pairs

@@ -1,8 +1,8 @@
 -- The checker's answer in the words of the meaning, and that the verdict it comes to is the meaning's.
-use Prim.Native.Nat.{ℕ, zero, suc, _*_, _<_, _≤_}
+use Prim.Native.Nat.{ℕ, _*_, _<_, _≤_}
 use mathlib.Core.Path.{_≡_, refl, sym, ap, _∙_, fun-ext}
 use mathlib.Core.Bool.{Bool, true, false, cond}
-use mathlib.Core.List.{List, [], _∷_, List·Memᴰ as In}
+use mathlib.Core.List.{List, [], List·Memᴰ as In}
 use native.Mathlib.Omega.{arith}
 use lib.ListN.{length, getD, take, replicate}
 use lib.Dec.{ltb}
@@ -13,15 +13,15 @@ use Rattle.meaning.specs.Task as task
 use Rattle.meaning.specs.Task.{Task}
 use Rattle.meaning.specs.Feature.{features, parity}
 use Rattle.meaning.specs.Pair.{idle}
-use Rattle.meaning.specs.Weight.{Allows, Unsolvable}
+use Rattle.meaning.specs.Weight.{Allows}
 use Rattle.meaning.specs.Number.{got}
-use Rattle.meaning.specs.File.{operatorsOf, judgedTask, judgedWeights, Acceptable}
+use Rattle.meaning.specs.File.{operatorsOf, judgedWeights, Acceptable}
 use Rattle.meaning.specs.Workspace.{wordsFor, has, packed}
 use Rattle.meaning.specs.Answer as meaning
-use Rattle.meaning.specs.Answer.{Answer, done, refused, accepted, endsAlike, breaks, Judges, Checks}
+use Rattle.meaning.specs.Answer.{Answer, done, refused, accepted, endsAlike, breaks, Judges}
 use Rattle.theory.specs.Truth.{on, off, test, clash, xor-false-same, xor-true-differ}
 use Rattle.theory.specs.Search.{listed-in}
-use Rattle.theory.specs.Flat.{getD-in, in-getD}
+use Rattle.theory.specs.Flat.{getD-in, in-getD, take-replicate}
 use Rattle.theory.specs.Run.{run-in}
 use Rattle.theory.specs.Words.{length-packed, has-packed, packed-holds}
 use Rattle.theory.specs.Parity.{dot-cong, odd-shared}
@@ -30,7 +30,6 @@ use Rattle.words.specs.Parity.{shared-words}
 use Rattle.theory.specs.Tells.{Tells, tells-no}
 use Rattle.theory.specs.Rows.{allowed, tells-allows}
 use Rattle.theory.specs.Accepted.{weights-accepted}
-use Rattle.theory.specs.Demands.{accepted-unsolvable}
 use Rattle.reader.specs.Answer.{featureWords}
 use Rattle.condition.specs.Walk.{RowFor}
 use Rattle.checking.specs.declared.Verdict.{Verdict}
@@ -111,14 +110,9 @@ module _ (T : Task) (weights : Set) (ok : Acceptable T) where
 
 -- ---- room for a row
 
-zeros-first : (k m : ℕ) → k ≤ m → take k (replicate {A = ℕ} m 0) ≡ replicate k 0
-zeros-first zero m h = refl
-zeros-first (suc k) zero h = absurd (omega arith)
-zeros-first (suc k) (suc m) h = ap (_∷_ 0) (zeros-first k m (omega arith))
-
 -- The first words of room for the most features.
 pub room-zeros : (w n : ℕ) → n ≤ mostFeatures → w ≡ wordsFor n → take w (replicate {A = ℕ} (wordsFor mostFeatures) 0) ≡ replicate (wordsFor n) 0
-room-zeros w n h e = ap (λ k. take k (replicate {A = ℕ} (wordsFor mostFeatures) 0)) e ∙ zeros-first (wordsFor n) (wordsFor mostFeatures) (omega arith)
+room-zeros w n h e = ap (λ k. take k (replicate {A = ℕ} (wordsFor mostFeatures) 0)) e ∙ take-replicate (wordsFor n) (wordsFor mostFeatures) 0 (omega arith)
 
 -- ---- the ends
 
@@ -146,7 +140,3 @@ module _ (n : ℕ) (bytes ws : List ℕ) (end : ℕ) (read : judgedWeights n byt
   weights-for = record { long = length-packed n (listed ws); past = λ f l. packed-holds n (listed ws) f (past f) ∙ past f l }
 
 -- ---- demand 2
-
--- "once it accepts, no sequence of that task's moves leads from the start to the goal"
-pub checked-unsolvable : (file weights : List ℕ) (T : Task) (next : ℕ) → Checks file weights (verdictOf Accepted) → judgedTask file ≡ got T next → Unsolvable T
-checked-unsolvable file weights T next checks judged = accepted-unsolvable file T next judged weights checks

@@ -1,22 +1,20 @@
 -- An accepted task by its header and its counts: the parts that weights are judged by, and the answer that follows.
-use Prim.Native.Nat.{ℕ, _-_, _≤_}
+use Prim.Native.Nat.{ℕ, _-_}
 use mathlib.Core.Path.{_≡_, refl, sym, ap, _∙_}
 use mathlib.Core.List.{List}
-use native.Mathlib.Omega.{arith}
-use lib.ListN.{length, take, drop, length-append}
-use Rattle.meaning.specs.Limits.{mostVariables, mostFeatures}
+use lib.ListN.{length, take, drop}
 use Rattle.meaning.specs.Sets.{listed}
 use Rattle.meaning.specs.Task.{State}
 use Rattle.meaning.specs.Feature.{features}
 use Rattle.meaning.specs.Number.{Reason, refusal, got, fault}
 use Rattle.meaning.specs.File.{operatorsOf, judgedTask, judgedWeights}
-use Rattle.meaning.specs.Workspace.{sizesAt, slotsAt, has}
+use Rattle.meaning.specs.Workspace.{sizesAt, has}
 use Rattle.meaning.specs.Answer.{refused, Checks}
 use Rattle.reader.specs.Answer.{featureWords}
 use Rattle.pairs.specs.Ready.{Listed}
 use Rattle.condition.specs.Walk.{RowFor}
-use Rattle.task.specs.Header.{headerWords, pairWords, header-listed, header-has, header-length, sizes-part, start-part, goal-part, pairs-part}
-use Rattle.task.specs.Answer.{Known, known-headed, Cuts}
+use Rattle.task.specs.Header.{pairWords, header-listed, header-has}
+use Rattle.task.specs.Answer.{Known, known-headed, known-parts, Cuts}
 use Rattle.checking.specs.declared.Verdict.{Verdict}
 use Rattle.checking.specs.Answer.{verdictOf, verdictFrom, verdict-judges, weights-has, weights-for}
 
@@ -25,19 +23,6 @@ pub task-refused : (bytes weights : List ℕ) (reason : Reason) (place : ℕ) �
 task-refused bytes weights reason place e k q = rw e (ap refused q)
 
 module _ (bytes old header : List ℕ) (v n count at : ℕ) (known : Known bytes old header v n count at) where
-  pub known-limits : (v ≤ mostVariables) × (n ≤ mostFeatures)
-  known-limits = let limits = known-headed known .limits in (omega (arith, known .variables, limits .variables), omega (arith, known .total, limits .total))
-
-  pub known-room : slotsAt v n ≤ length header
-  known-room = omega (
-    arith,
-    known .variables,
-    known .total,
-    header-length (known .task) (known-headed known),
-    ap length (known .header),
-    length-append (headerWords (known .task)) (drop (length (headerWords (known .task))) old),
-  )
-
   module _ (weights : List ℕ) where
     -- Weights that are refused are answered so.
     pub weights-refused : (reason : Reason) (place : ℕ) → judgedWeights n weights ≡ fault reason place → (k : ℕ) → k ≡ refusal reason → Checks bytes weights (refused k)
@@ -58,12 +43,7 @@ module _ (bytes old header : List ℕ) (v n count at : ℕ) (known : Known bytes
       lentPairs = take (end - pairs) (drop pairs header)
 
       lent : (lentSizes ≡ known .task .sizes) × (lentStart ≡ known .task .start) × (lentGoal ≡ known .task .goal) × (lentPairs ≡ pairWords (known .task))
-      lent = rw (cuts .start-is, cuts .goal-is, cuts .pairs-is, cuts .end-is) (
-        sizes-part (known .task) (known-headed known) old header (known .header) v n (known .variables) (known .total),
-        start-part (known .task) (known-headed known) old header (known .header) v n (known .variables) (known .total),
-        goal-part (known .task) (known-headed known) old header (known .header) v n (known .variables) (known .total),
-        pairs-part (known .task) (known-headed known) old header (known .header) v n (known .variables) (known .total),
-      )
+      lent = rw (cuts .start-is, cuts .goal-is, cuts .pairs-is, cuts .end-is) (known-parts known)
 
       module _ (ws left : List ℕ) (last : ℕ) (read : judgedWeights n weights ≡ got ws last) (held : left ≡ featureWords n ws) where
         pub lent-ready : Listed lentSizes lentPairs × State lentSizes lentStart × State lentSizes lentGoal × RowFor (features lentSizes) left

@@ -15,16 +15,15 @@ use Rattle.meaning.specs.Feature.{features}
 use Rattle.meaning.specs.Pair.{idle}
 use Rattle.meaning.specs.Workspace.{wordsFor, has, packed}
 use Rattle.theory.specs.Truth.{on, off, test}
-use Rattle.theory.specs.Possible.{entriesIn}
+use Rattle.theory.specs.Slices.{entriesIn, Given}
 use Rattle.theory.specs.Parity.{dot, odd-shared}
 use Rattle.theory.specs.Words.{length-packed, packed-holds}
 use Rattle.theory.specs.Rows.{change, base, base-considered, rowsOf, allowed}
 use Rattle.theory.specs.Walk.{change-past}
 use Rattle.words.specs.Parity.{shared-words}
-use Rattle.pairs.specs.Ready.{Ready, HoldsPossible}
+use Rattle.pairs.specs.Ready.{Ready, HoldsPossible, ready-given}
 use Rattle.rows.specs.declared.Place.{Place}
 use Rattle.rows.specs.declared.Place.the-variants.{At, Done}
-use Rattle.rows.specs.Given.{Given}
 use Rattle.rows.specs.Change.{difference}
 use Rattle.rows.specs.Apart.{wantedBy, wantedFrom, placesFrom}
 use Rattle.rows.specs.Rows.{apartsFrom, aparts-next, apart-ready, rows-made}
@@ -41,7 +40,7 @@ pub prepared : (sizes pairs variables befores afters possible state : List ℕ) 
     × (state ≡ base sizes (has pairs) (entriesIn variables befores afters))
     → busy ≡ false → Prepared sizes (has pairs) variables befores afters possible state
 prepared sizes pairs variables befores afters possible state busy r (e, t, s) q = record {
-  given = record { limits = r .limits; befores-due = r .befores-equal; afters-due = r .afters-equal; entries = r .entries };
+  given = ready-given _ _ _ _ _ r;
   busy = sym e ∙ q;
   table = t;
   at-base = s;

@@ -10,7 +10,7 @@ ghost use mathlib.Core.Path.{_≡_};
 ghost use Rattle.meaning.specs.Pair.{closed};
 ghost use Rattle.meaning.specs.Workspace.{has};
 ghost use Rattle.meaning.specs.Answer.{Edits, addOperator, replaceStart, replaceGoal};
-ghost use Rattle.theory.specs.Possible.{entriesIn};
+ghost use Rattle.theory.specs.Slices.{entriesIn};
 ghost use Rattle.operator.specs.Records.{recordOf, judgementOf};
 ghost use Rattle.pairs.specs.Ready.{Listed, Ready};
 ghost use Rattle.editing.specs.Answers.{editedOf};

@@ -1,10 +1,10 @@
 -- What is left of the ends' difference, by the parts of a workspace.
-use Prim.Native.Nat.{ℕ, zero, suc, _-_, _*_, _≤_}
-use mathlib.Core.Path.{_≡_, refl, ap, sym, _∙_, fun-ext, subst}
+use Prim.Native.Nat.{ℕ, _-_, _*_, _≤_}
+use mathlib.Core.Path.{_≡_, ap, sym, _∙_, fun-ext, subst}
 use mathlib.Core.Bool.{false}
-use mathlib.Core.List.{List, _∷_}
+use mathlib.Core.List.{List}
 use native.Mathlib.Omega.{arith}
-use lib.ListN.{length, replicate, take, drop}
+use lib.ListN.{length, take, drop}
 use Rattle.meaning.specs.Sets.{Set}
 use Rattle.meaning.specs.Limits.{mostFeatures}
 use Rattle.meaning.specs.Task.{State}
@@ -79,9 +79,3 @@ module _ {sizes start goal area : List ℕ} {n : ℕ} (s : Searched sizes start 
     unfolding leftIn
     left-held row' q = fun-ext (λ f. ap (λ words. has words f) (q ∙ ap (λ d. packed n (red (slotsIn n area) n d)) (fun-ext held))
         ∙ packed-holds n (leftIn sizes start goal area n) f (red-past (s .slots) _ difference-past f))
-
--- The front of words that hold nothing.
-pub front-none : (w k : ℕ) → w ≤ k → take {A = ℕ} w (replicate k 0) ≡ replicate w 0
-front-none zero k l = refl
-front-none (suc w) zero l = absurd (omega arith)
-front-none (suc w) (suc k) l = ap (_∷_ 0) (front-none w k (omega arith))

@@ -1,11 +1,7 @@
 -- What the answers of the code say in the words of the meaning, and the way back from a read to an answer.
-use Prim.Native.Nat.{ℕ, _<_, _≤_}
+use Prim.Native.Nat.{ℕ}
 use mathlib.Core.Path.{_≡_, refl, sym, ap, ap₂, _∙_}
-use mathlib.Core.List.{List}
 use native.Mathlib.Omega.{arith}
-use lib.ListN.{length}
-use Rattle.meaning.specs.Limits.{numberEnd}
-use Rattle.theory.specs.NumberBack.{number-below, number-moves}
 use Rattle.meaning.specs.Number as meaning
 use Rattle.number.specs.declared.Reason.{Reason}
 use Rattle.number.specs.declared.Reason.the-variants as code
@@ -99,11 +95,3 @@ place-faulted (meaning.fault other there) reason place e =
     let p : declaredOf other ≡ reason = cc in
     let q : there ≡ place = cc in
     ap₂ meaning.fault (sym (reason-declared other) ∙ ap reasonOf p) q
-
--- A number that was got is in its range, and the place after it is further on and not past the end.
-pub number-known : (bytes : List ℕ) (at : ℕ) (answer : Number) (n next : ℕ)
-    → numberOf answer ≡ meaning.number bytes at → answer ≡ Got n next → (n < numberEnd) × (at < next) × (next ≤ length bytes)
-number-known bytes at answer n next e g =
-    let read : meaning.number bytes at ≡ meaning.got n next = sym e ∙ ap numberOf g in
-    let moves = number-moves bytes at n next read in
-    (number-below bytes at n next read, moves .0, moves .2)

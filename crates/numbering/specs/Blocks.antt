@@ -8,18 +8,14 @@ use lib.Seq.{take-length}
 use Rattle.meaning.specs.Task.{size}
 use Rattle.meaning.specs.Feature.{sumOf, atoms, pairStart, double}
 use Rattle.theory.specs.Numbering.{front-room, front-next, pair-room, double-below}
+use Rattle.theory.specs.NumberOrder.{pair-first}
 use Rattle.numbering.specs.Sizes.{SmallSizes, mostAtoms, mostPairs, sum-small, pairs-small, features-small}
-
-pub row-first : (sizes : List ℕ) → pairStart sizes 0 1 ≡ 0
-unfolding pairStart sumOf
-row-first [] = refl
-row-first (d ∷ ds) = omega arith
 
 -- The pairs of the next first variable begin where those of this one with every later variable end.
 pub row-next : (sizes : List ℕ) (i : ℕ) → i < length sizes → pairStart sizes (suc i) (suc (suc i)) ≡ pairStart sizes i (length sizes)
 unfolding pairStart
 row-next [] i l = refl
-row-next (d ∷ ds) zero l = omega (arith, row-first ds, ap (λ l. d * sumOf l) (take-length ds))
+row-next (d ∷ ds) zero l = omega (arith, pair-first ds, ap (λ l. d * sumOf l) (take-length ds))
 row-next (d ∷ ds) (suc i) l = ap (λ n. d * sumOf ds + n) (row-next ds i (omega arith))
 
 -- The pairs of variable i with variables before j are as many as its size times the atoms between.

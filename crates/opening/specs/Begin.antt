@@ -10,7 +10,7 @@ use lib.Dec.{ltb}
 use lib.ListN.{length, take, drop, replicate, length-drop, length-replicate, replicate-append-replicate}
 use lib.Seq.{take-at, drop-at, drop-drop, length-take-le}
 use borrow.Author.Tests.{lt-ltb, le-ltb}
-use Rattle.meaning.specs.Limits.{mostVariables, mostFeatures}
+use Rattle.meaning.specs.Limits.{mostFeatures}
 use Rattle.meaning.specs.Sets.{Slots, flat, listed}
 use Rattle.meaning.specs.Task.{Task}
 use Rattle.meaning.specs.Feature.{features}
@@ -28,7 +28,7 @@ use Rattle.theory.specs.Rows.{rowsAll, meets-rows}
 use Rattle.theory.specs.SlotsOf.{slots-along}
 use Rattle.words.specs.Part.{has-none, words-none}
 use Rattle.task.specs.Header.{headerWords, header-content, header-length}
-use Rattle.task.specs.Answer.{Known, known-headed}
+use Rattle.task.specs.Answer.{Known, known-headed, known-header}
 use Rattle.opening.specs.Adding.{Holds, Workable, addedFrom, added-all}
 
 -- ---- two parts written one after the other
@@ -76,15 +76,8 @@ module _ (bytes words left room : List ℕ) (v n count at : ℕ) (known : Known 
   abbrev task : Task
   task = known .task
 
-  pub known-limits : (v ≤ mostVariables) × (n ≤ mostFeatures)
-  known-limits = let limits = known .writable .acceptable .limits in (omega (arith, known .variables, limits .variables), omega (arith, known .total, limits .total))
-
   header-long : length (headerWords task) ≡ slotsAt v n
   header-long = header-length task (known-headed known) ∙ sym (ap₂ slotsAt (known .variables) (known .total))
-
-  -- The front of the words left is the header.
-  pub known-header : take (slotsAt v n) left ≡ headerWords task
-  known-header = ap (take (slotsAt v n)) (known .header) ∙ take-at (headerWords task) _ (slotsAt v n) header-long
 
   -- A workspace that has the header in front, and empty slots behind it.
   module _ (due slots : ℕ) (ws : List ℕ) (due-is : due ≡ wordsDue v n) (slots-is : slots ≡ slotsAt v n)
@@ -93,7 +86,7 @@ module _ (bytes words left room : List ℕ) (v n count at : ℕ) (known : Known 
     zeros = let k : wordsDue v n - slotsAt v n ≡ n * wordsFor n = omega arith in ap (λ m. replicate m 0) k ∙ zeros-slots n ∙ ap (λ m. slotWords m bare) (known .total)
 
     front : take slots left ≡ headerWords task
-    front = ap (λ k. take k left) slots-is ∙ known-header
+    front = ap (λ k. take k left) slots-is ∙ known-header known
 
     behind : replicate (due - length (take slots left)) 0 ≡ slotWords (features (task .sizes)) bare
     behind = ap₂ (λ a b. replicate (a - b) 0) due-is (ap length front ∙ header-long) ∙ zeros

@@ -8,7 +8,8 @@ use Rattle.meaning.specs.Number.{got, fault}
 use Rattle.meaning.specs.File.{operatorOf}
 use Rattle.meaning.specs.Answer.{operatorIn}
 use Rattle.meaning.specs.Workspace.{sizesAt, startAt, wordsDue, has}
-use Rattle.theory.specs.Possible.{entriesIn}
+use Rattle.meaning.specs.Task.{IsOperator}
+use Rattle.theory.specs.Slices.{entriesIn}
 use Rattle.theory.specs.InsertAll.{insertAll}
 use Rattle.theory.specs.Rows.{rowsOf}
 use Rattle.number.specs.Answers.{placeOf, place-fault, reasonOf}
@@ -16,8 +17,8 @@ use Rattle.number.specs.declared.Reason.{Reason}
 use Rattle.number.specs.declared.Step.the-variants.{Next, Fault}
 use Rattle.operator.specs.declared.OperatorRead.{OperatorRead}
 use Rattle.operator.specs.Records.{recordOf, operatorReadOf}
-use Rattle.operator.specs.Known.{read-next, read-faulted}
-use Rattle.task.specs.Slices.{Room, count-room, parts-read, parts-ready}
+use Rattle.operator.specs.Known.{read-next, read-faulted, Room, operator-is}
+use Rattle.pairs.specs.Slices.{count-room, slices-read, slices-ready}
 use Rattle.condition.specs.Slotted.{sizeWords, pairWords, heldSlots, slotted, sizes-part, Opened}
 use Rattle.opening.specs.Adding.{Workable, withRows, withRead, held-due, held-limits, held-listed, held-opened}
 
@@ -32,7 +33,7 @@ module _ (v n : ℕ) (ws : List ℕ) (h : Workable v n ws) where
     told-sizes : operatorReadOf r ≡ operatorOf (sizeWords v ws) bytes at
     told-sizes = told ∙ ap (λ sizes. operatorOf sizes bytes at) (rw e (sizes-part v ws))
 
-    module _ (next : ℕ) (went : r .step ≡ Next next) (room : Room (r .operator .variables) (r .operator .befores) (r .operator .afters)) where
+    module _ (next : ℕ) (went : r .step ≡ Next next) (room : Room (r .operator)) where
       abbrev variables : List ℕ
       variables = take (r .operator .count) (r .operator .variables)
 
@@ -45,15 +46,18 @@ module _ (v n : ℕ) (ws : List ℕ) (h : Workable v n ws) where
       read : operatorOf (sizeWords v ws) bytes at ≡ got (operatorIn (recordOf (r .operator))) next
       read = read-next (sizeWords v ws) bytes at r next told-sizes went
 
+      is : IsOperator (sizeWords v ws) (operatorIn (recordOf (r .operator)))
+      is = operator-is (sizeWords v ws) bytes at _ next read
+
       pub step-few : r .operator .count ≤ mostVariables
-      step-few = count-room _ _ _ _ room (sizeWords v ws) (pairWords v n ws) bytes at next (held-listed v n (h .0) (h .1) ws (h .2)) read
+      step-few = count-room room (held-listed v n (h .0) (h .1) ws (h .2)) is
 
       pub step-opened : Opened v n ws variables befores afters
       step-opened = held-opened v n (h .0) (h .1) ws (h .2) variables befores afters
-          (parts-ready _ _ _ _ room (sizeWords v ws) (pairWords v n ws) bytes at next (held-listed v n (h .0) (h .1) ws (h .2)) read)
+          (slices-ready room (held-listed v n (h .0) (h .1) ws (h .2)) is)
 
       parts : operatorOf (sizeWords v ws) bytes at ≡ got (entriesIn variables befores afters) next
-      parts = parts-read _ _ _ _ room (sizeWords v ws) (pairWords v n ws) bytes at next (held-listed v n (h .0) (h .1) ws (h .2)) read
+      parts = slices-read room (held-listed v n (h .0) (h .1) ws (h .2)) is bytes at next read
 
       pub step-place : Next next ≡ placeOf (operatorOf (sizeWords v ws) bytes at)
       step-place = rw parts

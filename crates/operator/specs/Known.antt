@@ -1,48 +1,36 @@
--- What callers know of an operator that was read or found fine: its entries, place by place, are in range and rise.
-use Prim.Native.Nat.{ℕ, suc, _<_, _≤_}
+-- What callers know of an operator that was read or found fine.
+use Prim.Native.Nat.{ℕ, suc, _≤_}
 use mathlib.Core.Path.{_≡_, sym, ap, _∙_}
 use mathlib.Core.List.{List}
 use native.Mathlib.Omega.{arith}
-use lib.ListN.{length, getD}
+use lib.ListN.{length}
 use lib.Dec.{leb, ltb}
 use borrow.Author.Tests.{leb-true}
-use Rattle.meaning.specs.Task.{Operator, IsOperator, size}
-use Rattle.meaning.specs.Number.{Range, Unclosed, got, fault, number}
-use Rattle.meaning.specs.File.{inside, item, entriesOf, operatorOf}
+use Rattle.meaning.specs.Task.{Operator, IsOperator}
+use Rattle.meaning.specs.Number.{Range, Unclosed, got, fault}
+use Rattle.meaning.specs.File.{inside, operatorOf}
 use Rattle.meaning.specs.Answer.{OperatorRecord, operatorIn, addOperator, fine, need, entriesJudged, editJudged}
 use Rattle.meaning.specs.Pair.{closed}
 use Rattle.meaning.specs.Workspace.{Content}
+use Rattle.meaning.specs.Limits.{mostVariables}
 use Rattle.theory.specs.Search.{and-left}
-use Rattle.theory.specs.Reading.{got-next, on-got, test-passed}
-use Rattle.theory.specs.NumberBack.{number-moves}
-use Rattle.theory.specs.Spent.{spent-within}
-use Rattle.theory.specs.Parts.{entries-said, operator-said}
+use Rattle.theory.specs.Parts.{operator-said}
 use Rattle.theory.specs.ReadBack.{entries-length}
-use Rattle.theory.specs.Operators.{in-fine}
 use Rattle.theory.specs.Operands.{need-fine, entries-fine}
-use Rattle.theory.specs.Walk.{entryAt, at-place, places-rise}
+use Rattle.theory.specs.Slices.{length-held}
 use Rattle.number.specs.Answers.{reasonOf}
 use Rattle.number.specs.declared.Reason.{Reason}
 use Rattle.number.specs.declared.Step.the-variants.{Next, Fault}
+use Rattle.operator.specs.declared.Operator as declared
 use Rattle.operator.specs.declared.OperatorRead.{OperatorRead}
-use Rattle.operator.specs.Records.{heldIn, recordOf, stepOf, operatorReadOf}
-use Rattle.operator.specs.Laws.{length-held, entry-held, unless, need-unless, entries-unless}
+use Rattle.operator.specs.Records.{recordOf, stepOf, operatorReadOf}
+use Rattle.operator.specs.Laws.{unless, need-unless, entries-unless}
 
 -- ---- an operator of a file
 
 module _ (sizes bytes : List ℕ) (at : ℕ) (o : Operator) (next : ℕ) (read : operatorOf sizes bytes at ≡ got o next) where
   pub operator-is : IsOperator sizes o
   operator-is = operator-said bytes sizes .gives at o next read .known .0
-
-  pub operator-moves : (at < next) × (next ≤ length bytes)
-  unfolding operatorOf item
-  operator-moves =
-      let (k, middle, counted, rest) = on-got (item (inside 1 (suc (length sizes))) Range bytes at) (λ n after. entriesOf sizes n 0 bytes after) o next read in
-      let (n, after, first, tested) = on-got (number bytes at) _ k middle counted in
-      let moves = number-moves bytes at n after first in
-      let same : after ≡ middle = got-next (test-passed (inside 1 (suc (length sizes)) n) (got n after) Range at k middle tested .1) in
-      let spent = entries-said bytes sizes k 0 .gives middle o next rest in
-      (omega (arith, same, moves .0, spent .moved), spent-within bytes middle next _ spent (omega (arith, same, moves .2)))
 
 -- What a reader that went on has read.
 pub read-next : (sizes bytes : List ℕ) (at : ℕ) (r : OperatorRead) (next : ℕ) → operatorReadOf r ≡ operatorOf sizes bytes at → r .step ≡ Next next
@@ -68,20 +56,14 @@ edit-judged c r =
     rw (need-unless (inside 1 (suc (length (c .sizes))) (r .count)) Range (entriesJudged (c .sizes) 0 (operatorIn r) fine) further)
     (ap (need (inside 1 (suc (length (c .sizes))) (r .count)) Range) (entries-unless (c .sizes) 0 (operatorIn r) further))
 
--- ---- the entries of a record, place by place
+-- ---- a record
 
-module _ (sizes : List ℕ) (count : ℕ) (vs xs ys : List ℕ) (is : IsOperator sizes (heldIn count vs xs ys)) where
-  pub count-fine : (1 ≤ count) × (count ≤ length sizes)
-  count-fine = (omega (arith, is .filled, length-held count vs xs ys), omega (arith, entries-length sizes 0 (heldIn count vs xs ys) (omega arith) (is .entries), length-held count vs xs ys))
+-- Arrays that have room for an entry for each variable.
+pub record Room (o : declared.Operator) : Type 0 where
+  pub variables : length (o .variables) ≡ mostVariables
+  pub befores : length (o .befores) ≡ mostVariables
+  pub afters : length (o .afters) ≡ mostVariables
 
-  pub entry-fine : (k : ℕ) → k < count → (getD vs k 0 < length sizes) × (getD xs k 0 < size sizes (getD vs k 0)) × (getD ys k 0 < size sizes (getD vs k 0))
-  entry-fine k h =
-      let o = heldIn count vs xs ys in
-      let inside : k < length o = omega (arith, length-held count vs xs ys) in
-      let known = rw (entry-held count vs xs ys k h) at (in-fine sizes 0 o (entryAt o k) (at-place sizes o (is .entries) k inside) (is .entries)) in
-      (known .1, known .2, known .3)
-
-  pub entries-rise : (k l : ℕ) → k < l → l < count → getD vs k 0 < getD vs l 0
-  entries-rise k l h j =
-      let o = heldIn count vs xs ys in
-      rw (entry-held count vs xs ys k (omega arith), entry-held count vs xs ys l j) at (places-rise sizes 0 o (is .entries) k l h (omega (arith, length-held count vs xs ys)))
+pub count-fine : (sizes : List ℕ) (o : declared.Operator) → IsOperator sizes (operatorIn (recordOf o)) → o .count ≤ length sizes
+count-fine sizes o is = let held = length-held (o .count) (o .variables) (o .befores) (o .afters) in
+    omega (arith, entries-length sizes 0 (operatorIn (recordOf o)) (omega arith) (is .entries), held)

@@ -12,22 +12,12 @@ use Rattle.meaning.specs.Task.{Entry, Operator}
 use Rattle.meaning.specs.Number.{Reason, Read, got, fault, onRead}
 use Rattle.meaning.specs.File.{entriesOf}
 use Rattle.meaning.specs.Answer.{operatorIn, Judged, fine, faulty, need, entriesJudged}
-use Rattle.theory.specs.Flat.{length-table, getD-table, table-cong}
+use Rattle.theory.specs.Flat.{table-cong}
 use Rattle.theory.specs.Walk.{entryAt}
-use Rattle.operator.specs.Records.{entryIn, heldIn}
+use Rattle.theory.specs.Slices.{entryOf, entryIn, heldIn, length-held, entry-held}
+use Rattle.theory.specs.Reading.{on-on}
 
 -- ---- the arrays of a record
-
-module _ (count : ℕ) (vs xs ys : List ℕ) where
-  pub held-table : heldIn count vs xs ys ≡ table count (λ k. entryIn (getD vs k 0) (getD xs k 0) (getD ys k 0))
-  unfolding operatorIn
-  held-table = refl
-
-  pub length-held : length (heldIn count vs xs ys) ≡ count
-  length-held = ap length held-table ∙ length-table count _
-
-  pub entry-held : (k : ℕ) → k < count → entryAt (heldIn count vs xs ys) k ≡ entryIn (getD vs k 0) (getD xs k 0) (getD ys k 0)
-  entry-held k h = ap (λ o. entryAt o k) held-table ∙ getD-table count _ k _ h
 
 table-last : {A : Type 0} (n : ℕ) (f : ℕ → A) → table (suc n) f ≡ table n f ++ (f n ∷ [])
 unfolding table
@@ -36,7 +26,7 @@ table-last (suc n) f = ap (_∷_ (f 0)) (table-last n (λ i. f (suc i)))
 
 -- A store at the count of what is held adds an entry.
 pub held-more : (k v x y : ℕ) (vs xs ys : List ℕ) → k < length vs → k < length xs → k < length ys
-    → heldIn (k + 1) (set vs k v) (set xs k x) (set ys k y) ≡ heldIn k vs xs ys ++ (entryIn v x y ∷ [])
+    → heldIn (k + 1) (set vs k v) (set xs k x) (set ys k y) ≡ heldIn k vs xs ys ++ (entryOf v x y ∷ [])
 unfolding operatorIn
 held-more k v x y vs xs ys h₁ h₂ h₃ =
     ap (λ n. heldIn n (set vs k v) (set xs k x) (set ys k y)) (add-one k)
@@ -44,7 +34,7 @@ held-more k v x y vs xs ys h₁ h₂ h₃ =
     ∙ ap₂ (λ l e. l ++ (e ∷ [])) (table-cong k _ _ (λ i l. same-entry (left vs v i l) (left xs x i l) (left ys y i l)))
     (same-entry (getD-set-same vs k v 0 h₁) (getD-set-same xs k x 0 h₂) (getD-set-same ys k y 0 h₃))
   where
-    same-entry : {v v' x x' y y' : ℕ} → v ≡ v' → x ≡ x' → y ≡ y' → entryIn v x y ≡ entryIn v' x' y'
+    same-entry : {v v' x x' y y' : ℕ} → v ≡ v' → x ≡ x' → y ≡ y' → entryOf v x y ≡ entryOf v' x' y'
     same-entry p q r = cc
 
     left : (l : List ℕ) (a i : ℕ) → i < k → getD (set l k a) i 0 ≡ getD l i 0
@@ -63,10 +53,6 @@ behind-none (fault reason place) = refl
 behind-more : (done o : Operator) (r : Read Operator) → behind done (behind o r) ≡ behind (done ++ o) r
 behind-more done o (got es next) = ap (λ l. got l next) (sym (append-assoc done o es))
 behind-more done o (fault reason place) = refl
-
-on-on : {A B C : Type 0} (r : Read A) (f : A → ℕ → Read B) (g : B → ℕ → Read C) → onRead (onRead r f) g ≡ onRead r (λ a next. onRead (f a next) g)
-on-on (got a next) f g = refl
-on-on (fault reason place) f g = refl
 
 module _ (sizes bytes : List ℕ) (count k : ℕ) where
   -- The first entry of those that are left, and those after it.
@@ -112,12 +98,12 @@ module _ (sizes : List ℕ) where
   judged-first least e es rest = entries-unless least (e ∷ []) (entriesJudged sizes (suc (e .variable)) es rest)
 
   pub judge-more : (least k count : ℕ) (vs xs ys : List ℕ) (rest : Judged) → k < count → entriesJudged sizes least (drop k (heldIn count vs xs ys)) rest
-      ≡ unless (entriesJudged sizes least (entryIn (getD vs k 0) (getD xs k 0) (getD ys k 0) ∷ []) fine)
+      ≡ unless (entriesJudged sizes least (entryIn vs xs ys k ∷ []) fine)
       (entriesJudged sizes (getD vs k 0 + 1) (drop (k + 1) (heldIn count vs xs ys)) rest)
   judge-more least k count vs xs ys rest h =
       let o = heldIn count vs xs ys in
       let inside : k < length o = omega (arith, length-held count vs xs ys) in
-      rw (drop-cons o k (entryIn 0 0 0) inside, entry-held count vs xs ys k h, add-one k, add-one (getD vs k 0)) (judged-first least _ (drop (suc k) o) rest)
+      rw (drop-cons o k (entryOf 0 0 0) inside, entry-held count vs xs ys k h, add-one k, add-one (getD vs k 0)) (judged-first least _ (drop (suc k) o) rest)
 
   pub judge-all : (least k count : ℕ) (vs xs ys : List ℕ) (rest : Judged) → count ≤ k → entriesJudged sizes least (drop k (heldIn count vs xs ys)) rest ≡ rest
   unfolding entriesJudged

@@ -1,11 +1,12 @@
 -- What the code's records and answers say in the words of the meaning.
 use Prim.Native.Nat.{ℕ}
-use mathlib.Core.List.{List, [], _∷_}
+use mathlib.Core.List.{[], _∷_}
 use lib.ListN.{replicate}
 use Rattle.meaning.specs.Limits.{mostVariables}
 use Rattle.meaning.specs.Task as meaning
 use Rattle.meaning.specs.Number.{Read, got, fault}
 use Rattle.meaning.specs.Answer.{OperatorRecord, operatorIn, Judged, fine, faulty}
+use Rattle.theory.specs.Slices.{entryOf, heldIn}
 use Rattle.number.specs.Answers.{reasonOf}
 use Rattle.number.specs.declared.Step.{Step}
 use Rattle.number.specs.declared.Step.the-variants as step
@@ -15,13 +16,6 @@ use Rattle.operator.specs.declared.Judgement.{Judgement}
 use Rattle.operator.specs.declared.Judgement.the-variants.{Fine, Faulty}
 use Rattle.operator.specs.declared.EntryRead.{EntryRead}
 use Rattle.operator.specs.declared.EntryRead.the-variants.{Got, Fault}
-
-abbrev pub entryIn : ℕ → ℕ → ℕ → meaning.Entry
-entryIn variable before after = record { variable = variable; before = before; after = after }
-
--- The entries that three arrays hold below a count.
-abbrev pub heldIn : ℕ → List ℕ → List ℕ → List ℕ → meaning.Operator
-heldIn count variables befores afters = operatorIn (record { count = count; variables = variables; befores = befores; afters = afters })
 
 -- The first k entries of a record, and all of it.
 abbrev pub firstOf : ℕ → Operator → meaning.Operator
@@ -36,7 +30,7 @@ blankFor count = record { count = count; variables = replicate mostVariables 0; 
 
 -- An entry that was read, as an operator of one entry.
 abbrev pub entryReadOf : EntryRead → Read meaning.Operator
-entryReadOf (Got variable before after next) = got (entryIn variable before after ∷ []) next
+entryReadOf (Got variable before after next) = got (entryOf variable before after ∷ []) next
 entryReadOf (Fault reason place) = fault (reasonOf reason) place
 
 abbrev pub stepOf : Step → meaning.Operator → Read meaning.Operator

@@ -11,7 +11,8 @@ ghost use Rattle.meaning.specs.Limits.{mostVariables};
 ghost use Rattle.meaning.specs.Number.{Range};
 ghost use Rattle.meaning.specs.File.{inside, entriesOf, operatorOf};
 ghost use Rattle.meaning.specs.Answer.{operatorIn, fine, need, entriesJudged};
-ghost use Rattle.operator.specs.Records.{entryIn, blankFor, recordOf, entryReadOf, operatorReadOf, judgementOf};
+ghost use Rattle.theory.specs.Slices.{entryOf};
+ghost use Rattle.operator.specs.Records.{blankFor, recordOf, entryReadOf, operatorReadOf, judgementOf};
 
 // The entries below the count, each a variable with its before and its after value.
 pub struct Operator {
@@ -134,7 +135,7 @@ fn judge_entry(
     before: usize,
     after: usize,
 ) -> Judgement
-    ensures { λ r. ⌜ judgementOf r ≡ entriesJudged (now (sizes .entry)) least (entryIn variable before after ∷ []) fine ⌝ }
+    ensures { λ r. ⌜ judgementOf r ≡ entriesJudged (now (sizes .entry)) least (entryOf variable before after ∷ []) fine ⌝ }
 {
     if sizes.len() <= variable {
         return Judgement::Faulty(Reason::Range);

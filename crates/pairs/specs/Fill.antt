@@ -17,7 +17,8 @@ use Rattle.meaning.specs.Pair.{possible}
 use Rattle.theory.specs.Truth.{on, off, test}
 use Rattle.theory.specs.Search.{and-both, and-none-left, and-none-right, or-right, or-neither, some-not, some-cong}
 use Rattle.theory.specs.Numbering.{single-below, single-later}
-use Rattle.theory.specs.Possible.{entriesIn, possibleAtoms}
+use Rattle.theory.specs.Possible.{possibleAtoms}
+use Rattle.theory.specs.Slices.{entriesIn}
 use Rattle.words.specs.Change.{toggled, length-toggled, has-toggled}
 use Rattle.words.specs.Part.{has-none}
 use Rattle.pairs.specs.Places.{some-start}

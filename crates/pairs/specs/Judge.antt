@@ -18,9 +18,10 @@ use Rattle.theory.specs.Search.{and-left, and-right, and-both, and-none-left, a
 use Rattle.theory.specs.Search.{some-at, some-not, some-none, some-get, some-cong, every-each, every-at, every-not, any-not, any-none, two-none, two-not, earlier-left, earlier-right}
 use Rattle.theory.specs.Flat.{table-in}
 use Rattle.theory.specs.Operators.{afterOf, names-in, entry-of, in-fine, entries-rise, entries-earlier, field-at}
-use Rattle.theory.specs.Possible.{entriesIn, possible-at}
+use Rattle.theory.specs.Possible.{possible-at}
+use Rattle.theory.specs.Slices.{entriesIn, entryIn}
 use Rattle.pairs.specs.Places.{any-table, two-table}
-use Rattle.pairs.specs.Ready.{Ready, Apart, HoldsPossible, entryIn, ready-afters, apart-names}
+use Rattle.pairs.specs.Ready.{Ready, Apart, HoldsPossible, ready-afters, apart-names}
 
 -- ---- definitions
 

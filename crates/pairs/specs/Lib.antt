@@ -2,3 +2,4 @@ pub mod Places
 pub mod Ready
 pub mod Judge
 pub mod Fill
+pub mod Slices

@@ -10,7 +10,7 @@ use lib.ListN.{length, getD}
 use borrow.Author.Tests.{eq-eqb, ne-eqb, ltb-true, ltb-false}
 use Rattle.meaning.specs.Sets.{Set, some}
 use Rattle.meaning.specs.Limits.{wordBits, mostFeatures}
-use Rattle.meaning.specs.Task.{Entry, Operator, Entries, names, size}
+use Rattle.meaning.specs.Task.{Operator, Entries, names, size}
 use Rattle.meaning.specs.Feature.{atoms, features, single, both}
 use Rattle.meaning.specs.File.{InLimits}
 use Rattle.meaning.specs.Workspace.{wordsFor, has}
@@ -18,10 +18,8 @@ use Rattle.meaning.specs.Answer.{operatorIn}
 use Rattle.theory.specs.Truth.{on, off, test, clash, less, same, more, order}
 use Rattle.theory.specs.Search.{some-at, some-not, some-none}
 use Rattle.theory.specs.Numbering.{single-below, both-below}
-use Rattle.theory.specs.Flat.{length-table, getD-table}
-use Rattle.theory.specs.Operators.{in-fine}
-use Rattle.theory.specs.Walk.{entryAt, places-rise, at-place}
-use Rattle.theory.specs.Possible.{entriesIn, possibleAtoms}
+use Rattle.theory.specs.Possible.{possibleAtoms}
+use Rattle.theory.specs.Slices.{entriesIn, entryIn, Given, entry-fine, entries-rise}
 use Rattle.numbering.specs.Sizes.{atoms-limit}
 use Rattle.pairs.specs.Places.{any-table}
 
@@ -70,19 +68,7 @@ pub record HoldsPossible (sizes : List ℕ) (pairs : Set) (o : Operator) (words 
 
 -- ---- the entries in the slices
 
--- The entry at a place of the slices.
-abbrev pub entryIn : List ℕ → List ℕ → List ℕ → ℕ → Entry
-entryIn variables befores afters k = record { variable = getD variables k 0; before = getD befores k 0; after = getD afters k 0 }
-
 module _ (variables befores afters : List ℕ) where
-  length-entries : length (entriesIn variables befores afters) ≡ length variables
-  unfolding operatorIn
-  length-entries = length-table (length variables) (entryIn variables befores afters)
-
-  entry-at : (k : ℕ) → k < length variables → entryAt (entriesIn variables befores afters) k ≡ entryIn variables befores afters k
-  unfolding operatorIn
-  entry-at k l = getD-table (length variables) (entryIn variables befores afters) k _ l
-
   pub names-places : (u : ℕ) → names (entriesIn variables befores afters) u ≡ some (length variables) (λ k. eqb (getD variables k 0) u)
   unfolding names operatorIn
   names-places u = any-table _ (length variables) (entryIn variables befores afters)
@@ -103,26 +89,18 @@ module _ (sizes pairs variables befores afters : List ℕ) (ready : Ready sizes 
   pub ready-listed : Listed sizes pairs
   ready-listed = record { limits = ready .limits; due = ready .due }
 
-  fine : (k : ℕ) → k < length variables
-      → (getD variables k 0 < length sizes) × (getD befores k 0 < size sizes (getD variables k 0)) × (getD afters k 0 < size sizes (getD variables k 0))
-  fine k l = let o = entriesIn variables befores afters in
-      let (a, b, c, d) = in-fine sizes 0 o _ (at-place sizes o (ready .entries) k (rw (length-entries variables befores afters) l)) (ready .entries) in
-      let q = entry-at variables befores afters k l in
-      (rw q at b, rw q at c, rw q at d)
-
-  rises : (k l : ℕ) → k < l → l < length variables → getD variables k 0 < getD variables l 0
-  rises k l h j = rw (entry-at variables befores afters k (omega arith), entry-at variables befores afters l j) at
-      (places-rise sizes 0 (entriesIn variables befores afters) (ready .entries) k l h (rw (length-entries variables befores afters) j))
+  pub ready-given : Given sizes variables befores afters
+  ready-given = record { limits = ready .limits; befores-equal = ready .befores-equal; afters-equal = ready .afters-equal; entries = ready .entries }
 
   pub ready-befores : Atoms sizes variables befores
-  ready-befores = record { equal = ready .befores-equal; inside = λ k l. (fine k l .0, fine k l .1); rise = rises }
+  ready-befores = record { equal = ready .befores-equal; inside = λ k l. (entry-fine ready-given k l .0, entry-fine ready-given k l .1); rise = entries-rise ready-given }
 
   pub ready-afters : Atoms sizes variables afters
-  ready-afters = record { equal = ready .afters-equal; inside = λ k l. (fine k l .0, fine k l .2); rise = rises }
+  ready-afters = record { equal = ready .afters-equal; inside = λ k l. (entry-fine ready-given k l .0, entry-fine ready-given k l .2); rise = entries-rise ready-given }
 
   -- The value that an operator gives the variable at a place is in its range.
   pub after-range : (u k : ℕ) → k < length variables → getD variables k 0 ≡ u → getD afters k 0 < size sizes u
-  after-range u k l q = rw q at (fine k l .2)
+  after-range u k l q = rw q at (entry-fine ready-given k l .2)
 
 -- ---- numbers of atoms
 

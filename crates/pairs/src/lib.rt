@@ -12,7 +12,7 @@ ghost use Rattle.meaning.specs.Feature.{atoms, single};
 ghost use Rattle.meaning.specs.Workspace.{has};
 ghost use Rattle.meaning.specs.File.{InLimits};
 ghost use Rattle.meaning.specs.Pair.{paired, idle, closed, holds};
-ghost use Rattle.theory.specs.Possible.{entriesIn};
+ghost use Rattle.theory.specs.Slices.{entriesIn};
 ghost use Rattle.pairs.specs.Ready.{Listed, Atoms, Ready, Apart, Place, HoldsPossible};
 ghost use Rattle.pairs.specs.Judge.{pairedWithin, clashingIn, valued, unclosedAt};
 ghost use Rattle.pairs.specs.Fill.{freeAtoms, Added, Lacks};

@@ -1,24 +1,24 @@
 -- The pairs as the code reads them, into the words behind sizes, start and goal; and then the whole front.
-use Prim.Native.Nat.{ℕ, zero, suc, _+_, _-_, _<_, _≤_}
+use Prim.Native.Nat.{ℕ, zero, suc, _+_, _-_, _≤_}
 use mathlib.Core.Path.{_≡_, refl, sym, ap, _∙_}
-use mathlib.Core.List.{List, _∷_, _++_, append-assoc}
+use mathlib.Core.List.{List, _++_, append-assoc}
 use native.Mathlib.Omega.{arith}
 use native.Mathlib.Nat.{sub-zero, add-sub-cancel-left}
 use lib.ListN.{length, getD, take, drop, replicate, length-append}
 use lib.Seq.{drop-at, drop-drop}
-use Rattle.meaning.specs.Limits.{mostVariables, mostFeatures, numberEnd}
-use Rattle.meaning.specs.Sets.{listed}
-use Rattle.meaning.specs.Task.{State, Run}
+use Rattle.meaning.specs.Limits.{mostVariables, mostFeatures}
+use Rattle.meaning.specs.Task.{State}
 use Rattle.meaning.specs.Feature.{atoms, features}
 use Rattle.meaning.specs.Number as meaning
 use Rattle.meaning.specs.Number.{got, fault, number}
 use Rattle.meaning.specs.File.{give, then, featureList, InLimits}
 use Rattle.meaning.specs.Workspace.{sizesAt, pairsAt, slotsAt, wordsFor}
 use Rattle.theory.specs.Spent.{Gives, gives-then, gives-map}
-use Rattle.theory.specs.Parts.{number-said, header-said, values-said, feature-list-said}
+use Rattle.theory.specs.Parts.{header-said, values-said}
 use Rattle.theory.specs.Numbering.{atoms-room}
 use Rattle.theory.specs.Words.{length-packed}
 use Rattle.theory.specs.Contents.{sizesIn}
+use Rattle.theory.specs.Flat.{take-replicate}
 use Rattle.number.specs.Answers.{reasonOf, declared-reason}
 use Rattle.number.specs.declared.Reason.{Reason}
 use Rattle.number.specs.declared.Step.{Step}
@@ -26,7 +26,7 @@ use Rattle.number.specs.declared.Step.the-variants.{Next}
 use Rattle.numbering.specs.Sizes.{SmallSizes, limits-small}
 use Rattle.reader.specs.declared.Header.the-variants.{Got, Fault}
 use Rattle.reader.specs.Answer.{written, begun, sizedWords, featureWords, ReadsInto, reads-next, reads-put}
-use Rattle.reader.specs.Front.{States, statesOf, stateWords, Front, frontOf, frontWords, HeaderInto}
+use Rattle.reader.specs.Front.{States, statesOf, stateWords, frontOf, frontWords, HeaderInto}
 use Rattle.reader.specs.States.{statesWith, begun-more, sizes-first}
 
 -- Words that begin with sizes within the limits, have n features, and have none yet among the words of the pairs.
@@ -84,28 +84,6 @@ unfolding stateWords
 state-length states start goal =
     omega (arith, length-append (states .sizes) (states .start ++ states .goal), length-append (states .start) (states .goal), start .full, goal .full)
 
--- What is known of a front.
-pub record Known (front : Front) : Type 0 where
-  pub limits : InLimits (front .states .sizes)
-  pub start : State (front .states .sizes) (front .states .start)
-  pub goal : State (front .states .sizes) (front .states .goal)
-  pub pairs : Run (atoms (front .states .sizes)) (front .pairs) (features (front .states .sizes))
-  pub count : front .count < numberEnd
-  pub long : length (frontWords front) ≡ slotsAt (length (front .states .sizes)) (features (front .states .sizes))
-
-pub front-known : (bytes : List ℕ) → Gives bytes frontOf (λ front l. Known front)
-unfolding frontOf frontWords
-front-known bytes = gives-then _ _ (states-said bytes) (λ states l h. let (limits, start, goal) = h in
-    gives-then _ _ (feature-list-said bytes (atoms (states .sizes)) (features (states .sizes)) (atoms-room (states .sizes))) (λ pairs m g.
-    gives-map (λ count. record { states = states; pairs = pairs; count = count }) _ (number-said bytes) (λ count k r. record {
-      limits = limits;
-      start = start;
-      goal = goal;
-      pairs = g .0;
-      count = r .0;
-      long = omega (arith, length-append (stateWords states) (featureWords (features (states .sizes)) pairs), state-length states start goal, length-packed (features (states .sizes)) (listed pairs));
-    })))
-
 -- After the goal; `left` are the words then.
 pub record AfterGoal (bytes words left : List ℕ) (next : ℕ) : Type 0 where
   pub states : States
@@ -120,11 +98,6 @@ zeros-left : (k m : ℕ) → drop k (replicate {A = ℕ} m 0) ≡ replicate (m -
 zeros-left zero m = rw (sub-zero m)
 zeros-left (suc k) zero = let q : zero - suc k ≡ 0 = omega arith in rw q
 zeros-left (suc k) (suc m) = let q : suc m - suc k ≡ m - k = omega arith in rw q (zeros-left k m)
-
-zeros-first : (k m : ℕ) → k ≤ m → take k (replicate {A = ℕ} m 0) ≡ replicate k 0
-zeros-first zero m h = refl
-zeros-first (suc k) zero h = absurd (omega arith)
-zeros-first (suc k) (suc m) h = ap (_∷_ 0) (zeros-first k m (omega arith))
 
 module _ (bytes words : List ℕ) where
   pub header-fault : (reason : Reason) (place : ℕ) (left : List ℕ) → frontOf bytes 0 ≡ fault (reasonOf reason) place → HeaderInto (frontOf bytes 0) words (Fault reason place) left
@@ -172,7 +145,7 @@ module _ (bytes words : List ℕ) where
             room = omega arith;
             none = rw (known .count, known .are, drop-at (stateWords (known .states)) (drop (length (stateWords (known .states))) words) _ (known .long)) (
                 rw none (rw (zeros-left (length (stateWords (known .states))) (length words))
-                (zeros-first (wordsFor n) (length words - length (stateWords (known .states))) (omega (arith, known .long, known .count)))));
+                (take-replicate (wordsFor n) (length words - length (stateWords (known .states))) 0 (omega (arith, known .long, known .count)))));
           }
 
       -- What is left to be read.

@@ -17,10 +17,11 @@ use Rattle.theory.specs.Search.{listed-in}
 use Rattle.theory.specs.Flat.{length-table, getD-table, table-cong, in-getD}
 use Rattle.theory.specs.Numbering.{single-below}
 use Rattle.theory.specs.Slots.{lead}
-use Rattle.theory.specs.Possible.{entriesIn, possibleAtoms, possible-at}
+use Rattle.theory.specs.Possible.{possibleAtoms, possible-at}
+use Rattle.theory.specs.Slices.{entriesIn, Given, entry-fine, entries-rise}
 use Rattle.theory.specs.Rows.{baseValue, base}
 use Rattle.words.specs.Next.{Clear}
-use Rattle.rows.specs.Given.{Given, entry-fine, entries-rise, entry-other, names-listed, before-at}
+use Rattle.rows.specs.Given.{entry-other, names-listed, before-at}
 use Rattle.theory.specs.Operators.{beforeOf}
 
 -- The values of a variable whose atoms are in a set.

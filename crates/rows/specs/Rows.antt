@@ -3,7 +3,6 @@ use Prim.Native.Nat.{ℕ, zero, suc, _+_, _<_}
 use mathlib.Core.Path.{_≡_, refl, ap, sym, _∙_}
 use mathlib.Core.Bool.{Bool, true, false, not, _&&_, cond}
 use mathlib.Core.List.{List, [], _∷_, _++_, map, map-append, List·Memᴰ·head as here}
-use native.Mathlib.Omega.{arith}
 use lib.ListN.{length}
 use borrow.Author.Tests.{not-true}
 use Rattle.meaning.specs.Sets.{Set, flat}
@@ -38,11 +37,6 @@ module _ (sizes : List ℕ) (o : Operator) (atoms : Set) (s : List ℕ) (u y : �
       go : (r : Place) → map (λ p. difference sizes o s (p .0) (p .1)) (placesFrom sizes (wantedBy sizes atoms s) r) ≡ apartsAt sizes o atoms s r
       go (At u' y') = refl
       go Done = refl
-
-  -- The rows get fewer.
-  pub aparts-fewer : (u' y' : ℕ) → wantedFrom sizes (wantedBy sizes atoms s) u y ≡ placesFrom sizes (wantedBy sizes atoms s) (At u' y')
-      → length (wantedFrom sizes (wantedBy sizes atoms s) u' (y' + 1)) < length (wantedFrom sizes (wantedBy sizes atoms s) u y)
-  aparts-fewer u' y' e = omega (arith, ap length e)
 
 map-flat : {A B : Type 0} (f : A → B) (n : ℕ) (g : ℕ → List A) → map f (flat n g) ≡ flat n (λ i. map f (g i))
 unfolding flat

@@ -147,7 +147,3 @@ module _ (n : ℕ) (area : List ℕ) (e : length area ≡ n * wordsFor n) (h : W
 
   pub area-is : {slots : Slots} → Reduced n slots → ((i f : ℕ) → i < n → has (slotAt (wordsFor n) area i) f ≡ slots i f) → area ≡ slotWords n slots
   area-is {slots} R = area-holds slots (slot-past R)
-
-  -- An area with no bit at n or beyond has the words of the slots that it holds.
-  pub area-own : ((i f : ℕ) → n ≤ f → slotsIn n area i f ≡ false) → area ≡ slotWords n (slotsIn n area)
-  area-own past = area-holds (slotsIn n area) past (λ i f l. sym (slot-has n i area f l))

@@ -15,7 +15,7 @@ use Rattle.meaning.specs.Workspace.{has}
 use Rattle.theory.specs.Truth.{on, off, test, clash, xor-false}
 use Rattle.theory.specs.Words.{Words, bits-same, has-at}
 use Rattle.words.specs.Bits.{bit-none}
-use Rattle.words.specs.Change.{summed, toggled, length-summed, has-summed, length-toggled, has-toggled}
+use Rattle.words.specs.Change.{summed, toggled, length-summed, has-summed, has-toggled}
 
 -- A set is empty or has p as least member.
 pub record Led (p : ℕ) (a : Set) : Type 0 where
@@ -78,11 +78,6 @@ length-cleared p row slot = elim (test (has slot p)) [ on t ↦ rw t (length-sum
 pub has-cleared : (p : ℕ) (row slot : List ℕ) (f : ℕ) → length slot ≡ length row → has (cleared p row slot) f ≡ has slot f ⊕ (has slot p && has row f)
 unfolding cleared
 has-cleared p row slot f e = elim (test (has slot p)) [ on t ↦ rw t (has-summed slot row f e) | off t ↦ rw t (sym (xor-false (has slot f))) ]
-
-pub length-marked : (b : Bool) (set : List ℕ) (i : ℕ) → length (marked b set i) ≡ length set
-unfolding marked
-length-marked true set i = length-toggled set i
-length-marked false set i = refl
 
 pub has-marked : (b : Bool) (set : List ℕ) (i f : ℕ) → i < wordBits * length set → has (marked b set i) f ≡ (b && eqb f i) ⊕ has set f
 unfolding marked

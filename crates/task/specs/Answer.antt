@@ -25,7 +25,7 @@ use Rattle.reader.specs.Front.{Front, frontOf, frontWords, HeaderInto, taskWith
 use Rattle.pairs.specs.Ready.{Listed}
 use Rattle.task.specs.declared.Judged.{Judged}
 use Rattle.task.specs.declared.Judged.the-variants.{Accepted, Refused}
-use Rattle.task.specs.Header.{headerWords, pairWords, Headed, front-header, front-headed, header-listed, header-has, header-room}
+use Rattle.task.specs.Header.{headerWords, pairWords, Headed, front-header, front-headed, header-listed, header-has, header-front, header-room}
 use Rattle.task.specs.Header.{sizes-part, start-part, goal-part, pairs-part}
 use Rattle.task.specs.Rest.{restOf, behind, front-unread, judged-behind, rest-operators}
 
@@ -61,19 +61,29 @@ pub record Known (bytes words left : List ℕ) (v n count at : ℕ) : Type 0 whe
   pub operators : operatorsOf (task .sizes) count bytes at ≡ got (task .operators) next
   pub header : left ≡ begun words (headerWords task)
 
-pub known-headed : {bytes words left : List ℕ} {v n count at : ℕ} (known : Known bytes words left v n count at) → Headed (known .task)
-known-headed known = let a = known .writable .acceptable in record { limits = a .limits; start = a .start; goal = a .goal; pairs = a .pairs }
+module _ {bytes words left : List ℕ} {v n count at : ℕ} (known : Known bytes words left v n count at) where
+  pub known-headed : Headed (known .task)
+  known-headed = let a = known .writable .acceptable in record { limits = a .limits; start = a .start; goal = a .goal; pairs = a .pairs }
 
--- The parts of the words that are left, as they are lent: sizes, start, goal and pairs.
-pub known-parts : {bytes words left : List ℕ} {v n count at : ℕ} (known : Known bytes words left v n count at)
-    → (take (startAt v - sizesAt) (drop sizesAt left) ≡ known .task .sizes) × (take (goalAt v - startAt v) (drop (startAt v) left) ≡ known .task .start)
-    × (take (pairsAt v - goalAt v) (drop (goalAt v) left) ≡ known .task .goal) × (take (slotsAt v n - pairsAt v) (drop (pairsAt v) left) ≡ pairWords (known .task))
-known-parts {words = words} {left = left} {v = v} {n = n} known = (
-  sizes-part (known .task) (known-headed known) words left (known .header) v n (known .variables) (known .total),
-  start-part (known .task) (known-headed known) words left (known .header) v n (known .variables) (known .total),
-  goal-part (known .task) (known-headed known) words left (known .header) v n (known .variables) (known .total),
-  pairs-part (known .task) (known-headed known) words left (known .header) v n (known .variables) (known .total),
-)
+  pub known-limits : (v ≤ mostVariables) × (n ≤ mostFeatures)
+  known-limits = let limits = known-headed .limits in (omega (arith, known .variables, limits .variables), omega (arith, known .total, limits .total))
+
+  -- The front of the words that are left is the header, and they are as long.
+  pub known-header : take (slotsAt v n) left ≡ headerWords (known .task)
+  known-header = header-front (known .task) known-headed words left (known .header) v n (known .variables) (known .total)
+
+  pub known-room : slotsAt v n ≤ length left
+  known-room = header-room (known .task) known-headed words left (known .header) v n (known .variables) (known .total)
+
+  -- The parts of the words that are left, as they are lent: sizes, start, goal and pairs.
+  pub known-parts : (take (startAt v - sizesAt) (drop sizesAt left) ≡ known .task .sizes) × (take (goalAt v - startAt v) (drop (startAt v) left) ≡ known .task .start)
+      × (take (pairsAt v - goalAt v) (drop (goalAt v) left) ≡ known .task .goal) × (take (slotsAt v n - pairsAt v) (drop (pairsAt v) left) ≡ pairWords (known .task))
+  known-parts = (
+    sizes-part (known .task) known-headed words left (known .header) v n (known .variables) (known .total),
+    start-part (known .task) known-headed words left (known .header) v n (known .variables) (known .total),
+    goal-part (known .task) known-headed words left (known .header) v n (known .variables) (known .total),
+    pairs-part (known .task) known-headed words left (known .header) v n (known .variables) (known .total),
+  )
 
 module _ (bytes words : List ℕ) (answer : Judged) (left : List ℕ) where
   pub judged-accepted : (v n count at : ℕ) → JudgedInto (judgedTask bytes) bytes words answer left → answer ≡ Accepted v n count at → Known bytes words left v n count at

@@ -4,7 +4,7 @@ use mathlib.Core.Path.{_≡_, refl, ap, _∙_, fun-ext}
 use mathlib.Core.Bool.{false}
 use mathlib.Core.List.{List, [], _∷_, _++_, append-assoc}
 use native.Mathlib.Omega.{arith}
-use lib.ListN.{length, getD, take, drop, length-append}
+use lib.ListN.{length, take, drop, length-append}
 use lib.Seq.{take-at, drop-at}
 use Rattle.meaning.specs.Sets.{Slots, listed, flat}
 use Rattle.meaning.specs.Task.{Operator, Task, State, Run}
@@ -78,10 +78,6 @@ module _ (T : Task) (known : Headed T) where
 
     pub header-room : slotsAt v n ≤ length left
     header-room = omega (arith, many, total, header-length, ap length e, length-append (headerWords T) further)
-
-    pub count-word : getD left 0 0 ≡ v
-    unfolding headerWords
-    count-word = rw (e, many) refl
 
     pub sizes-part : take (startAt v - sizesAt) (drop sizesAt left) ≡ T .sizes
     unfolding headerWords

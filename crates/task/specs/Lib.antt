@@ -1,6 +1,5 @@
 -- What is said of a task file.
 pub mod Walk
-pub mod Slices
 pub mod Rest
 pub mod Header
 pub mod Answer

@@ -1,18 +1,16 @@
 -- The operators of a file, read one after another: the place after them, walks over operators that were read before, and the pairs judged on such a walk.
 use Prim.Native.Nat.{ℕ, zero, suc, _+_, _-_, _<_, _≤_}
-use mathlib.Core.Path.{_≡_, refl, sym, ap, ap₂, _∙_}
+use mathlib.Core.Path.{_≡_, refl, sym, ap, _∙_}
 use mathlib.Core.Logic.{_↔_}
 use mathlib.Core.Bool.{Bool, true, false, _&&_}
 use mathlib.Core.List.{List, [], _∷_}
 use native.Mathlib.Omega.{arith}
-use lib.ListN.{drop}
-use lib.Seq.{drop-drop}
 use Rattle.meaning.specs.Sets.{Set, allOf}
 use Rattle.meaning.specs.Task.{Operator}
 use Rattle.meaning.specs.Pair.{closed}
 use Rattle.meaning.specs.Number.{Reason, Read, got, fault, onRead}
 use Rattle.meaning.specs.File.{operatorOf, operatorsOf}
-use Rattle.theory.specs.Reading.{on-got, got-value, got-next, not-got}
+use Rattle.theory.specs.Reading.{on-got, got-value, got-next}
 use Rattle.number.specs.Answers.{placeOf}
 
 -- A test of what was read, and of what follows; what was not read passes.
@@ -94,28 +92,3 @@ module _ (sizes bytes : List ℕ) where
     closed-all (suc k) at os next e =
         let (o, others, middle, same, first, rest) = operators-apart k at os next e in
         rw first (ap (_&&_ (closed sizes pairs o)) (closed-all k middle others next rest)) ∙ ap (allOf (closed sizes pairs)) (sym same)
-
-  -- ---- a walk over operators that were read: at its place, those that are left
-
-  pub walk-start : (count at : ℕ) (os : List Operator) (next : ℕ) → operatorsOf sizes count bytes at ≡ got os next → operatorsOf sizes (count - 0) bytes at ≡ got (drop 0 os) next
-  walk-start count at os next e = let all : count - 0 ≡ count = omega arith in rw all e
-
-  module _ (count k at : ℕ) (os : List Operator) (next : ℕ) (left : operatorsOf sizes (count - k) bytes at ≡ got (drop k os) next) where
-    -- The operator that is read there is the next of them, and after it the others are left.
-    pub walk-more : (o : Operator) (middle : ℕ) → k < count → operatorOf sizes bytes at ≡ got o middle
-        → (drop k os ≡ o ∷ drop (k + 1) os) × (operatorsOf sizes (count - (k + 1)) bytes middle ≡ got (drop (k + 1) os) next)
-    walk-more o middle more read = let turn : count - k ≡ suc (count - (k + 1)) = omega arith in apart (operators-apart (count - (k + 1)) at (drop k os) next (rw turn at left))
-      where
-        apart : (o' : Operator) × (others : List Operator) × (after : ℕ) × (drop k os ≡ o' ∷ others) × (operatorOf sizes bytes at ≡ got o' after)
-            × (operatorsOf sizes (count - (k + 1)) bytes after ≡ got others next)
-            → (drop k os ≡ o ∷ drop (k + 1) os) × (operatorsOf sizes (count - (k + 1)) bytes middle ≡ got (drop (k + 1) os) next)
-        apart (o', others, after, same, first, rest) =
-            let e : got o' after ≡ got o middle = sym first ∙ read in
-            let tail : others ≡ drop (k + 1) os = ap (drop 1) (sym same) ∙ drop-drop 1 k os in
-            (same ∙ ap₂ _∷_ (got-value e) tail, rw (got-next e, tail) at rest)
-
-    pub walk-read : (reason : Reason) (place : ℕ) → k < count → operatorOf sizes bytes at ≡ fault reason place → ⊥
-    walk-read reason place more e = not-got (sym (operators-fault count k at reason place more e) ∙ left)
-
-    pub walk-end : count ≤ k → (drop k os ≡ []) × (at ≡ next)
-    walk-end h = let e : got [] at ≡ got (drop k os) next = sym (operators-none count k at h) ∙ left in (sym (got-value e), got-next e)

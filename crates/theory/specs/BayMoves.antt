@@ -1,8 +1,8 @@
 -- Bays over any neighbour relation: counts of labels, what a move leaves as it was, and that operators lead where moves lead.
 use Prim.Native.Nat.{ℕ, zero, suc, _+_, _-_, _*_, _/_, _%_, _<_, _≤_}
-use mathlib.Core.Path.{_≡_, refl, sym, ap, ap₂, _∙_, subst}
+use mathlib.Core.Path.{_≡_, refl, sym, ap, _∙_, subst}
 use mathlib.Core.Logic.{_≢_, _↔_, inl, inr}
-use mathlib.Core.Bool.{Bool, true, false, _&&_, _||_, cond, or-comm}
+use mathlib.Core.Bool.{Bool, true, false, _&&_, cond}
 use mathlib.Core.List.{List, [], _∷_, List·Memᴰ as In, List·Memᴰ·head as here, List·Memᴰ·tail as there, List·Memᴰ·eq-of-singleton as eq-of-singleton}
 use mathlib.Core.List.{List·Memᴰ·not-nil as not-nil, List·Memᴰ·cases-cons as cases-cons}
 use native.Mathlib.Omega.{arith}
@@ -102,12 +102,6 @@ pub bay-value : (n : ℕ) (s : List ℕ) → State (baySizes n) s → (i : ℕ) 
 bay-value n s S i l = rw (bay-size n i l) at (S .values i (rw (length-replicate n n) l))
 
 -- ---- the same labels, each as often
-
-pub same-labels-self : (s : List ℕ) → SameLabels s s
-same-labels-self s = record { as-long = refl; as-often = λ label. refl }
-
-pub same-labels-then : (start s t : List ℕ) → SameLabels start s → SameLabels s t → SameLabels start t
-same-labels-then start s t a b = record { as-long = b .as-long ∙ a .as-long; as-often = λ label. b .as-often label ∙ a .as-often label }
 
 -- A list with the labels of a state of the bay is a state of the bay.
 pub same-labels-state : (n : ℕ) (start s : List ℕ) → State (baySizes n) start → SameLabels start s → State (baySizes n) s
@@ -216,14 +210,6 @@ abbrev pub Moves : ℕ → (ℕ → ℕ → Bool) → List (List ℕ) → List �
 Moves n near [] s t = s ≡ t
 Moves n near (m ∷ ms) s t = Move n near s m × Moves n near ms m t
 
--- Every state that moves reach from the start holds its labels.
-pub moves-labels : (n : ℕ) (near : ℕ → ℕ → Bool) (ms : List (List ℕ)) (s t : List ℕ) → length s ≡ n → Moves n near ms s t → SameLabels s t
-moves-labels n near [] s t e z = rw z (same-labels-self t)
-moves-labels n near (m ∷ ms) s t e (move, rest) = same-labels-then s m t once (moves-labels n near ms m t (once .as-long ∙ e) rest)
-  where
-    once : SameLabels s m
-    once = move-labels n near s m e move
-
 -- A plan of operators is a way to move.
 pub plan-moves : (n : ℕ) (near : ℕ → ℕ → Bool) (plan : List Operator) (s t : List ℕ) → ((o : Operator) → In o plan → In o (bayOperators n near))
     → Leads plan s t → (ms : List (List ℕ)) × Moves n near ms s t
@@ -256,13 +242,6 @@ neighbours-self columns p =
 
 pub neighbours-apart : (columns p q : ℕ) → neighbours columns p q ≡ true → p ≢ q
 neighbours-apart columns p q e z = clash e (rw z (neighbours-self columns q))
-
-pub neighbours-symmetric : (columns p q : ℕ) → neighbours columns p q ≡ neighbours columns q p
-unfolding neighbours
-neighbours-symmetric columns p q = ap₂ _||_ (side (p / columns) (q / columns) (p % columns) (q % columns)) (side (p % columns) (q % columns) (p / columns) (q / columns))
-  where
-    side : (a b c d : ℕ) → (eqb a b && oneApart c d) ≡ (eqb b a && oneApart d c)
-    side a b c d = ap₂ _&&_ (eqb-mirror a b) (or-comm (eqb c (suc d)) (eqb d (suc c)))
 
 -- The last slot of a row and the first of the next are no neighbours.
 pub row-end : (columns p : ℕ) → 2 ≤ columns → p % columns ≡ columns - 1 → neighbours columns p (suc p) ≡ false

@@ -2,15 +2,15 @@
 use Prim.Native.Nat.{ℕ, zero, suc, _*_, _<_, _≤_}
 use mathlib.Core.Path.{_≡_, refl, ap, ap₂, sym, _∙_}
 use mathlib.Core.Logic.{_⊎_, inl, inr}
-use mathlib.Core.Bool.{Bool, true, false, _&&_, _||_, cond}
+use mathlib.Core.Bool.{Bool, true, false, _||_, cond}
 use mathlib.Core.List.{List, [], _∷_, _++_, List·Memᴰ as In, List·Memᴰ·head as here, List·Memᴰ·tail as there}
 use mathlib.Core.List.{List·Memᴰ·not-nil as not-nil, List·Memᴰ·cases-cons as cases-cons, List·Memᴰ·eq-of-singleton as eq-of-singleton}
 use mathlib.Core.List.{Memᴰ·append-left as append-left, Memᴰ·append-right as append-right, List·Memᴰ·append-cases as append-cases}
 use native.Mathlib.Omega.{arith}
-use lib.ListN.{length, getD, length-append}
-use Rattle.meaning.specs.Sets.{some, every, anyOf, allOf, listed, flat, table}
+use lib.ListN.{length, getD, take, replicate, length-append}
+use Rattle.meaning.specs.Sets.{some, anyOf, listed, flat, table}
 use Rattle.theory.specs.Truth.{less, same, more, order}
-use Rattle.theory.specs.Search.{any-join, all-join}
+use Rattle.theory.specs.Search.{any-join}
 
 -- ---- small lists
 
@@ -66,11 +66,6 @@ module _ {A : Type 0} where
   any-flat p zero g = refl
   any-flat p (suc n) g = any-join p (flat n g) (g n) ∙ ap (λ b. b || anyOf p (g n)) (any-flat p n g)
 
-  pub all-flat : (p : A → Bool) (n : ℕ) (g : ℕ → List A) → allOf p (flat n g) ≡ every n (λ i. allOf p (g i))
-  unfolding flat every allOf
-  all-flat p zero g = refl
-  all-flat p (suc n) g = all-join p (flat n g) (g n) ∙ ap (λ b. b && allOf p (g n)) (all-flat p n g)
-
 pub listed-flat : (n : ℕ) (g : ℕ → List ℕ) (f : ℕ) → listed (flat n g) f ≡ some n (λ i. listed (g i) f)
 unfolding listed
 listed-flat n g f = any-flat _ n g
@@ -94,11 +89,11 @@ module _ {A : Type 0} where
   table-cong zero f g e = refl
   table-cong (suc n) f g e = ap₂ _∷_ (e 0 (omega arith)) (table-cong n _ _ (λ i l. e (suc i) (omega arith)))
 
-  -- A list is the table of its own elements.
-  pub table-getD : (l : List A) (d : A) → table (length l) (λ i. getD l i d) ≡ l
-  unfolding table
-  table-getD [] d = refl
-  table-getD (x ∷ xs) d = ap (_∷_ x) (table-getD xs d)
+  -- The first places of a list of one value.
+  pub take-replicate : (k n : ℕ) (a : A) → k ≤ n → take k (replicate n a) ≡ replicate k a
+  take-replicate zero n a h = refl
+  take-replicate (suc k) zero a h = absurd (omega arith)
+  take-replicate (suc k) (suc n) a h = ap (_∷_ a) (take-replicate k n a (omega arith))
 
   pub getD-in : (l : List A) (i : ℕ) (d : A) → i < length l → In (getD l i d) l
   getD-in [] i d h = absurd (omega arith)

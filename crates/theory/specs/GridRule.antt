@@ -1,15 +1,14 @@
 -- The grid's rule: a feature of two atoms changes its truth exactly where the grid has 1; and what that comes to for two variables.
-use Prim.Native.Nat.{ℕ, _<_}
+use Prim.Native.Nat.{ℕ}
 use mathlib.Core.Path.{_≡_, refl, sym, _∙_}
 use mathlib.Core.Logic.{inl, inr}
 use mathlib.Core.Bool.{Bool, true, false, _&&_, cond}
-use mathlib.Core.List.{List, [], _∷_, flatMap, List·Memᴰ as In, List·Memᴰ·head as here, List·Memᴰ·tail as there, List·Memᴰ·eq-of-singleton as eq-of-singleton}
-use lib.Dec.{eqb, ltb}
-use borrow.Author.Tests.{eqb-true, eqb-false, eq-eqb, ne-eqb, ltb-true}
-use Rattle.meaning.specs.Sets.{_⊕_, Set, allOf}
-use Rattle.meaning.specs.Grid.{Kind, absent, kept, made, used, kind, effect}
+use mathlib.Core.List.{List, [], _∷_, flatMap, List·Memᴰ as In, List·Memᴰ·eq-of-singleton as eq-of-singleton}
+use lib.Dec.{eqb}
+use borrow.Author.Tests.{eqb-true, eqb-false, eq-eqb, ne-eqb}
+use Rattle.meaning.specs.Sets.{_⊕_, Set}
+use Rattle.meaning.specs.Grid.{Kind, kept, made, used, kind, effect}
 use Rattle.theory.specs.Truth.{on, off, test, xor-self, xors}
-use Rattle.theory.specs.Search.{all-at}
 use Rattle.theory.specs.Flat.{in-two}
 use Rattle.theory.specs.Toggles.{xorOf, xor-same, xor-map, xor-when}
 
@@ -35,20 +34,6 @@ grid-rule true true false false = refl
 grid-rule true true false true = refl
 grid-rule true true true false = refl
 grid-rule true true true true = refl
-
-kinds : List Kind
-kinds = absent ∷ kept ∷ made ∷ used ∷ []
-
-in-kinds : (a : Kind) → In a kinds
-unfolding kinds
-in-kinds absent = here refl
-in-kinds kept = there (here refl)
-in-kinds made = there (there (here refl))
-in-kinds used = there (there (there (here refl)))
-
-pub effect-small : (a b : Kind) → effect a b < 2
-unfolding kinds allOf
-effect-small a b = ltb-true _ _ (all-at (λ y. ltb (effect a y) 2) kinds (all-at (λ x. allOf (λ y. ltb (effect x y) 2) kinds) kinds refl a (in-kinds a)) b (in-kinds b))
 
 -- The atoms of a variable that goes from one value to another, with their kinds; an unnamed variable goes from its value to the same.
 unfoldable pub kindsOf : ℕ → ℕ → List (ℕ × Kind)

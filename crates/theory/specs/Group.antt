@@ -1,13 +1,11 @@
 -- Sums of weights over any commutative group: over the numbers below n, and over the pairs of such numbers.
--- Parity is the group of two elements, signed scores are the integers.
+-- Parity is the group of two elements.
 use Prim.Native.Nat.{ℕ, zero, suc, _<_}
 use mathlib.Core.Path.{_≡_, refl, ap, ap₂, sym, _∙_}
-use mathlib.Core.Logic.{_≢_}
 use mathlib.Core.Bool.{Bool, false}
 use native.Mathlib.Omega.{arith}
-use lib.IntN.{ℤ, pos, _+ℤ_, negℤ, +ℤ-assoc, +ℤ-comm, +ℤ-idr, +ℤ-invr}
 use Rattle.meaning.specs.Sets.{_⊕_}
-use Rattle.theory.specs.Truth.{less, same, more, order, xor-assoc, xor-comm, xor-false, xor-self}
+use Rattle.theory.specs.Truth.{xor-assoc, xor-comm, xor-false, xor-self}
 
 -- A commutative group.
 pub record Group (G : Type 0) : Type 0 where
@@ -22,9 +20,6 @@ pub record Group (G : Type 0) : Type 0 where
 -- Truth values: the sum is true for an odd number of true terms.
 abbrev pub two : Group Bool
 two = record { none = false; plus = _⊕_; neg = λ a. a; assoc = xor-assoc; comm = xor-comm; unit = xor-false; cancel = xor-self }
-
-abbrev pub integers : Group ℤ
-integers = record { none = pos 0; plus = _+ℤ_; neg = negℤ; assoc = +ℤ-assoc; comm = +ℤ-comm; unit = +ℤ-idr; cancel = +ℤ-invr }
 
 -- ---- definitions
 
@@ -62,9 +57,6 @@ module _ {G : Type 0} (K : Group G) where
   pub neg-none : K .neg (K .none) ≡ K .none
   neg-none = sym (neg-only (K .none) (K .none) (K .unit (K .none)))
 
-  pub minus-none : (a : G) → minus K a (K .none) ≡ a
-  minus-none a = ap (K .plus a) neg-none ∙ K .unit a
-
   pub minus-plus : (a b c d : G) → minus K (K .plus a b) (K .plus c d) ≡ K .plus (minus K a c) (minus K b d)
   minus-plus a b c d = ap (K .plus (K .plus a b)) (neg-plus c d) ∙ plus-swap a b (K .neg c) (K .neg d)
 
@@ -81,16 +73,6 @@ module _ {G : Type 0} (K : Group G) where
   sum-none zero f h = refl
   sum-none (suc n) f h = ap₂ (K .plus) (sum-none n f (λ i l. h i (omega arith))) (h n (omega arith)) ∙ K .unit (K .none)
 
-  -- A sum in which only the term at m counts.
-  pub sum-one : (n m : ℕ) (f : ℕ → G) → m < n → ((i : ℕ) → i < n → i ≢ m → f i ≡ K .none) → sum K n f ≡ f m
-  unfolding sum
-  sum-one zero m f l h = absurd (omega arith)
-  sum-one (suc n) m f l h = elim (order m n) [
-    | less k ↦ ap₂ (K .plus) (sum-one n m f k (λ i j d. h i (omega arith) d)) (h n (omega arith) (omega arith)) ∙ K .unit (f m)
-    | same q ↦ ap₂ (K .plus) (sum-none n f (λ i j. h i (omega arith) (omega arith))) (ap f (sym q)) ∙ unit-left K (f m)
-    | more k ↦ absurd (omega arith)
-  ]
-
   pub sum-plus : (n : ℕ) (f g : ℕ → G) → sum K n (λ i. K .plus (f i) (g i)) ≡ K .plus (sum K n f) (sum K n g)
   unfolding sum
   sum-plus zero f g = sym (K .unit (K .none))
@@ -103,12 +85,6 @@ module _ {G : Type 0} (K : Group G) where
 
   pub sum-minus : (n : ℕ) (f g : ℕ → G) → sum K n (λ i. minus K (f i) (g i)) ≡ minus K (sum K n f) (sum K n g)
   sum-minus n f g = sum-plus n f (λ i. K .neg (g i)) ∙ ap (K .plus (sum K n f)) (sum-neg n g)
-
-  -- A double sum may be taken in either order.
-  pub sum-swap : (n m : ℕ) (h : ℕ → ℕ → G) → sum K n (λ i. sum K m (h i)) ≡ sum K m (λ j. sum K n (λ i. h i j))
-  unfolding sum
-  sum-swap zero m h = sym (sum-none m (λ j. K .none) (λ j l. refl))
-  sum-swap (suc n) m h = ap (λ x. K .plus x (sum K m (h n))) (sum-swap n m h) ∙ sym (sum-plus m (λ j. sum K n (λ i. h i j)) (h n))
 
   -- ---- sums over pairs
 

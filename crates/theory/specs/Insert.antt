@@ -12,7 +12,6 @@ use Rattle.theory.specs.Parity.{dot, dot-none, dot-cong, dot-xor, dot-an
 use Rattle.meaning.specs.Slot.{LeastMember, Reduced, Stored}
 use Rattle.theory.specs.Slots.{nothing, found, least, lead, lead-none, lead-least, stored-dot, dot-stored, slot-none, slot-low}
 use Rattle.theory.specs.Reduce.{red, red-dot, red-avoid, red-within}
-use Rattle.theory.specs.SlotsOf.{same-slots}
 use Rattle.theory.specs.Cut.{cut, cut-within, cut-dot}
 
 -- ---- one row that is reduced already
@@ -131,7 +130,3 @@ module _ {n : ℕ} {S : Slots} (R : Reduced n S) (r : Set) where
     | nothing h ↦ rw (insert-none n S r h) (λ k. (k, sym (rest-dot w k) ∙ dot-none n w _ h), λ k. k .0)
     | found p l k ↦ rw (insert-put n S r p l k) (Iff·trans (put-stored R (rest-fresh p l k) w) (λ h. (h .0, sym (rest-dot w (h .0)) ∙ h .1), λ h. (h .0, rest-dot w (h .0) ∙ h .1)))
   ]
-
-  -- A row that follows from what is stored changes nothing.
-  pub insert-follows : ((w : Set) → Stored n S w → dot n w r ≡ false) → insert n S r ≡ S
-  insert-follows h = same-slots insert-reduced R (λ w. (λ k. insert-stored w .0 k .0, λ k. insert-stored w .1 (k, h w k)))

@@ -6,10 +6,10 @@ use mathlib.Core.Bool.{false}
 use mathlib.Core.List.{List, [], _∷_, _++_, List·Memᴰ as In, List·Memᴰ·head as here, List·Memᴰ·tail as there, List·Memᴰ·not-nil, List·Memᴰ·cases-cons}
 use Rattle.meaning.specs.Sets.{Set, Slots}
 use Rattle.theory.specs.Truth.{clash}
-use Rattle.theory.specs.Parity.{dot, dot-none, dot-even}
+use Rattle.theory.specs.Parity.{dot, dot-none}
 use Rattle.meaning.specs.Slot.{Reduced, SlotsOf, Stored}
 use Rattle.theory.specs.Slots.{dot-stored}
-use Rattle.theory.specs.SlotsOf.{Closed, slots-of-stored, slots-only}
+use Rattle.theory.specs.SlotsOf.{slots-of-stored}
 use Rattle.theory.specs.Insert.{insert, insert-reduced, insert-stored}
 
 -- Every slot empty.
@@ -54,16 +54,9 @@ insertAll-stored {n} R (r ∷ rows) w = Iff·trans (insertAll-stored (insert-red
   λ k. (insert-stored R r w .1 (k .0, k .1 r (here refl)), λ g i. k .1 g (there i)),
 )
 
-pub rows-closed : (n : ℕ) (rows : List Set) → Closed n (MeetsRows n rows)
-rows-closed n rows w h r i = h r (λ u k. dot-even n u r (k r i))
-
 pub rows-stored : (n : ℕ) (rows : List Set) (w : Set) → Stored n (insertAll n bare rows) w ↔ MeetsRows n rows w
 rows-stored n rows w = Iff·trans (insertAll-stored (bare-reduced n) rows w) (λ h. h .1, λ h. (bare-stored n w, h))
 
 -- The rows inserted one after another give the slots of the condition that all are met evenly.
 pub rows-slots : (n : ℕ) (rows : List Set) → SlotsOf n (MeetsRows n rows) (insertAll n bare rows)
 rows-slots n rows = slots-of-stored (MeetsRows n rows) (insertAll-reduced (bare-reduced n) rows) (rows-stored n rows)
-
--- Rows that ask the same of weights give the same slots.
-pub same-rows : (n : ℕ) (rows rows' : List Set) → ((w : Set) → MeetsRows n rows w ↔ MeetsRows n rows' w) → insertAll n bare rows ≡ insertAll n bare rows'
-same-rows n rows rows' h = slots-only n (MeetsRows n rows) (MeetsRows n rows') _ _ h (rows-slots n rows) (rows-slots n rows')

@@ -23,6 +23,7 @@ pub mod Toggles
 pub mod Possible
 pub mod Rows
 pub mod Walk
+pub mod Slices
 pub mod Sound
 pub mod Conditions
 pub mod Words

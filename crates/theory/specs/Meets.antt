@@ -8,7 +8,7 @@ use lib.Dec.{eqb}
 use lib.ListN.{length}
 use borrow.Author.Tests.{eqb-true}
 use Rattle.meaning.specs.Sets.{_⊕_, Set, some}
-use Rattle.meaning.specs.Task.{value, size, State}
+use Rattle.meaning.specs.Task.{value, size}
 use Rattle.meaning.specs.Feature.{features, single, double, both, trueIn, parity}
 use Rattle.theory.specs.Truth.{on, off, test}
 use Rattle.theory.specs.Search.{found, nowhere, which, some-at, some-not, some-get}
@@ -98,7 +98,3 @@ meets-score sizes w x within = meets sizes x within w ∙ ap₂ _⊕_ (par-sum _
 pub parity-dot : (sizes : List ℕ) (w : Set) (state : List ℕ) → parity sizes w state ≡ dot (features sizes) w (trueIn sizes (value state))
 unfolding parity
 parity-dot sizes w state = odd-shared (features sizes) w _
-
-pub parity-score : (sizes : List ℕ) (w : Set) (state : List ℕ) → State sizes state
-    → parity sizes w state ≡ score two (λ i x. w (single sizes i x)) (λ i x j y. w (both sizes i x j y)) (length sizes) (value state)
-parity-score sizes w state good = parity-dot sizes w state ∙ meets-score sizes w (value state) (good .values)

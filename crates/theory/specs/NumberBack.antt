@@ -7,14 +7,14 @@ use native.Mathlib.Omega.{arith}
 use native.Mathlib.Nat.{pow-succ', one-le-pow}
 use native.Mathlib.Numerals.{add-one}
 use lib.ListN.{length, getD, length-append}
-use lib.Seq.{getD-append-seam, append-snoc, drop-cons, slice}
+use lib.Seq.{getD-append-seam, append-snoc, drop-cons}
 use lib.Dec.{eqb, ltb}
 use borrow.Author.Tests.{ltb-true, ltb-false, lt-ltb, le-ltb, eqb-false, ne-eqb}
 use Rattle.meaning.specs.Limits.{group, mostGroups, numberEnd}
 use Rattle.meaning.specs.Number.{got, groups, number, groupBytes, numberBytes}
 use Rattle.theory.specs.Truth.{on, off, test}
 use Rattle.theory.specs.Reading.{Reads, not-got, on-got, test-passed, test-failed}
-use Rattle.theory.specs.Spent.{Bytes, Spent, Gives, spent-same, spent-within, spent-begun, spent-slice}
+use Rattle.theory.specs.Spent.{Bytes, Spent, Gives, spent-same}
 
 -- ---- the bytes of a number
 
@@ -32,18 +32,6 @@ group-more k low high h l =
 -- A number is its low group and what is left.
 parts : (n : ℕ) → n ≡ n % group + group * (n / group)
 parts n = omega arith
-
-pub bytes-more : (b : ℕ) (l : List ℕ) → b < 256 → Bytes l → Bytes (b ∷ l)
-bytes-more b l h k zero = h
-bytes-more b l h k (suc i) = k i
-
-pub group-bytes : (k n : ℕ) → Bytes (groupBytes k n)
-unfolding groupBytes
-group-bytes zero n = λ i. omega arith
-group-bytes (suc k) n = elim (test (ltb n group)) [
-  | on e ↦ rw e (bytes-more n [] (omega (arith, ltb-true n group e)) (λ i. omega arith))
-  | off e ↦ rw e (bytes-more (group + n % group) (groupBytes k (n / group)) (omega arith) (group-bytes k (n / group)))
-]
 
 pub group-bytes-filled : (k n : ℕ) → 1 ≤ length (groupBytes (suc k) n)
 unfolding groupBytes
@@ -170,10 +158,6 @@ pub number-back : (n : ℕ) → n < numberEnd → (after : List ℕ) → Reads n
 unfolding number numberBytes
 number-back n h after = record { reads = λ before. groups-back (mostGroups - 1) n h (length before) after .reads before }
 
-pub number-bytes : (n : ℕ) → Bytes (numberBytes n)
-unfolding numberBytes
-number-bytes n = group-bytes mostGroups n
-
 pub number-bytes-length : (n : ℕ) → (1 ≤ length (numberBytes n)) × (length (numberBytes n) ≤ mostGroups)
 unfolding numberBytes
 number-bytes-length n = (group-bytes-filled (mostGroups - 1) n, group-bytes-few mostGroups n)
@@ -181,21 +165,3 @@ number-bytes-length n = (group-bytes-filled (mostGroups - 1) n, group-bytes-few 
 pub number-gives : (bytes : List ℕ) → Gives bytes number (Grouped bytes mostGroups)
 unfolding number
 number-gives bytes = record { gives = λ place n next e. groups-give bytes mostGroups place .gives place n next e }
-
-module _ (bytes : List ℕ) (place n next : ℕ) (e : number bytes place ≡ got n next) where
-  from : Spent bytes place next (Grouped bytes mostGroups n)
-  from = number-gives bytes .gives place n next e
-
-  pub number-below : n < numberEnd
-  number-below = from .known .below
-
-  pub number-begun : place < length bytes
-  number-begun = spent-begun bytes place next (Grouped bytes mostGroups n) from (from .known .filled)
-
-  pub number-moves : (place < next) × (next ≤ place + mostGroups) × (next ≤ length bytes)
-  number-moves = omega (arith, from .moved, from .known, spent-within bytes place next (Grouped bytes mostGroups n) from (omega (arith, number-begun)))
-
-  -- A number is written as the very bytes that it was read from.
-  pub read-written : Bytes bytes → numberBytes n ≡ slice place next bytes
-  unfolding numberBytes
-  read-written small = sym (from .known .written small) ∙ spent-slice bytes place next (Grouped bytes mostGroups n) from (omega (arith, number-begun))

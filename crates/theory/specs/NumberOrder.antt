@@ -49,7 +49,7 @@ front-step [] (suc i) = omega arith
 front-step (d ∷ ds) zero = omega arith
 front-step (d ∷ ds) (suc i) = omega (arith, front-step ds i)
 
-pair-first : (sizes : List ℕ) → pairStart sizes 0 1 ≡ 0
+pub pair-first : (sizes : List ℕ) → pairStart sizes 0 1 ≡ 0
 unfolding pairStart sumOf
 pair-first [] = refl
 pair-first (d ∷ ds) = omega arith

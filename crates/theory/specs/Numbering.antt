@@ -2,17 +2,16 @@
 -- A variable past the last one has size 0, so that the bounds of the blocks hold for all variables.
 use Prim.Native.Nat.{ℕ, zero, suc, _+_, _*_, _/_, _%_, _<_, _≤_}
 use mathlib.Core.Path.{_≡_, refl, sym, ap, _∙_}
-use mathlib.Core.Logic.{_≢_, _⊎_, inl, inr}
+use mathlib.Core.Logic.{_≢_}
 use mathlib.Core.List.{List, [], _∷_}
 use native.Mathlib.Omega.{arith}
 use native.Mathlib.Nat.{mul-add, mul-le-mul-left}
 use lib.Arith.{digits-lt, digits-div, digits-mod}
-use lib.Dec.{ltb}
 use lib.ListN.{take}
 use borrow.Author.Tests.{lt-ltb, le-ltb}
 use Rattle.meaning.specs.Task.{size}
 use Rattle.meaning.specs.Feature.{sumOf, pairsOf, atoms, features, single, pairStart, double, both}
-use Rattle.theory.specs.Truth.{on, off, test, less, same, more, order}
+use Rattle.theory.specs.Truth.{less, same, more, order}
 
 -- ---- the blocks of numbers
 
@@ -152,31 +151,9 @@ module _ (sizes : List ℕ) where
     | more l ↦ both-more i x j y l ∙ sym (both-less j y i x l)
   ]
 
-  pub both-above : (i x j y : ℕ) → atoms sizes ≤ both sizes i x j y
-  unfolding both
-  both-above i x j y = elim (test (ltb i j)) [ on e ↦ rw e (double-above i x j y) | off e ↦ rw e (double-above j y i x) ]
-
   pub both-below : (i x j y : ℕ) → i ≢ j → x < size sizes i → y < size sizes j → both sizes i x j y < features sizes
   both-below i x j y d h k = elim (order i j) [
     | less l ↦ rw (both-less i x j y l) (double-below i x j y l h k)
     | same q ↦ absurd (d q)
     | more l ↦ rw (both-more i x j y l) (double-below j y i x l k h)
-  ]
-
-  -- Equal numbers are of the same two atoms, in one order or the other.
-  pub both-only : (i x j y i' x' j' y' : ℕ) → i ≢ j → i' ≢ j' → x < size sizes i → y < size sizes j → x' < size sizes i' → y' < size sizes j'
-      → both sizes i x j y ≡ both sizes i' x' j' y'
-      → ((i ≡ i') × (x ≡ x') × (j ≡ j') × (y ≡ y')) ⊎ ((i ≡ j') × (x ≡ y') × (j ≡ i') × (y ≡ x'))
-  both-only i x j y i' x' j' y' d d' h k h' k' e = elim (order i j) [
-    | less l ↦ elim (order i' j') [
-      | less l' ↦ inl (double-only i x j y i' x' j' y' l l' h k h' k' (sym (both-less i x j y l) ∙ e ∙ both-less i' x' j' y' l'))
-      | same q ↦ absurd (d' q)
-      | more l' ↦ inr (double-only i x j y j' y' i' x' l l' h k k' h' (sym (both-less i x j y l) ∙ e ∙ both-more i' x' j' y' l'))
-    ]
-    | same q ↦ absurd (d q)
-    | more l ↦ elim (order i' j') [
-      | less l' ↦ let (a, b, c, g) = double-only j y i x i' x' j' y' l l' k h h' k' (sym (both-more i x j y l) ∙ e ∙ both-less i' x' j' y' l') in inr (c, g, a, b)
-      | same q ↦ absurd (d' q)
-      | more l' ↦ let (a, b, c, g) = double-only j y i x j' y' i' x' l l' k h k' h' (sym (both-more i x j y l) ∙ e ∙ both-more i' x' j' y' l') in inl (c, g, a, b)
-    ]
   ]

@@ -1,4 +1,4 @@
--- The possible values of an operator's unnamed variables as one set of atoms; an operator given by three lists.
+-- The possible values of an operator's unnamed variables as one set of atoms.
 use Prim.Native.Nat.{ℕ, _<_}
 use mathlib.Core.Path.{_≡_, refl}
 use mathlib.Core.Bool.{true, not, _&&_}
@@ -10,13 +10,8 @@ use Rattle.meaning.specs.Sets.{Set, some}
 use Rattle.meaning.specs.Task.{Operator, names, size}
 use Rattle.meaning.specs.Feature.{single}
 use Rattle.meaning.specs.Pair.{possible}
-use Rattle.meaning.specs.Answer.{operatorIn}
 use Rattle.theory.specs.Search.{and-left, and-right, and-both, true-together, some-at, some-get}
 use Rattle.theory.specs.Numbering.{single-only}
-
--- The operator whose entries stand in three lists of one length: variables, before values, after values.
-abbrev pub entriesIn : List ℕ → List ℕ → List ℕ → Operator
-entriesIn variables befores afters = operatorIn (record { count = length variables; variables = variables; befores = befores; afters = afters })
 
 -- The atoms of unnamed variables that are possible.
 unfoldable pub possibleAtoms : List ℕ → Set → Operator → Set

@@ -31,6 +31,12 @@ pub on-got : {A B : Type 0} (r : Read A) (rest : A → ℕ → Read B) (b : B) (
 on-got (got a middle) rest b next e = (a, middle, refl, e)
 on-got (fault reason place) rest b next e = absurd (not-got e)
 
+-- Reading on after reading on.
+pub on-on : {A B C : Type 0} (r : Read A) (first : A → ℕ → Read B) (rest : B → ℕ → Read C)
+    → onRead (onRead r first) rest ≡ onRead r (λ a next. onRead (first a next) rest)
+on-on (got a next) first rest = refl
+on-on (fault reason place) first rest = refl
+
 -- A test that refuses when it fails has passed.
 pub test-passed : {A : Type 0} (b : Bool) (r : Read A) (reason : Reason) (place : ℕ) (a : A) (next : ℕ)
     → cond b r (fault reason place) ≡ got a next → (b ≡ true) × (r ≡ got a next)

@@ -4,8 +4,8 @@ use mathlib.Core.Path.{_≡_, refl, sym, _∙_}
 use mathlib.Core.Bool.{true, false, _&&_, and-true, and-false}
 use native.Mathlib.Omega.{arith}
 use Rattle.meaning.specs.Sets.{_⊕_, Set, Slots}
-use Rattle.theory.specs.Truth.{on, off, test, less, same, more, order, clash, xor-assoc, xor-self, xor-false}
-use Rattle.theory.specs.Parity.{par, dot, dot-none, dot-xor, dot-and}
+use Rattle.theory.specs.Truth.{on, off, test, less, same, more, order, clash, xor-self, xor-false}
+use Rattle.theory.specs.Parity.{dot, dot-none, dot-xor, dot-and}
 use Rattle.meaning.specs.Slot.{Reduced, Stored}
 use Rattle.theory.specs.Slots.{stored-dot, wit, wit-at, wit-in}
 
@@ -36,15 +36,6 @@ pub red-later : {n : ℕ} {S : Slots} → Reduced n S → (k : ℕ) (d : Set) (p
 unfolding red
 red-later R zero d p l e = refl
 red-later {n} {S} R (suc k) d p l e = rw (R .clear k p e (omega arith), and-false (red S k d k)) (xor-false (red S k d p) ∙ red-later R k d p (omega arith) e)
-
--- So reducing is one sum, over the set's own members.
-pub red-sum : {n : ℕ} {S : Slots} → Reduced n S → (k : ℕ) (d : Set) (f : ℕ) → red S k d f ≡ d f ⊕ par k (λ p. d p && S p f)
-unfolding red par
-red-sum R zero d f = sym (xor-false (d f))
-red-sum {n} {S} R (suc k) d f = rw (turn, red-sum R k d f) (xor-assoc (d f) _ (d k && S k f))
-  where
-    turn : (red S k d k && S k f) ≡ (d k && S k f)
-    turn = elim (test (S k f)) [ on t ↦ rw (red-later R k d k (omega arith) (R .full k f t)) | off t ↦ rw (t, and-false (red S k d k), and-false (d k)) ]
 
 -- Reducing brings in no member past the bound.
 pub red-within : {n : ℕ} {S : Slots} → Reduced n S → (k : ℕ) (d : Set) → ((f : ℕ) → d f ≡ true → f < n) → (f : ℕ) → red S k d f ≡ true → f < n

@@ -2,11 +2,11 @@
 use Prim.Native.Nat.{ℕ, zero, suc, _<_}
 use mathlib.Core.Path.{_≡_, refl, sym, ap, ap₂, _∙_}
 use mathlib.Core.Logic.{_⊎_, inl, inr}
-use mathlib.Core.Bool.{Bool, true, false, not, _&&_, _||_, true≢false, and-eq-true-iff, and-assoc, or-assoc}
+use mathlib.Core.Bool.{Bool, true, false, _&&_, _||_, true≢false, and-eq-true-iff, or-assoc}
 use mathlib.Core.List.{List, [], _∷_, _++_, List·Memᴰ as In, List·Memᴰ·head as here, List·Memᴰ·tail as there, List·Memᴰ·not-nil as not-nil, List·Memᴰ·cases-cons as cases-cons, Memᴰ·cast as cast}
 use native.Mathlib.Omega.{arith}
 use lib.Dec.{eqb}
-use borrow.Author.Tests.{eqb-true, eq-eqb, not-true, not-false}
+use borrow.Author.Tests.{eqb-true, eq-eqb}
 use Rattle.meaning.specs.Sets.{some, every, anyOf, allOf, twoOf, listed}
 use Rattle.theory.specs.Truth.{Test, on, off, test, less, same, more, order, clash}
 
@@ -20,11 +20,6 @@ and-right a b e = and-eq-true-iff a b .0 e .1
 
 pub and-both : (a b : Bool) → a ≡ true → b ≡ true → (a && b) ≡ true
 and-both a b e f = and-eq-true-iff a b .1 (e, f)
-
--- One of two truth values is false if not both are true.
-pub and-either : (a b : Bool) → (a && b) ≡ false → (a ≡ false) ⊎ (b ≡ false)
-and-either true b e = inr e
-and-either false b e = inl refl
 
 pub and-none-left : (a b : Bool) → a ≡ false → (a && b) ≡ false
 and-none-left a b e = cc
@@ -121,17 +116,6 @@ every-at (suc n) p e i l = elim (order i n) [
 pub every-not : (n : ℕ) (p : ℕ → Bool) (i : ℕ) → i < n → p i ≡ false → every n p ≡ false
 every-not n p i l q = elim (test (every n p)) [ on e ↦ absurd (clash (every-at n p e i l) q) | off e ↦ e ]
 
-pub every-get : (n : ℕ) (p : ℕ → Bool) → every n p ≡ false → (i : ℕ) × (i < n) × (p i ≡ false)
-every-get n p e = elim (which n (λ i. not (p i))) [
-  | found i l q ↦ (i, l, not-true (p i) q)
-  | nowhere h ↦ absurd (clash (every-each n p (λ i l. not-false (p i) (h i l))) e)
-]
-
-pub every-cong : (n : ℕ) (p q : ℕ → Bool) → ((i : ℕ) → i < n → p i ≡ q i) → every n p ≡ every n q
-unfolding every
-every-cong zero p q h = refl
-every-cong (suc n) p q h = ap₂ _&&_ (every-cong n p q (λ i l. h i (omega arith))) (h n (omega arith))
-
 -- ---- lists: some element passes
 
 pub any-at : {A : Type 0} (p : A → Bool) (l : List A) (a : A) → In a l → p a ≡ true → anyOf p l ≡ true
@@ -164,11 +148,6 @@ whichOf {A} p (x ∷ xs) = step (test (p x)) (whichOf p xs)
 pub any-get : {A : Type 0} (p : A → Bool) (l : List A) → anyOf p l ≡ true → (a : A) × In a l × (p a ≡ true)
 any-get p l e = elim (whichOf p l) [ member a m q ↦ (a, m, q) | nobody h ↦ absurd (clash e (any-not p l h)) ]
 
-pub any-cong : {A : Type 0} (p q : A → Bool) (l : List A) → ((a : A) → In a l → p a ≡ q a) → anyOf p l ≡ anyOf q l
-unfolding anyOf
-any-cong p q [] h = refl
-any-cong p q (x ∷ xs) h = ap₂ _||_ (h x (here refl)) (any-cong p q xs (λ a m. h a (there m)))
-
 pub any-join : {A : Type 0} (p : A → Bool) (l m : List A) → anyOf p (l ++ m) ≡ (anyOf p l || anyOf p m)
 unfolding anyOf
 any-join p [] m = refl
@@ -186,24 +165,10 @@ unfolding allOf
 all-at p l e a (here {x} {xs} q) = rw q (and-left (p x) (allOf p xs) e)
 all-at p l e a (there {x} {xs} m) = all-at p xs (and-right (p x) (allOf p xs) e) a m
 
-pub all-not : {A : Type 0} (p : A → Bool) (l : List A) (a : A) → In a l → p a ≡ false → allOf p l ≡ false
-all-not p l a m q = elim (test (allOf p l)) [ on e ↦ absurd (clash (all-at p l e a m) q) | off e ↦ e ]
-
-pub all-get : {A : Type 0} (p : A → Bool) (l : List A) → allOf p l ≡ false → (a : A) × In a l × (p a ≡ false)
-all-get p l e = elim (whichOf (λ a. not (p a)) l) [
-  | member a m q ↦ (a, m, not-true (p a) q)
-  | nobody h ↦ absurd (clash (all-each p l (λ a m. not-false (p a) (h a m))) e)
-]
-
 pub all-cong : {A : Type 0} (p q : A → Bool) (l : List A) → ((a : A) → In a l → p a ≡ q a) → allOf p l ≡ allOf q l
 unfolding allOf
 all-cong p q [] h = refl
 all-cong p q (x ∷ xs) h = ap₂ _&&_ (h x (here refl)) (all-cong p q xs (λ a m. h a (there m)))
-
-pub all-join : {A : Type 0} (p : A → Bool) (l m : List A) → allOf p (l ++ m) ≡ (allOf p l && allOf p m)
-unfolding allOf
-all-join p [] m = refl
-all-join p (x ∷ xs) m = ap (_&&_ (p x)) (all-join p xs m) ∙ sym (and-assoc (p x) (allOf p xs) (allOf p m))
 
 -- ---- an element and a later one
 
@@ -262,11 +227,6 @@ two-get {A} r (x ∷ xs) e = step (or-either (anyOf (r x) xs) (twoOf r xs) e) (t
         → (a : A) × (b : A) × Earlier a b (x ∷ xs) × (r a b ≡ true)
     step (inl h) rest = let (b, m, q) = any-get (r x) xs h in (x, b, first refl m, q)
     step (inr h) rest = let (a, b, t, q) = rest h in (a, b, further t, q)
-
-pub two-cong : {A : Type 0} (r s : A → A → Bool) (l : List A) → ((a b : A) → Earlier a b l → r a b ≡ s a b) → twoOf r l ≡ twoOf s l
-unfolding twoOf
-two-cong r s [] h = refl
-two-cong r s (x ∷ xs) h = ap₂ _||_ (any-cong (r x) (s x) xs (λ b m. h x b (first refl m))) (two-cong r s xs (λ a b t. h a b (further t)))
 
 -- ---- the members of a list of numbers
 

@@ -31,10 +31,6 @@ least (suc n) a = go (least n a) (test (a n))
     go (nothing h) (on e) = found n (omega arith) (record { member = e; first = h })
     go (nothing h) (off e) = nothing (below-suc n (λ f. a f ≡ false) h e)
 
-pub least-only : (i j : ℕ) (a : Set) → LeastMember i a → LeastMember j a → i ≡ j
-least-only i j a k k' = elim (order i j)
-    [ less l ↦ absurd (clash (k .member) (k' .first i l)) | same e ↦ e | more l ↦ absurd (clash (k' .member) (k .first j l)) ]
-
 -- The least member below n as a number to compute with; n itself where there is none.
 unfoldable pub lead : ℕ → Set → ℕ
 lead zero a = 0
@@ -105,9 +101,6 @@ module _ {n : ℕ} {S : Slots} (R : Reduced n S) where
   pub wit-past : (m f : ℕ) → m < f → wit S m f ≡ false
   unfolding wit
   wit-past m f l = rw (ne-eqb f m (omega arith), R .low f m l)
-
-  pub wit-within : (m f : ℕ) → wit S m f ≡ true → f ≤ m
-  wit-within m f e = elim (order m f) [ less l ↦ absurd (clash e (wit-past m f l)) | same q ↦ omega arith | more l ↦ omega arith ]
 
   -- Where a slot is empty no forced set has its index as least member.
   pub empty-none : (i : ℕ) (g : Set) → i < n → S i i ≡ false → Forced n (Stored n S) g → LeastMember i g → ⊥

@@ -10,16 +10,12 @@ use Rattle.meaning.specs.Sets.{_⊕_, Set, Slots}
 use Rattle.theory.specs.Truth.{on, off, test, clash, xor-false-same}
 use Rattle.theory.specs.Parity.{dot, dot-none, dot-even, even-dot}
 use Rattle.meaning.specs.Slot.{LeastMember, Reduced, Forced, SlotsOf, Stored}
-use Rattle.theory.specs.Slots.{dot-stored, nothing, found, least, forced-xor, slot-none, slot-past, empty-none}
+use Rattle.theory.specs.Slots.{nothing, found, least, forced-xor, slot-none, slot-past, empty-none}
 use Rattle.theory.specs.Reduce.{red, red-dot, red-avoid}
 
 -- A condition that holds of every weight list which meets all that the condition forces.
 abbrev pub Closed : ℕ → (Set → Type 0) → Type 0
 Closed n Meets = (w : Set) → ((g : Set) → Forced n Meets g → dot n w g ≡ false) → Meets w
-
--- A condition that slots stand for is closed.
-pub closed-of-stored : (n : ℕ) (S : Slots) (Meets : Set → Type 0) → ((w : Set) → Stored n S w ↔ Meets w) → Closed n Meets
-closed-of-stored n S Meets h w k = h w .0 (dot-stored n S w (λ i l. k (S i) (λ u m. h u .1 m i l)))
 
 -- Conditions that hold of the same weights have the same slots.
 pub slots-along : (n : ℕ) (Meets Meets' : Set → Type 0) (S : Slots) → ((w : Set) → Meets w ↔ Meets' w) → SlotsOf n Meets S → SlotsOf n Meets' S

@@ -5,8 +5,7 @@ use mathlib.Core.Bool.{Bool, true, cond}
 use mathlib.Core.List.{List, [], _++_, append-assoc, append-nil}
 use native.Mathlib.Omega.{arith}
 use native.Mathlib.Nat.{zero-add, add-zero}
-use lib.ListN.{length, getD, take, drop, length-append, length-drop, drop-of-length-le}
-use lib.Seq.{slice, take-add, drop-at, take-append-seam, length-take-le}
+use lib.ListN.{length, getD, drop, length-append, drop-of-length-le}
 use lib.Dec.{leb}
 use borrow.Author.Tests.{leb-true}
 use Rattle.meaning.specs.Number.{Reason, LeftOver, got, fault, onRead}
@@ -30,22 +29,6 @@ spent-same P e s = rw (← got-value e, ← got-next e) s
 
 pub spent-known : {bytes : List ℕ} {place next other : ℕ} (P Q : List ℕ → Type 0) (s : Spent bytes place next P) → Q (s .spent) → next ≡ other → Spent bytes place other Q
 spent-known P Q s h e = rw (← e) (record { spent = s .spent; moved = s .moved; there = s .there; known = h })
-
--- The place that is reached is not past the end.
-pub spent-within : (bytes : List ℕ) (place next : ℕ) (P : List ℕ → Type 0) → Spent bytes place next P → place ≤ length bytes → next ≤ length bytes
-spent-within bytes place next P s h =
-    omega (arith, s .moved, length-drop place bytes, length-drop next bytes, ap length (s .there), length-append (s .spent) (drop next bytes))
-
-pub spent-begun : (bytes : List ℕ) (place next : ℕ) (P : List ℕ → Type 0) (s : Spent bytes place next P) → 1 ≤ length (s .spent) → place < length bytes
-spent-begun bytes place next P s h = omega (arith, length-drop place bytes, ap length (s .there), length-append (s .spent) (drop next bytes))
-
-pub spent-slice : (bytes : List ℕ) (place next : ℕ) (P : List ℕ → Type 0) (s : Spent bytes place next P) → place ≤ length bytes → s .spent ≡ slice place next bytes
-spent-slice bytes place next P s h = sym (
-    ap (λ k. drop place (take k bytes)) (s .moved)
-    ∙ ap (drop place) (take-add place (length (s .spent)) bytes)
-    ∙ drop-at (take place bytes) (take (length (s .spent)) (drop place bytes)) place (length-take-le place bytes h)
-    ∙ ap (take (length (s .spent))) (s .there)
-    ∙ take-append-seam (s .spent) (drop next bytes))
 
 -- What is known of each value that is read anywhere in some bytes, together with the bytes that it was read from.
 pub record Gives {A : Type 0} (bytes : List ℕ) (parser : Parser A) (P : A → List ℕ → Type 0) : Type 0 where

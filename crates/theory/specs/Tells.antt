@@ -1,15 +1,15 @@
 -- A truth value that tells whether a statement holds, and how such tests are put together.
 use Prim.Native.Nat.{ℕ, _<_, _≤_}
-use mathlib.Core.Path.{_≡_, refl, ap, ap₂, sym}
-use mathlib.Core.Logic.{_≢_, _⊎_, inl, inr}
-use mathlib.Core.Bool.{Bool, true, false, not, _&&_, _||_, true≢false}
-use mathlib.Core.List.{List, [], _∷_, List·Memᴰ as In}
+use mathlib.Core.Path.{_≡_, ap}
+use mathlib.Core.Logic.{_≢_}
+use mathlib.Core.Bool.{Bool, true, false, not, _&&_, _||_}
+use mathlib.Core.List.{List, List·Memᴰ as In}
 use lib.Dec.{eqb, leb, ltb}
 use borrow.Author.Tests.{eqb-true, eq-eqb, ltb-true, lt-ltb, leb-true, le-leb, not-true}
-use Rattle.meaning.specs.Sets.{_⊕_, some, every, anyOf, allOf, listed}
+use Rattle.meaning.specs.Sets.{_⊕_, every, allOf}
 use Rattle.theory.specs.Truth.{on, off, test, clash, xor-true-differ, differ-xor, xor-false-same, xor-self}
-use Rattle.theory.specs.Search.{and-left, and-right, and-both, or-left, or-right, or-either, true-together}
-use Rattle.theory.specs.Search.{some-at, some-get, every-each, every-at, any-at, any-get, all-each, all-at, listed-in, in-listed}
+use Rattle.theory.specs.Search.{and-left, and-right, and-both, or-left, or-right, true-together}
+use Rattle.theory.specs.Search.{every-each, every-at, all-each, all-at}
 
 -- b is true exactly when P holds.
 pub record Tells (b : Bool) (P : Type 0) : Type 0 where
@@ -47,12 +47,6 @@ tells-same a b = record { yes = λ e. xor-false-same a b (not-true (a ⊕ b) e);
 pub tells-and : {a b : Bool} {P Q : Type 0} → Tells a P → Tells b Q → Tells (a && b) (P × Q)
 tells-and {a} {b} s t = record { yes = λ e. (s .yes (and-left a b e), t .yes (and-right a b e)); back = λ h. and-both a b (s .back (h .0)) (t .back (h .1)) }
 
-pub tells-or : {a b : Bool} {P Q : Type 0} → Tells a P → Tells b Q → Tells (a || b) (P ⊎ Q)
-tells-or {a} {b} s t = record {
-  yes = λ e. elim (or-either a b e) [ inl h ↦ inl (s .yes h) | inr h ↦ inr (t .yes h) ];
-  back = λ h. elim h [ inl p ↦ or-left a b (s .back p) | inr q ↦ or-right a b (t .back q) ];
-}
-
 pub tells-not : {b : Bool} {P : Type 0} → Tells b P → Tells (not b) (P → ⊥)
 tells-not {b} t = record { yes = λ e. tells-no t (not-true b e); back = λ d. ap not (tells-never t d) }
 
@@ -70,14 +64,8 @@ tells-imp {a} {b} s t = record {
 
 -- ---- searches
 
-pub tells-some : (n : ℕ) (p : ℕ → Bool) (P : ℕ → Type 0) → ((i : ℕ) → i < n → Tells (p i) (P i)) → Tells (some n p) ((i : ℕ) × (i < n) × P i)
-tells-some n p P t = record { yes = λ e. let (i, l, q) = some-get n p e in (i, l, t i l .yes q); back = λ h. some-at n p (h .0) (h .1) (t (h .0) (h .1) .back (h .2)) }
-
 pub tells-every : (n : ℕ) (p : ℕ → Bool) (P : ℕ → Type 0) → ((i : ℕ) → i < n → Tells (p i) (P i)) → Tells (every n p) ((i : ℕ) → i < n → P i)
 tells-every n p P t = record { yes = λ e i l. t i l .yes (every-at n p e i l); back = λ h. every-each n p (λ i l. t i l .back (h i l)) }
-
-pub tells-any : {A : Type 0} (p : A → Bool) (P : A → Type 0) (l : List A) → ((a : A) → In a l → Tells (p a) (P a)) → Tells (anyOf p l) ((a : A) × In a l × P a)
-tells-any p P l t = record { yes = λ e. let (a, m, q) = any-get p l e in (a, m, t a m .yes q); back = λ h. any-at p l (h .0) (h .1) (t (h .0) (h .1) .back (h .2)) }
 
 pub tells-all : {A : Type 0} (p : A → Bool) (P : A → Type 0) (l : List A) → ((a : A) → In a l → Tells (p a) (P a)) → Tells (allOf p l) ((a : A) → In a l → P a)
 tells-all p P l t = record { yes = λ e a m. t a m .yes (all-at p l e a m); back = λ h. all-each p l (λ a m. t a m .back (h a m)) }
@@ -92,23 +80,3 @@ tells-lt a b = record { yes = ltb-true a b; back = lt-ltb a b }
 
 pub tells-le : (a b : ℕ) → Tells (leb a b) (a ≤ b)
 tells-le a b = record { yes = leb-true a b; back = le-leb a b }
-
-pub tells-listed : (l : List ℕ) (f : ℕ) → Tells (listed l f) (In f l)
-tells-listed l f = record { yes = listed-in l f; back = in-listed l f }
-
--- Two lists hold the same numbers in the same places.
-unfoldable pub sameList : List ℕ → List ℕ → Bool
-sameList [] [] = true
-sameList [] (y ∷ m) = false
-sameList (x ∷ l) [] = false
-sameList (x ∷ l) (y ∷ m) = eqb x y && sameList l m
-
-pub tells-list : (l m : List ℕ) → Tells (sameList l m) (l ≡ m)
-unfolding sameList
-tells-list [] [] = record { yes = λ e. refl; back = λ e. refl }
-tells-list [] (y ∷ m) = record { yes = λ e. absurd (true≢false (sym e)); back = λ e. cc }
-tells-list (x ∷ l) [] = record { yes = λ e. absurd (true≢false (sym e)); back = λ e. cc }
-tells-list (x ∷ l) (y ∷ m) = tells-map (λ h. ap₂ _∷_ (h .0) (h .1)) parts (tells-and (tells-eq x y) (tells-list l m))
-  where
-    parts : _≡_ {A = List ℕ} (x ∷ l) (y ∷ m) → (x ≡ y) × (l ≡ m)
-    parts e = (cc, cc)

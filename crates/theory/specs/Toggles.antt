@@ -10,7 +10,7 @@ use borrow.Author.Tests.{ltb-true, ltb-false, ne-eqb}
 use Rattle.meaning.specs.Sets.{_⊕_, Set, flat}
 use Rattle.theory.specs.Truth.{on, off, test, xor-assoc, xor-false}
 use Rattle.theory.specs.Flat.{in-two, flat-in}
-use Rattle.theory.specs.Parity.{par, par-cong, par-xor, dot, dot-xor, dot-one, dot-none, dot-comm}
+use Rattle.theory.specs.Parity.{par, dot, dot-xor, dot-one, dot-none, dot-comm}
 
 -- The sum of a test's values over a list: whether an odd number of elements pass.
 unfoldable pub xorOf : {A : Type 0} → (A → Bool) → List A → Bool
@@ -45,9 +45,6 @@ module _ {A : Type 0} where
   unfolding flat par xorOf
   xor-flat p zero g = refl
   xor-flat p (suc n) g = xor-join p (flat n g) (g n) ∙ ap (λ b. b ⊕ xorOf p (g n)) (xor-flat p n g)
-
-  pub xor-both : (p : A → Bool) (n : ℕ) (g h : ℕ → List A) → xorOf p (flat n (λ i. g i ++ h i)) ≡ xorOf p (flat n g) ⊕ xorOf p (flat n h)
-  xor-both p n g h = xor-flat p n _ ∙ par-cong n _ _ (λ i l. xor-join p (g i) (h i)) ∙ par-xor n _ _ ∙ sym (ap₂ _⊕_ (xor-flat p n g) (xor-flat p n h))
 
   pub xor-map : {B : Type 0} (p : A → Bool) (g : B → List A) (l : List B) → xorOf p (flatMap g l) ≡ xorOf (λ b. xorOf p (g b)) l
   unfolding xorOf flatMap

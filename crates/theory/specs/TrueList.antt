@@ -1,20 +1,20 @@
--- Features listed variable by variable increase; so do those true in a state, which are v atoms and v * (v - 1) / 2 pairs of atoms.
-use Prim.Native.Nat.{ℕ, zero, suc, _+_, _-_, _*_, _<_, _≤_}
-use mathlib.Core.Path.{_≡_, refl, ap, ap₂, sym, _∙_, fun-ext}
-use mathlib.Core.Bool.{Bool, true, false, _&&_, _||_, cond, and-true, and-false, or-false}
+-- Features listed variable by variable increase; so do those true in a state.
+use Prim.Native.Nat.{ℕ, zero, suc, _+_, _*_, _<_, _≤_}
+use mathlib.Core.Path.{_≡_, refl, ap₂, _∙_}
+use mathlib.Core.Bool.{Bool, true, false, _&&_, _||_, cond, or-false}
 use mathlib.Core.List.{List, [], _∷_, _++_}
 use native.Mathlib.Omega.{arith}
 use lib.Arith.{digits-lt}
 use lib.Dec.{eqb, ltb}
 use lib.ListN.{length, take, length-append}
 use borrow.Author.Tests.{ltb-true, ltb-false, lt-ltb}
-use Rattle.meaning.specs.Sets.{Set, count, odd, shared, some, anyOf, flat, listed}
-use Rattle.meaning.specs.Task.{value, size, State, Run}
-use Rattle.meaning.specs.Feature.{sumOf, atoms, features, single, pairStart, double, trueIn, parity}
+use Rattle.meaning.specs.Sets.{some, anyOf, flat, listed}
+use Rattle.meaning.specs.Task.{size, Run}
+use Rattle.meaning.specs.Feature.{sumOf, atoms, features, single, pairStart, double, trueIn}
 use Rattle.theory.specs.Truth.{on, off, test}
 use Rattle.theory.specs.Search.{and-left, and-right, and-both, true-together, some-at, some-get, some-cong, listed-join}
-use Rattle.theory.specs.Flat.{listed-flat, length-flat}
-use Rattle.theory.specs.Run.{run-none, run-one, run-wider, run-join, run-flat, members, members-listed}
+use Rattle.theory.specs.Flat.{listed-flat}
+use Rattle.theory.specs.Run.{run-none, run-one, run-wider, run-join, run-flat}
 use Rattle.theory.specs.Numbering.{front-room, front-next, pair-room, pair-along, pair-down}
 
 -- ---- lists of features, variable by variable
@@ -108,70 +108,10 @@ listed-true sizes x f = listed-join (flat v (λ i. single sizes i (x i) ∷ []))
     doubles : listed (flat v (λ i. flat v (λ j. cond (ltb i j) (double sizes i (x i) j (x j) ∷ []) []))) f ≡ some v (λ j. some j (λ i. eqb f (double sizes i (x i) j (x j))))
     doubles = listed-flat v _ f ∙ some-cong v _ _ (λ i l. listed-flat v _ f ∙ some-cong v _ _ (λ j k. listed-when (ltb i j) _ f)) ∙ some-pairs v (λ i j. eqb f (double sizes i (x i) j (x j)))
 
--- ---- how many they are
+-- ---- lengths
 
 -- A function that grows by the length of each list gives the length of all.
 pub length-steps : {A : Type 0} (n : ℕ) (g : ℕ → List A) (lo : ℕ → ℕ) → ((i : ℕ) → i < n → lo i + length (g i) ≡ lo (suc i)) → lo 0 + length (flat n g) ≡ lo n
 unfolding flat
 length-steps zero g lo h = omega arith
 length-steps (suc n) g lo h = rw (length-append (flat n g) (g n)) (omega (arith, length-steps n g lo (λ i l. h i (omega arith)), h n (omega arith)))
-
-module _ (v : ℕ) (g : ℕ → ℕ → ℕ) where
-  -- The pairs of a first variable i: one for each later variable.
-  abbrev pairRow : ℕ → List ℕ
-  pairRow i = flat v (λ j. cond (ltb i j) (g i j ∷ []) [])
-
-  length-row : (i : ℕ) → length (pairRow i) ≡ v - suc i
-  length-row i = omega (
-    arith,
-    length-steps v (λ j. cond (ltb i j) (g i j ∷ []) []) (λ j. j - suc i) (λ j k. elim (test (ltb i j)) [
-      | on e ↦ rw e (omega (arith, ltb-true i j e))
-      | off e ↦ rw e (omega (arith, ltb-false i j e))
-    ]),
-  )
-
-  length-rows : (n : ℕ) → n ≤ v → 2 * length (flat n pairRow) + (n + n * n) ≡ 2 * (n * v)
-  unfolding flat
-  length-rows zero l = omega arith
-  length-rows (suc n) l = rw (length-append (flat n pairRow) (pairRow n)) (omega (arith, length-row n, length-rows n (omega arith)))
-
--- v + v * (v - 1) / 2 of them, here doubled.
-pub length-true : (sizes : List ℕ) (x : ℕ → ℕ) → 2 * length (trueList sizes x) ≡ length sizes + length sizes * length sizes
-unfolding trueList
-length-true sizes x = rw (length-append (flat v (λ i. single sizes i (x i) ∷ [])) (flat v (pairRow v pair)))
-    (omega (arith, length-flat v 1 (λ i. single sizes i (x i) ∷ []) (λ i l. refl), length-rows v pair v (omega arith)))
-  where
-    v : ℕ
-    v = length sizes
-
-    pair : ℕ → ℕ → ℕ
-    pair i j = double sizes i (x i) j (x j)
-
--- ---- counting over the list
-
--- How many elements of a list a set has.
-unfoldable pub countIn : Set → List ℕ → ℕ
-countIn a [] = 0
-countIn a (f ∷ l) = cond (a f) 1 0 + countIn a l
-
-pub count-join : (a : Set) (l m : List ℕ) → countIn a (l ++ m) ≡ countIn a l + countIn a m
-unfolding countIn
-count-join a [] m = omega arith
-count-join a (f ∷ l) m = omega (arith, count-join a l m)
-
-count-members : (a : Set) (n : ℕ) (b : Set) → countIn a (members n b) ≡ shared n a b
-unfolding members shared count flat countIn
-count-members a zero b = refl
-count-members a (suc n) b = count-join a (members n b) _ ∙ ap₂ _+_ (count-members a n b) (elim (test (b n)) [ on e ↦ rw (e, and-true (a n)) (omega arith) | off e ↦ rw (e, and-false (a n)) refl ])
-
-pub shared-listed : (a : Set) (n : ℕ) (l : List ℕ) → Run 0 l n → shared n a (listed l) ≡ countIn a l
-shared-listed a n l r = sym (count-members a n (listed l)) ∙ ap (countIn a) (members-listed 0 n l r)
-
-pub shared-true : (sizes : List ℕ) (x : ℕ → ℕ) (w : Set) → ((i : ℕ) → i < length sizes → x i < size sizes i)
-    → shared (features sizes) w (trueIn sizes x) ≡ countIn w (trueList sizes x)
-shared-true sizes x w within = ap (shared (features sizes) w) (fun-ext (λ f. sym (listed-true sizes x f))) ∙ shared-listed w (features sizes) (trueList sizes x) (run-true sizes x within)
-
--- "the number of listed features true in it, modulo 2"
-pub parity-count : (sizes : List ℕ) (w : Set) (state : List ℕ) → State sizes state → parity sizes w state ≡ odd (countIn w (trueList sizes (value state)))
-unfolding parity
-parity-count sizes w state good = ap odd (shared-true sizes (value state) w (good .values))

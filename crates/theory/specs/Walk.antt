@@ -3,32 +3,27 @@ use Prim.Native.Nat.{ℕ, zero, suc, _<_, _≤_}
 use mathlib.Core.Path.{_≡_, refl, ap, ap₂, sym, _∙_}
 use mathlib.Core.Logic.{_≢_}
 use mathlib.Core.Bool.{Bool, true, false, _&&_, cond, and-true, and-false}
-use mathlib.Core.List.{List, [], _∷_, _++_, List·Memᴰ as In}
-use mathlib.Core.List.{List·Memᴰ·not-nil as not-nil}
+use mathlib.Core.List.{List, [], _∷_, List·Memᴰ as In}
 use native.Mathlib.Omega.{arith}
-use native.Mathlib.Nat.{ne-of-lt}
 use lib.ListN.{length, getD}
 use borrow.Author.Tests.{eq-eqb, ne-eqb}
 use lib.Dec.{eqb}
 use Rattle.meaning.specs.Sets.{_⊕_, Set, flat, listed}
-use Rattle.meaning.specs.Task.{Entry, Operator, State, Entries, names, applied, value, size}
+use Rattle.meaning.specs.Task.{Entry, Operator, State, Entries, names, applied, value}
 use Rattle.meaning.specs.Feature.{features, single, both, trueIn}
-use Rattle.meaning.specs.Pair.{idle}
-use Rattle.theory.specs.Truth.{on, off, test, less, same, more, order, clash, xor-assoc}
+use Rattle.theory.specs.Truth.{on, off, test, less, same, more, order, clash}
 use Rattle.theory.specs.Search.{listed-in}
 use Rattle.theory.specs.Flat.{getD-in, in-getD}
 use Rattle.theory.specs.Parity.{par, dot, par-cong, par-none, par-one, dot-par, dot-one}
 use Rattle.theory.specs.Group.{two, sum}
 use Rattle.theory.specs.Splits.{beside, part, fixed₁, fixed₂, fixed}
-use Rattle.theory.specs.Numbering.{atoms-room, single-below, both-below}
 use Rattle.theory.specs.Meets.{par-sum, par-tri}
 use Rattle.theory.specs.Operators.{beforeOf, afterOf, names-in, entry-of, in-fine, field-at, state-applied}
 use Rattle.theory.specs.GridRule.{kindsOf, gridSum, grid-pair}
-use Rattle.theory.specs.Rows.{change, sidePart, unnamedPart, fixedPart, baseValue, base, apart, wanted}
-use Rattle.theory.specs.Rows.{wanted-parts, base-value, base-range, base-considered, considered-set, change-splits, diff-part}
+use Rattle.theory.specs.Rows.{change, sidePart, fixedPart}
 use Rattle.theory.specs.TrueList.{trueList, run-true, listed-true}
 use Rattle.theory.specs.Run.{run-in}
-use Rattle.theory.specs.Toggles.{xorOf, toggles, xor-two, xor-both, xor-join, xor-flat, toggled, Below, below-two, below-join, below-flat}
+use Rattle.theory.specs.Toggles.{xorOf, xor-two, xor-flat}
 
 -- The entry at a place of an operator.
 abbrev pub entryAt : Operator → ℕ → Entry
@@ -50,14 +45,6 @@ module _ (sizes : List ℕ) where
 
   unfoldable pub doublesOf : Operator → List ℕ
   doublesOf o = flat (length o) (λ l. flat l (λ k. turnedBoth (entryAt o k) (entryAt o l)))
-
-  -- The features of the row at the base state: of one entry, of two, and of an entry beside each unnamed variable's value.
-  unfoldable pub baseFeatures : Set → Operator → List ℕ
-  baseFeatures pairs o = walk (single sizes) o ++ (doublesOf o ++ flat (length sizes) (λ u. cond (names o u) [] (walk (both sizes u (baseValue sizes pairs o u)) o)))
-
-  -- The features of a difference row: four for each entry.
-  unfoldable pub apartFeatures : Set → Operator → ℕ → ℕ → List ℕ
-  apartFeatures pairs o u y = flat (length o) (λ k. turned (both sizes u y) (entryAt o k) ++ turned (both sizes u (baseValue sizes pairs o u)) (entryAt o k))
 
   -- These pairs of features are what the grid gives, for two entries and for an entry beside an unnamed variable, which keeps its value.
   pub turned-grid : (w : Set) (e e' : Entry) → xorOf w (turnedBoth e e')
@@ -168,57 +155,3 @@ true-past sizes s f t l = sym (listed-true sizes (value s) f) ∙ elim (test (li
 pub change-past : (sizes : List ℕ) (o : Operator) (s : List ℕ) (f : ℕ) → Entries sizes 0 o → State sizes s → features sizes ≤ f → change sizes o s f ≡ false
 unfolding change
 change-past sizes o s f h t l = rw (true-past sizes (applied o s) f (state-applied sizes 0 o s h t) l, true-past sizes s f t l) refl
-
-module _ (sizes : List ℕ) (pairs : Set) (o : Operator) (h : Entries sizes 0 o) (busy : idle sizes pairs o ≡ false) where
-  side-below : (u y k : ℕ) → names o u ≡ false → y < size sizes u → k < length o → Below (features sizes) (turned (both sizes u y) (entryAt o k))
-  side-below u y k q l j = let m = at-place sizes o h k j in let r = in-fine sizes 0 o _ m h in
-      let d : u ≢ entryAt o k .variable = λ z. clash (names-in o _ m) (ap (names o) (sym z) ∙ q) in
-      below-two _ _ _ (both-below sizes u y _ _ d l (r .3)) (both-below sizes u y _ _ d l (r .2))
-
-  pub base-below : Below (features sizes) (baseFeatures sizes pairs o)
-  unfolding baseFeatures walk doublesOf
-  base-below = below-join _ (walk (single sizes) o) _ (below-flat _ _ _ own)
-      (below-join _ (doublesOf sizes o) _ (below-flat _ _ _ (λ l r. below-flat _ _ _ (λ k q. pair k l q r))) (below-flat _ _ _ side))
-    where
-      own : (k : ℕ) → k < length o → Below (features sizes) (turned (single sizes) (entryAt o k))
-      own k l = let r = in-fine sizes 0 o _ (at-place sizes o h k l) h in
-          below-two _ _ _ (omega (arith, atoms-room sizes, single-below sizes _ _ (r .3))) (omega (arith, atoms-room sizes, single-below sizes _ _ (r .2)))
-
-      pair : (k l : ℕ) → k < l → l < length o → Below (features sizes) (turnedBoth sizes (entryAt o k) (entryAt o l))
-      pair k l q r = let a = in-fine sizes 0 o _ (at-place sizes o h k (omega arith)) h in let b = in-fine sizes 0 o _ (at-place sizes o h l r) h in
-          let d = ne-of-lt (places-rise sizes 0 o h k l q r) in
-          below-two _ _ _ (both-below sizes _ _ _ _ d (a .3) (b .3)) (both-below sizes _ _ _ _ d (a .2) (b .2))
-
-      side : (u : ℕ) → u < length sizes → Below (features sizes) (cond (names o u) [] (walk (both sizes u (baseValue sizes pairs o u)) o))
-      side u l = elim (test (names o u)) [
-        | on q ↦ rw q (λ m i. absurd (not-nil i))
-        | off q ↦ rw q (below-flat _ _ _ (λ k j. side-below u _ k q (base-range sizes pairs o h busy u l) j))
-      ]
-
-  pub apart-below : (u y : ℕ) → u < length sizes → y < size sizes u → names o u ≡ false → Below (features sizes) (apartFeatures sizes pairs o u y)
-  unfolding apartFeatures
-  apart-below u y l k q = below-flat _ _ _ (λ j r. below-join _ (turned (both sizes u y) (entryAt o j)) _ (side-below u y j q k r) (side-below u _ j q (base-range sizes pairs o h busy u l) r))
-
-  pub base-sum : (w : Set) → dot (features sizes) w (change sizes o (base sizes pairs o)) ≡ xorOf w (baseFeatures sizes pairs o)
-  unfolding baseFeatures xorOf
-  base-sum w = change-splits sizes o h w _ (base-considered sizes pairs o h busy .is-state) (base-considered sizes pairs o h busy .has-before)
-      ∙ ap₂ _⊕_ (fixed-entries sizes o h w) (par-cong (length sizes) _ _ side ∙ sym (xor-flat w (length sizes) _)) ∙ xor-assoc (xorOf w (walk (single sizes) o)) (xorOf w (doublesOf sizes o)) _
-      ∙ sym (xor-join w (walk (single sizes) o) _ ∙ ap (λ b. xorOf w (walk (single sizes) o) ⊕ b) (xor-join w (doublesOf sizes o) _))
-    where
-      side : (u : ℕ) → u < length sizes → unnamedPart sizes o w (base sizes pairs o) u ≡ xorOf w (cond (names o u) [] (walk (both sizes u (baseValue sizes pairs o u)) o))
-      side u l = elim (test (names o u)) [ on q ↦ rw q refl | off q ↦ rw (q, base-value sizes pairs o u l) (part-entries sizes o h w u _) ]
-
-  pub apart-sum : (w : Set) (u y : ℕ) → u < length sizes → y < size sizes u → wanted sizes pairs o u y ≡ true
-      → dot (features sizes) w (apart sizes pairs o u y) ≡ xorOf w (apartFeatures sizes pairs o u y)
-  unfolding apartFeatures walk
-  apart-sum w u y l k e = let (q, p, d) = wanted-parts sizes pairs o u y e in
-      diff-part sizes pairs o h busy w u y l k q p ∙ ap₂ _⊕_ (part-entries sizes o h w u y) (part-entries sizes o h w u _) ∙ sym (xor-both w (length o) _ _)
-
-  pub base-toggles : change sizes o (base sizes pairs o) ≡ toggles (baseFeatures sizes pairs o)
-  base-toggles = toggled (features sizes) _ _ (λ f l. change-past sizes o _ f h (base-considered sizes pairs o h busy .is-state) l) base-below base-sum
-
-  pub apart-toggles : (u y : ℕ) → u < length sizes → y < size sizes u → wanted sizes pairs o u y ≡ true → apart sizes pairs o u y ≡ toggles (apartFeatures sizes pairs o u y)
-  unfolding apart
-  apart-toggles u y l k e = let (q, p, d) = wanted-parts sizes pairs o u y e in let c = base-considered sizes pairs o h busy in
-      toggled (features sizes) _ _ (λ f j. ap₂ _⊕_ (change-past sizes o _ f h (considered-set sizes pairs o _ u y c q k p .is-state) j) (change-past sizes o _ f h (c .is-state) j))
-      (apart-below u y l k q) (λ w. apart-sum w u y l k e)

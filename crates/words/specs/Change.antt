@@ -83,9 +83,6 @@ getD-summed (x ∷ l) [] i e = absurd (omega arith)
 getD-summed (x ∷ l) (y ∷ m) zero e = refl
 getD-summed (x ∷ l) (y ∷ m) (suc i) e = getD-summed l m i (omega arith)
 
-pub words-summed : (l m : List ℕ) → length l ≡ length m → Words l → Words m → Words (summed l m)
-words-summed l m e v w i k = let j : i < length l = rw (length-summed l m) at k in rw (getD-summed l m i e) (xor-lt wordBits _ _ (v i j) (w i (omega arith)))
-
 pub has-summed : (l m : List ℕ) (g : ℕ) → length l ≡ length m → has (summed l m) g ≡ has l g ⊕ has m g
 unfolding has
 has-summed l m g e = rw (getD-summed l m (g / 64) e) (bit-xor (getD l (g / 64) 0) (getD m (g / 64) 0) (g % 64))

@@ -1,7 +1,7 @@
 -- The parity of what two lists of words share: the words in common are added up, and the ones of the sum are counted.
 use Prim.Native.Nat.{ℕ, zero, suc, _+_, _-_, _*_, _^_, _<_, _≤_}
 use mathlib.Core.Path.{_≡_, ap, ap₂, sym, _∙_}
-use mathlib.Core.Bool.{false, _&&_, and-false}
+use mathlib.Core.Bool.{false, _&&_}
 use mathlib.Core.List.{List}
 use native.Mathlib.Omega.{arith}
 use native.Mathlib.Nat.{mul-comm, add-zero, add-suc}
@@ -51,7 +51,3 @@ due n l a e h = let q : 64 * length l ≡ n + (64 * length l - n) = omega arith 
 -- A list of as many words as are due for n features, with no member at n or beyond, shares with any set what it shares below n ..
 pub shared-words : (n : ℕ) (l : List ℕ) (a : Set) → length l ≡ wordsFor n → ((f : ℕ) → n ≤ f → has l f ≡ false) → shared (wordBits * length l) (has l) a ≡ shared n (has l) a
 shared-words n l a e h = due n l a e (λ f j. rw (h f j))
-
--- .. and so does any such list with a set that has no member there.
-pub words-shared : (n : ℕ) (l : List ℕ) (a : Set) → length l ≡ wordsFor n → ((f : ℕ) → n ≤ f → a f ≡ false) → shared (wordBits * length l) (has l) a ≡ shared n (has l) a
-words-shared n l a e h = due n l a e (λ f j. rw (h f j) (and-false (has l f)))

@@ -1,11 +1,11 @@
 -- What a part of a list of words holds, and what joined lists hold.
-use Prim.Native.Nat.{ℕ, _+_, _-_, _*_, _/_, _%_, _^_, _<_, _≤_, min}
+use Prim.Native.Nat.{ℕ, _+_, _-_, _*_, _/_, _%_, _<_, _≤_, min}
 use mathlib.Core.Path.{_≡_}
-use mathlib.Core.Bool.{false, _&&_}
+use mathlib.Core.Bool.{false}
 use mathlib.Core.List.{List, _++_}
 use native.Mathlib.Omega.{arith}
 use lib.Dec.{ltb}
-use lib.ListN.{length, getD, take, drop, replicate, length-take, length-drop, length-append, length-replicate, getD-replicate, List·getD-eq-default, List·getD-append}
+use lib.ListN.{length, take, drop, replicate, length-take, length-drop, length-replicate, getD-replicate, List·getD-eq-default, List·getD-append}
 use lib.Seq.{getD-take, getD-drop, getD-append-add}
 use borrow.Author.Tests.{ltb-true, ltb-false}
 use Rattle.meaning.specs.Limits.{wordBits}
@@ -26,13 +26,6 @@ unfolding has
 has-none n g = elim (test (ltb (g / 64) n)) [
   | on e ↦ rw (getD-replicate {A = ℕ} n (g / 64) 0 0 (ltb-true (g / 64) n e)) (bit-none (g % 64))
   | off e ↦ has-past (replicate n 0) g (rw (length-replicate {A = ℕ} n 0) (omega (arith, ltb-false (g / 64) n e)))
-]
-
-pub has-take : (k : ℕ) (l : List ℕ) (g : ℕ) → has (take k l) g ≡ (ltb g (k * wordBits) && has l g)
-unfolding has
-has-take k l g = elim (test (ltb g (k * 64))) [
-  | on e ↦ rw (e, getD-take k l (g / 64) 0 (omega (arith, ltb-true g (k * 64) e)))
-  | off e ↦ rw e (has-past (take k l) g (rw (length-take k l) (omega (arith, ltb-false g (k * 64) e))))
 ]
 
 pub has-drop : (k : ℕ) (l : List ℕ) (g : ℕ) → has (drop k l) g ≡ has l (k * wordBits + g)
@@ -56,15 +49,6 @@ words-take k l w i h = let j : i < min k (length l) = rw (length-take k l) at h 
 
 pub words-drop : (k : ℕ) (l : List ℕ) → Words l → Words (drop k l)
 words-drop k l w i h = let j : i < length l - k = rw (length-drop k l) at h in rw (getD-drop k l i 0) (w (k + i) (omega arith))
-
-pub words-join : (l m : List ℕ) → Words l → Words m → Words (l ++ m)
-words-join l m v w i h = elim (test (ltb i (length l))) [
-  | on e ↦ let j : i < length l = ltb-true i (length l) e in rw (List·getD-append l m 0 i j) (v i j)
-  | off e ↦ back (ltb-false i (length l) e) (rw (length-append l m) at h)
-]
-  where
-    back : length l ≤ i → i < length l + length m → getD (l ++ m) i 0 < 2 ^ wordBits
-    back j k = let e : i ≡ length l + (i - length l) = omega arith in rw e (rw (getD-append-add l m (i - length l) 0) (w (i - length l) (omega arith)))
 
 pub words-none : (n : ℕ) → Words (replicate n 0)
 words-none n i h = rw (getD-replicate {A = ℕ} n i 0 0 (rw (length-replicate {A = ℕ} n 0) at h)) (omega arith)

@@ -17,7 +17,7 @@ use Rattle.theory.specs.Flat.{getD-in}
 use Rattle.theory.specs.Truth.{on, off, test}
 use Rattle.theory.specs.ReadBack.{weights-back}
 use Rattle.theory.specs.Operands.{need-fine}
-use Rattle.theory.specs.Run.{run-none, run-more, run-first, run-rest, run-length, run-in}
+use Rattle.theory.specs.Run.{run-none, run-more, run-length, run-in}
 use Rattle.writer.specs.Parts.{Countable}
 use Rattle.writer.specs.Remains.{delivered-small, delivered-whole}
 use Rattle.writer.specs.Weights.{weightsJudged, weightsWritten}
@@ -54,13 +54,6 @@ fine-run least (f ∷ fs) h e =
     let (inside, e₁) = need-fine _ _ _ e in
     let (above, e₂) = need-fine _ _ _ e₁ in
     run-more least mostFeatures f fs (leb-true least f above) (fine-run (suc f) fs (ltb-true f mostFeatures inside) e₂)
-
-pub run-fine : (least : ℕ) (weights : List ℕ) → Run least weights mostFeatures → weightsJudged least weights ≡ fine
-unfolding weightsJudged
-run-fine least [] r = refl
-run-fine least (f ∷ fs) r =
-    let rest : Run (suc f) fs mostFeatures = run-rest least mostFeatures f fs r in
-    rw (lt-ltb f mostFeatures (omega (arith, run-length (suc f) mostFeatures fs rest)), le-leb least f (run-first least mostFeatures f fs r)) (run-fine (suc f) fs rest)
 
 -- A list with no fault can be written.
 pub fine-countable : (weights : List ℕ) → weightsJudged 0 weights ≡ fine → Countable weights

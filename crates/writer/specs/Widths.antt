@@ -12,9 +12,10 @@ use Rattle.meaning.specs.Number.{numberBytes}
 use Rattle.meaning.specs.Task.{Entry}
 use Rattle.meaning.specs.File.{bytesOf, counted, entryBytes, operatorBytes}
 use Rattle.meaning.specs.Answer.{operatorIn}
-use Rattle.theory.specs.Flat.{length-table, getD-table}
+use Rattle.theory.specs.Flat.{getD-table}
 use Rattle.theory.specs.NumberBack.{number-bytes-length}
-use Rattle.writer.specs.Parts.{Triples, entryAt, entriesIn}
+use Rattle.theory.specs.Slices.{entryIn, entriesIn, length-held}
+use Rattle.writer.specs.Parts.{Triples}
 
 pub part-length : {l : List ℕ} (part others : List ℕ) → l ≡ part ++ others → length l ≡ length part + length others
 part-length part others e = ap length e ∙ length-append part others
@@ -58,20 +59,16 @@ entries-few = bytes-few entryBytes (3 * mostGroups) few
     few e = omega (arith, entry-length e, number-bytes-length (e .variable), number-bytes-length (e .before), number-bytes-length (e .after))
 
 module _ (variables befores afters : List ℕ) where
-  pub entries-length : length (entriesIn variables befores afters) ≡ length variables
-  unfolding operatorIn
-  entries-length = length-table (length variables) _
-
   pub operator-split : operatorBytes (entriesIn variables befores afters) ≡ numberBytes (length variables) ++ bytesOf entryBytes (entriesIn variables befores afters)
   unfolding operatorBytes counted
-  operator-split = ap (λ n. numberBytes n ++ bytesOf entryBytes (entriesIn variables befores afters)) entries-length
+  operator-split = ap (λ n. numberBytes n ++ bytesOf entryBytes (entriesIn variables befores afters)) (length-held (length variables) variables befores afters)
 
   pub operator-length : length (operatorBytes (entriesIn variables befores afters))
       ≡ length (numberBytes (length variables)) + length (bytesOf entryBytes (entriesIn variables befores afters))
   operator-length = part-length (numberBytes (length variables)) (bytesOf entryBytes (entriesIn variables befores afters)) operator-split
 
   pub operator-few : length (operatorBytes (entriesIn variables befores afters)) ≤ mostGroups + 3 * mostGroups * length variables
-  operator-few = omega (arith, operator-length, entries-length, number-bytes-length (length variables), entries-few (entriesIn variables befores afters))
+  operator-few = omega (arith, operator-length, length-held (length variables) variables befores afters, number-bytes-length (length variables), entries-few (entriesIn variables befores afters))
 
   module _ (i : ℕ) (h : i < length variables) where
     -- The entry at an index is made of numbers of a file.
@@ -79,14 +76,14 @@ module _ (variables befores afters : List ℕ) where
     triple-at (few, b, a, bs, us) = (few .1 i h, bs i (omega arith), us i (omega arith))
 
     pub entries-more : bytesOf entryBytes (drop i (entriesIn variables befores afters))
-        ≡ entryBytes (entryAt variables befores afters i) ++ bytesOf entryBytes (drop (i + 1) (entriesIn variables befores afters))
+        ≡ entryBytes (entryIn variables befores afters i) ++ bytesOf entryBytes (drop (i + 1) (entriesIn variables befores afters))
     unfolding operatorIn
     entries-more =
         let o = entriesIn variables befores afters in
-        let e = entryAt variables befores afters i in
-        bytes-more entryBytes o i e (omega (arith, entries-length))
-        ∙ ap (λ a. entryBytes a ++ bytesOf entryBytes (drop (i + 1) o)) (getD-table (length variables) (entryAt variables befores afters) i e h)
+        let e = entryIn variables befores afters i in
+        bytes-more entryBytes o i e (omega (arith, length-held (length variables) variables befores afters))
+        ∙ ap (λ a. entryBytes a ++ bytesOf entryBytes (drop (i + 1) o)) (getD-table (length variables) (entryIn variables befores afters) i e h)
 
     pub entry-width-more : length (bytesOf entryBytes (drop i (entriesIn variables befores afters)))
-        ≡ length (entryBytes (entryAt variables befores afters i)) + length (bytesOf entryBytes (drop (i + 1) (entriesIn variables befores afters)))
-    entry-width-more = part-length (entryBytes (entryAt variables befores afters i)) (bytesOf entryBytes (drop (i + 1) (entriesIn variables befores afters))) entries-more
+        ≡ length (entryBytes (entryIn variables befores afters i)) + length (bytesOf entryBytes (drop (i + 1) (entriesIn variables befores afters)))
+    entry-width-more = part-length (entryBytes (entryIn variables befores afters i)) (bytesOf entryBytes (drop (i + 1) (entriesIn variables befores afters))) entries-more

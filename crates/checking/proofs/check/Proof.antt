@@ -2,9 +2,9 @@
 use mathlib.Core.Path.{refl}
 use native.Mathlib.Omega.{arith}
 use lib.ListN.{length-take, replicate}
-use Rattle.task.specs.Answer.{Known, judged-accepted, judged-refused}
+use Rattle.task.specs.Answer.{Known, judged-accepted, judged-refused, known-limits}
 use Rattle.checking.specs.Answer.{room-zeros}
-use Rattle.checking.specs.Weigh.{task-refused, known-limits}
+use Rattle.checking.specs.Weigh.{task-refused}
 use borrow.Author.Needs.{needs}
 use Rattle.checking.proofs.check.Statement.{statement}
 use Rattle.checking.proofs.check.Tie as tie
@@ -37,7 +37,7 @@ sub-w c = search needs
 
 -- src/lib.rt:166:22
 add-w : tie.Need-add-w
-add-w c = omega (arith, known-limits _ _ _ _ _ _ _ (known (c .before)) .1)
+add-w c = omega (arith, known-limits (known (c .before)) .1)
 
 -- src/lib.rt:170:17
 slice-aggregate-weigh : tie.Need-slice-aggregate-weigh
@@ -45,15 +45,15 @@ slice-aggregate-weigh c = search needs
 
 -- src/lib.rt:175:17
 array-borrow-prefix-words : tie.Need-array-borrow-prefix-words
-array-borrow-prefix-words c = omega (arith, known-limits _ _ _ _ _ _ _ (known (c .before .before)) .1)
+array-borrow-prefix-words c = omega (arith, known-limits (known (c .before .before)) .1)
 
 -- src/lib.rt:175:17
 slice-aggregate-weigh-2 : tie.Need-slice-aggregate-weigh-2
-slice-aggregate-weigh-2 c = simp length-take (omega (arith, known-limits _ _ _ _ _ _ _ (known (c .before .before .before)) .1))
+slice-aggregate-weigh-2 c = simp length-take (omega (arith, known-limits (known (c .before .before .before)) .1))
 
 -- src/lib.rt:167:13
 weigh-requires : tie.Need-weigh-requires
-weigh-requires c κs = ((_, known (c .before .before .before)), room-zeros _ _ (known-limits _ _ _ _ _ _ _ (known (c .before .before .before)) .1) refl)
+weigh-requires c κs = ((_, known (c .before .before .before)), room-zeros _ _ (known-limits (known (c .before .before .before)) .1) refl)
 
 -- src/lib.rt:178:25
 enum-known-reason : tie.Need-enum-known-reason

@@ -12,11 +12,11 @@ use Rattle.meaning.specs.Number.{got}
 use Rattle.meaning.specs.File.{operatorOf}
 use Rattle.meaning.specs.Answer.{operatorIn}
 use Rattle.meaning.specs.Workspace.{has}
-use Rattle.theory.specs.Possible.{entriesIn}
+use Rattle.meaning.specs.Task.{IsOperator}
+use Rattle.theory.specs.Slices.{entriesIn}
 use Rattle.operator.specs.Records.{recordOf}
-use Rattle.operator.specs.Known.{read-next, read-faulted}
+use Rattle.operator.specs.Known.{read-next, read-faulted, Room, operator-is}
 use Rattle.pairs.specs.Ready.{Ready}
-use Rattle.task.specs.Slices.{Room, count-room, parts-read, parts-ready}
 use Rattle.checking.specs.Breaking.{breakingFrom, breaking-more, breaking-here, breaking-unread, breaking-end}
 use Rattle.checking.proofs.first_breaking.Statement.{statement}
 use Rattle.checking.proofs.first_breaking.Tie as tie
@@ -24,6 +24,7 @@ use Rattle.checking.proofs.first_breaking.Reads as reads
 use Rattle.checking.proofs.first_breaking.Lts as lts
 use Rattle.condition.proofs.is_allowed.Reads as is-allowed-reads
 use Rattle.operator.proofs.read_operator.Reads as read-operator-reads
+use Rattle.pairs.specs.Slices.{count-room, slices-read, slices-ready}
 
 abbrev Inv-loop : tie.InvT-loop
 Inv-loop bytes at count sizes pairs weights next₀ k₀ next k =
@@ -33,24 +34,28 @@ abbrev μ-loop : tie.MeasureT-loop
 μ-loop bytes at count sizes pairs weights next₀ k₀ next k = count - k
 
 -- At a turn: the arrays of the operator that was read, that it was read, and that its slices are ready to be judged.
-room : (c : tie.After-read-operator Inv-loop μ-loop) → let o = c .read-operator .result .operator in Room (o .variables) (o .befores) (o .afters)
+room : (c : tie.After-read-operator Inv-loop μ-loop) → Room (c .read-operator .result .operator)
 room c = record { variables = search needs; befores = search needs; afters = search needs }
 
 read : (c : tie.After-step Inv-loop μ-loop) → let a = c .before .before .before .before .before .before .before .before .before .args in
     operatorOf (a .sizes .now) (a .bytes .now) (c .before .before .before .before .loop .next) ≡ got (operatorIn (recordOf (c .before .before .read-operator .result .operator))) (c .step .given .0 .0)
 read c = read-next _ _ _ _ _ (c .before .before .read-operator .ensures) (c .step .given .1)
 
+is : (c : tie.After-step Inv-loop μ-loop) → let a = c .before .before .before .before .before .before .before .before .before .args in
+    IsOperator (a .sizes .now) (operatorIn (recordOf (c .before .before .read-operator .result .operator)))
+is c = operator-is _ _ _ _ _ (read c)
+
 few : (c : tie.After-step Inv-loop μ-loop) → c .before .before .read-operator .result .operator .count ≤ mostVariables
-few c = count-room _ _ _ _ (room (c .before .before)) _ _ _ _ _ (c .before .before .before .before .before .before .before .before .before .pre .0) (read c)
+few c = count-room (room (c .before .before)) (c .before .before .before .before .before .before .before .before .before .pre .0) (is c)
 
 ready : (c : tie.After-step Inv-loop μ-loop) → let a = c .before .before .before .before .before .before .before .before .before .args in let o = c .before .before .read-operator .result .operator in
     Ready (a .sizes .now) (a .pairs .now) (take (o .count) (o .variables)) (take (o .count) (o .befores)) (take (o .count) (o .afters))
-ready c = parts-ready _ _ _ _ (room (c .before .before)) _ _ _ _ _ (c .before .before .before .before .before .before .before .before .before .pre .0) (read c)
+ready c = slices-ready (room (c .before .before)) (c .before .before .before .before .before .before .before .before .before .pre .0) (is c)
 
 parts : (c : tie.After-step Inv-loop μ-loop) → let a = c .before .before .before .before .before .before .before .before .before .args in let o = c .before .before .read-operator .result .operator in
     operatorOf (a .sizes .now) (a .bytes .now) (c .before .before .before .before .loop .next)
     ≡ got (entriesIn (take (o .count) (o .variables)) (take (o .count) (o .befores)) (take (o .count) (o .afters))) (c .step .given .0 .0)
-parts c = parts-read _ _ _ _ (room (c .before .before)) _ _ _ _ _ (c .before .before .before .before .before .before .before .before .before .pre .0) (read c)
+parts c = slices-read (room (c .before .before)) (c .before .before .before .before .before .before .before .before .before .pre .0) (is c) _ _ _ (read c)
 
 -- src/lib.rt:47:5
 loop-holds : tie.Need-loop-holds Inv-loop μ-loop

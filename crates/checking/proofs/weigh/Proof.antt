@@ -2,9 +2,9 @@
 use Prim.Native.Nat.{_≤_}
 use native.Mathlib.Omega.{arith}
 use lib.ListN.{length}
-use Rattle.task.specs.Answer.{Cuts}
+use Rattle.task.specs.Answer.{Cuts, known-limits, known-room}
 use Rattle.reader.specs.Answer.{reads-next, reads-fault}
-use Rattle.checking.specs.Weigh.{known-limits, known-room, weights-refused, lent-ready, lent-checks}
+use Rattle.checking.specs.Weigh.{weights-refused, lent-ready, lent-checks}
 use borrow.Author.Needs.{needs}
 use Rattle.checking.proofs.weigh.Statement.{statement}
 use Rattle.checking.proofs.weigh.Tie as tie
@@ -24,7 +24,7 @@ cuts : (c : tie.After-slots-at) → let a = c .before .before .before .before .b
 cuts c = record { start-is = c .before .before .before .start-at .ensures; goal-is = c .before .before .goal-at .ensures; pairs-is = c .before .pairs-at .ensures; end-is = c .slots-at .ensures }
 
 room : (c : tie.After-slots-at) → c .slots-at .result ≤ length (c .before .before .before .before .before .before .before .before .before .before .before .before .before .before .args .header .now)
-room c = omega (arith, c .slots-at .ensures, known-room _ _ _ _ _ _ _ (c .before .before .before .before .before .before .before .before .before .before .before .before .before .before .pre .0 .1))
+room c = omega (arith, c .slots-at .ensures, known-room (c .before .before .before .before .before .before .before .before .before .before .before .before .before .before .pre .0 .1))
 
 -- src/lib.rt:132:11
 read-weights-requires : tie.Need-read-weights-requires
@@ -36,19 +36,19 @@ enum-told c = search needs
 
 -- src/lib.rt:134:17
 start-at-requires : tie.Need-start-at-requires
-start-at-requires c κs = known-limits _ _ _ _ _ _ _ (c .before .before .before .before .before .before .before .before .before .before .pre .0 .1) .0
+start-at-requires c κs = known-limits (c .before .before .before .before .before .before .before .before .before .before .pre .0 .1) .0
 
 -- src/lib.rt:135:17
 goal-at-requires : tie.Need-goal-at-requires
-goal-at-requires c κs = known-limits _ _ _ _ _ _ _ (c .before .before .before .before .before .before .before .before .before .before .before .pre .0 .1) .0
+goal-at-requires c κs = known-limits (c .before .before .before .before .before .before .before .before .before .before .before .pre .0 .1) .0
 
 -- src/lib.rt:136:17
 pairs-at-requires : tie.Need-pairs-at-requires
-pairs-at-requires c κs = known-limits _ _ _ _ _ _ _ (c .before .before .before .before .before .before .before .before .before .before .before .before .pre .0 .1) .0
+pairs-at-requires c κs = known-limits (c .before .before .before .before .before .before .before .before .before .before .before .before .pre .0 .1) .0
 
 -- src/lib.rt:137:17
 slots-at-requires : tie.Need-slots-at-requires
-slots-at-requires c κs = known-limits _ _ _ _ _ _ _ (c .before .before .before .before .before .before .before .before .before .before .before .before .before .pre .0 .1)
+slots-at-requires c κs = known-limits (c .before .before .before .before .before .before .before .before .before .before .before .before .before .pre .0 .1)
 
 -- src/lib.rt:142:17
 sub-judge-weights : tie.Need-sub-judge-weights

@@ -7,7 +7,7 @@ use borrow.Author.Needs.{needs}
 use Rattle.meaning.specs.Task.{size}
 use Rattle.meaning.specs.Feature.{features}
 use Rattle.meaning.specs.Workspace.{wordsFor, has}
-use Rattle.theory.specs.Possible.{entriesIn}
+use Rattle.theory.specs.Slices.{entriesIn}
 use Rattle.rows.specs.Apart.{wantedBy, wantedFrom}
 use Rattle.condition.specs.Walk.{rowsBy, rowsFrom, allEven, base-state, base-applies, place-ready, first-for, rows-first, next-for, rows-next, rows-done, even-none, even-stop, even-next}
 use Rattle.condition.proofs.all_even.Statement.{statement}

@@ -6,7 +6,7 @@ use lib.ListN.{length}
 use borrow.Author.Needs.{needs}
 use Rattle.meaning.specs.Task.{size}
 use Rattle.meaning.specs.Workspace.{has}
-use Rattle.theory.specs.Possible.{entriesIn}
+use Rattle.theory.specs.Slices.{entriesIn}
 use Rattle.rows.specs.Apart.{wantedBy, wantedFrom}
 use Rattle.condition.specs.Walk.{RowFor, rowsBy, rowsFrom, base-state, base-applies, place-ready, first-for, rows-first, next-for, rows-next, rows-done}
 use Rattle.condition.specs.Slotted.{sizeWords, sizes-part, Inserting, inserting-start, inserting-long, inserting-turn, turn-sizes, inserting-done}

@@ -1,13 +1,18 @@
 -- `editing::add_operator`: a refusal by the first test that fails; else the operator's rows were inserted into the slots.
+use Prim.Native.Nat.{_≤_}
 use mathlib.Core.Path.{_≡_, ap, sym, _∙_, subst}
 use native.Mathlib.Omega.{arith}
 use lib.Seq.{length-take-le}
 use borrow.Author.Needs.{needs}
-use Rattle.meaning.specs.Answer.{addOperator, fine}
+use Rattle.meaning.specs.Answer.{addOperator, fine, operatorIn}
+use Rattle.meaning.specs.Limits.{mostVariables}
+use Rattle.meaning.specs.Task.{IsOperator}
 use Rattle.operator.specs.Records.{recordOf, judgementOf}
+use Rattle.operator.specs.Known.{Room}
+use Rattle.pairs.specs.Slices.{count-room, slices-hold, slices-ready}
 use Rattle.formed.specs.declared.Formed.the-variants.{Yes}
 use Rattle.formed.specs.Formed.{FormedIs}
-use Rattle.editing.specs.Slices.{Room, fileJudged, operator-file, count-room, slices-hold, slices-ready}
+use Rattle.editing.specs.Judging.{fileJudged, operator-file, file-known}
 use Rattle.editing.specs.Change.{sizesLent, pairsLent, edit-malformed, edit-refused, places, parts-listed, operator-judged, added-opened, operator-done}
 use Rattle.editing.proofs.add_operator.Statement.{statement}
 use Rattle.editing.proofs.add_operator.Tie as tie
@@ -26,6 +31,13 @@ file : (c : tie.After-enum-told) → let s = formed-at c in
     fileJudged (sizesLent (s .variables .given .0 .0) (s .before .before .before .before .before .args .workspace .now)) (s .before .before .before .before .before .args .operator) ≡ fine
 file c = let s = formed-at c in let a = s .before .before .before .before .before .args in
     operator-file (sizesLent (s .variables .given .0 .0) (a .workspace .now)) (pairsLent (s .variables .given .0 .0) (s .variables .given .0 .1 .0) (a .workspace .now)) (a .operator) (sym (c .before .before .judge-operator .ensures) ∙ ap judgementOf (c .enum-told .given .1))
+
+known : (c : tie.After-enum-told) → let s = formed-at c in
+    IsOperator (sizesLent (s .variables .given .0 .0) (s .before .before .before .before .before .args .workspace .now)) (operatorIn (recordOf (s .before .before .before .before .before .args .operator)))
+known c = file-known _ _ (file c)
+
+few : (c : tie.After-enum-told) → formed-at c .before .before .before .before .before .args .operator .count ≤ mostVariables
+few c = count-room (room c) (parts-listed _ _ _ (yes (formed-at c))) (known c)
 
 well-formed-requires : tie.Need-well-formed-requires
 well-formed-requires c κs = search needs
@@ -79,25 +91,25 @@ enum-told : tie.Need-enum-told
 enum-told c = search needs
 
 array-share-prefix-named : tie.Need-array-share-prefix-named
-array-share-prefix-named c = omega (arith, room (c .before) .variables, count-room _ (room (c .before)) _ _ (parts-listed _ _ _ (yes (c .before .before .before .before .before .before .before .before .before .before .before))) (file (c .before)))
+array-share-prefix-named c = omega (arith, room (c .before) .variables, few (c .before))
 
 slice-aggregate-add-rows : tie.Need-slice-aggregate-add-rows
-slice-aggregate-add-rows c = sym (length-take-le _ _ (omega (arith, room (c .before .before) .variables, count-room _ (room (c .before .before)) _ _ (parts-listed _ _ _ (yes (c .before .before .before .before .before .before .before .before .before .before .before .before))) (file (c .before .before)))))
+slice-aggregate-add-rows c = sym (length-take-le _ _ (omega (arith, room (c .before .before) .variables, few (c .before .before))))
 
 array-share-prefix-befores : tie.Need-array-share-prefix-befores
-array-share-prefix-befores c = omega (arith, room (c .before .before) .befores, count-room _ (room (c .before .before)) _ _ (parts-listed _ _ _ (yes (c .before .before .before .before .before .before .before .before .before .before .before .before))) (file (c .before .before)))
+array-share-prefix-befores c = omega (arith, room (c .before .before) .befores, few (c .before .before))
 
 slice-aggregate-add-rows-2 : tie.Need-slice-aggregate-add-rows-2
-slice-aggregate-add-rows-2 c = sym (length-take-le _ _ (omega (arith, room (c .before .before .before) .befores, count-room _ (room (c .before .before .before)) _ _ (parts-listed _ _ _ (yes (c .before .before .before .before .before .before .before .before .before .before .before .before .before))) (file (c .before .before .before)))))
+slice-aggregate-add-rows-2 c = sym (length-take-le _ _ (omega (arith, room (c .before .before .before) .befores, few (c .before .before .before))))
 
 array-share-prefix-afters : tie.Need-array-share-prefix-afters
-array-share-prefix-afters c = omega (arith, room (c .before .before .before) .afters, count-room _ (room (c .before .before .before)) _ _ (parts-listed _ _ _ (yes (c .before .before .before .before .before .before .before .before .before .before .before .before .before))) (file (c .before .before .before)))
+array-share-prefix-afters c = omega (arith, room (c .before .before .before) .afters, few (c .before .before .before))
 
 slice-aggregate-add-rows-3 : tie.Need-slice-aggregate-add-rows-3
-slice-aggregate-add-rows-3 c = sym (length-take-le _ _ (omega (arith, room (c .before .before .before .before) .afters, count-room _ (room (c .before .before .before .before)) _ _ (parts-listed _ _ _ (yes (c .before .before .before .before .before .before .before .before .before .before .before .before .before .before))) (file (c .before .before .before .before)))))
+slice-aggregate-add-rows-3 c = sym (length-take-le _ _ (omega (arith, room (c .before .before .before .before) .afters, few (c .before .before .before .before))))
 
 add-rows-requires : tie.Need-add-rows-requires
-add-rows-requires c κs = added-opened (c .before .before .before .before .before .before .before .before .before .before .before .before .before .before .before .before .before .before .before .args .workspace .now) _ _ (yes (c .before .before .before .before .before .before .before .before .before .before .before .before .before .before)) _ _ _ (slices-ready _ (room (c .before .before .before .before)) _ _ (parts-listed _ _ _ (yes (c .before .before .before .before .before .before .before .before .before .before .before .before .before .before))) (file (c .before .before .before .before)))
+add-rows-requires c κs = added-opened (c .before .before .before .before .before .before .before .before .before .before .before .before .before .before .before .before .before .before .before .args .workspace .now) _ _ (yes (c .before .before .before .before .before .before .before .before .before .before .before .before .before .before)) _ _ _ (slices-ready (room (c .before .before .before .before)) (parts-listed _ _ _ (yes (c .before .before .before .before .before .before .before .before .before .before .before .before .before .before))) (known (c .before .before .before .before)))
 
 enum-known-reason : tie.Need-enum-known-reason
 enum-known-reason c = search needs
@@ -117,7 +129,7 @@ same-length c = search needs
 returns : tie.Need-returns
 returns c = let o = c .before .before .before .before .before .before .before .before .before .before .before .before .before .before .before .before .before .before .before .before .before .before .args .operator in
     operator-done (c .before .before .before .before .before .before .before .before .before .before .before .before .before .before .before .before .before .before .before .before .before .before .args .workspace .now) _ _ (yes (c .before .before .before .before .before .before .before .before .before .before .before .before .before .before .before .before .before)) (recordOf o) _ _ (operator-judged _ _ _ (yes (c .before .before .before .before .before .before .before .before .before .before .before .before .before .before .before .before .before)) (recordOf o) _ (c .before .before .before .before .before .before .before .before .before .judge-operator .ensures) ∙ ap judgementOf (c .before .before .before .before .before .before .before .enum-told .given .1))
-    (slices-hold o (room (c .before .before .before .before .before .before .before)) _ _ (parts-listed _ _ _ (yes (c .before .before .before .before .before .before .before .before .before .before .before .before .before .before .before .before .before))) (file (c .before .before .before .before .before .before .before))) (c .before .before .add-rows .ensures)
+    (slices-hold (room (c .before .before .before .before .before .before .before)) (parts-listed _ _ _ (yes (c .before .before .before .before .before .before .before .before .before .before .before .before .before .before .before .before .before))) (known (c .before .before .before .before .before .before .before))) (c .before .before .add-rows .ensures)
 
 same-length-2 : tie.Need-same-length-2
 same-length-2 c = search needs

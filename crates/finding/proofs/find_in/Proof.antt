@@ -6,9 +6,10 @@ use lib.ListN.{take, drop, length-take}
 use Rattle.meaning.specs.Workspace.{wordsFor, pairsAt, slotsAt}
 use Rattle.meaning.specs.Answer.{done, FindsIn}
 use Rattle.formed.specs.Parts.{sized-small}
-use Rattle.finding.specs.Search.{lent-is, lent-searched, front-none}
+use Rattle.finding.specs.Search.{lent-is, lent-searched}
 use Rattle.finding.specs.Found.{findingOf, searched-finds}
 use borrow.Author.Needs.{needs}
+use Rattle.theory.specs.Flat.{take-replicate}
 use Rattle.finding.proofs.find_in.Statement.{statement}
 use Rattle.finding.proofs.find_in.Tie as tie
 
@@ -89,7 +90,7 @@ slice-aggregate-search c = simp length-take (omega (arith, sized-small _ _ _ (c 
 
 search-requires : tie.Need-search-requires
 search-requires c κs = let a = c .before .before .before .before .before .before .before .before in let (s, due, proper, room) = a .pre in
-    (lent-searched _ _ _ s due proper, front-none (wordsFor (a .args .n)) 64 (omega (arith, sized-small _ _ _ s)), room)
+    (lent-searched _ _ _ s due proper, take-replicate (wordsFor (a .args .n)) 64 0 (omega (arith, sized-small _ _ _ s)), room)
 
 same-length : tie.Need-same-length
 same-length c = search needs

@@ -5,9 +5,10 @@ use native.Mathlib.Numerals.{add-one}
 use native.Mathlib.Omega.{arith}
 use lib.ListN.{length, getD}
 use Rattle.meaning.specs.Feature.{pairStart}
+use Rattle.theory.specs.NumberOrder.{pair-first}
 use Rattle.numbering.specs.Sums.{all-atoms}
 use Rattle.numbering.specs.Starts.{starting-number}
-use Rattle.numbering.specs.Blocks.{Block, block, row-first, row-next}
+use Rattle.numbering.specs.Blocks.{Block, block, row-next}
 use Rattle.numbering.proofs.pair_start.Statement.{statement}
 use Rattle.numbering.proofs.pair_start.Tie as tie
 
@@ -52,7 +53,7 @@ atoms-requires : tie.Need-atoms-requires Inv-loop μ-loop
 atoms-requires c κs = c .before .before .pre .0
 
 loop-holds : tie.Need-loop-holds Inv-loop μ-loop
-loop-holds c = (omega arith, sym (row-first _))
+loop-holds c = (omega arith, sym (pair-first _))
 
 size-requires : tie.Need-size-requires Inv-loop μ-loop
 size-requires c κs = omega arith

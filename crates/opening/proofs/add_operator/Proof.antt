@@ -5,13 +5,13 @@ use native.Mathlib.Omega.{arith}
 use lib.Seq.{length-take-le}
 use borrow.Author.Needs.{needs}
 use Rattle.meaning.specs.Limits.{mostVariables}
-use Rattle.task.specs.Slices.{Room}
+use Rattle.operator.specs.Known.{Room}
 use Rattle.opening.specs.Step.{work-limits, work-due, step-few, step-opened, step-place, step-rows, fault-place, fault-rows}
 use Rattle.opening.proofs.add_operator.Statement.{statement}
 use Rattle.opening.proofs.add_operator.Tie as tie
 
 -- The arrays of the operator that was read, and what is known of it once it went on.
-room : (c : tie.After-read-operator) → let o = c .read-operator .result .operator in Room (o .variables) (o .befores) (o .afters)
+room : (c : tie.After-read-operator) → Room (c .read-operator .result .operator)
 room c = record { variables = search needs; befores = search needs; afters = search needs }
 
 few : (c : tie.After-step) → c .before .before .read-operator .result .operator .count ≤ mostVariables

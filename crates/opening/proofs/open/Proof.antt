@@ -6,8 +6,8 @@ use lib.Seq.{length-take-le}
 use borrow.Author.Needs.{needs}
 use Rattle.meaning.specs.Limits.{mostVariables, mostFeatures}
 use Rattle.meaning.specs.Workspace.{slotsAt}
-use Rattle.task.specs.Answer.{Known, judged-accepted, judged-refused}
-use Rattle.opening.specs.Begin.{known-limits, begun-workable, begun-added, opens-small, opens-done, opens-refused}
+use Rattle.task.specs.Answer.{Known, judged-accepted, judged-refused, known-limits}
+use Rattle.opening.specs.Begin.{begun-workable, begun-added, opens-small, opens-done, opens-refused}
 use Rattle.opening.proofs.open.Statement.{statement}
 use Rattle.opening.proofs.open.Tie as tie
 
@@ -26,7 +26,7 @@ enum-known-variables : tie.Need-enum-known-variables
 enum-known-variables c = search needs
 
 words-due-requires : tie.Need-words-due-requires
-words-due-requires c κs = known-limits _ _ _ (c .before .before .before .before .before .before .before .before .args .room .now) _ _ _ _ (known (c .before))
+words-due-requires c κs = known-limits (known (c .before))
 
 refusal-requires : tie.Need-refusal-requires
 refusal-requires c κs = search needs
@@ -35,13 +35,13 @@ returns : tie.Need-returns
 returns c = opens-small _ _ _ (c .before .before .before .before .before .before .before .before .before .before .before .args .room .now) _ _ _ _ (known (c .before .before .before .before)) _ _ (c .before .before .words-due .ensures) (c .before .if1 .taken) (c .refusal .ensures)
 
 slots-at-requires : tie.Need-slots-at-requires
-slots-at-requires c κs = known-limits _ _ _ (c .before .before .before .before .before .before .before .before .before .before .args .room .now) _ _ _ _ (known (c .before .before .before))
+slots-at-requires c κs = known-limits (known (c .before .before .before))
 
 array-share-prefix-header : tie.Need-array-share-prefix-header
-array-share-prefix-header c = omega (arith, c .before .slots-at .ensures, known-limits _ _ _ (c .before .before .before .before .before .before .before .before .before .before .before .before .args .room .now) _ _ _ _ (known (c .before .before .before .before .before)))
+array-share-prefix-header c = omega (arith, c .before .slots-at .ensures, known-limits (known (c .before .before .before .before .before)))
 
 slice-aggregate-begin : tie.Need-slice-aggregate-begin
-slice-aggregate-begin c = sym (length-take-le _ _ (omega (arith, c .before .before .slots-at .ensures, known-limits _ _ _ (c .before .before .before .before .before .before .before .before .before .before .before .before .before .args .room .now) _ _ _ _ (known (c .before .before .before .before .before .before)))))
+slice-aggregate-begin c = sym (length-take-le _ _ (omega (arith, c .before .before .slots-at .ensures, known-limits (known (c .before .before .before .before .before .before)))))
 
 begin-requires : tie.Need-begin-requires
 begin-requires c κs = (simp length-take (omega (arith, c .before .before .before .before .words-due .ensures, c .before .before .slots-at .ensures)), c .before .before .before .if1 .left)

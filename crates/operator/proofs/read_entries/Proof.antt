@@ -12,7 +12,8 @@ use Rattle.meaning.specs.Number.{got}
 use Rattle.meaning.specs.File.{entriesOf}
 use Rattle.meaning.specs.Answer.{operatorIn}
 use Rattle.theory.specs.Parts.{entries-said}
-use Rattle.operator.specs.Records.{entryIn, firstOf, entryReadOf}
+use Rattle.theory.specs.Slices.{entryOf}
+use Rattle.operator.specs.Records.{firstOf, entryReadOf}
 use Rattle.operator.specs.Laws.{behind, behind-none, held-more, read-more, read-fault, read-all}
 use Rattle.operator.proofs.read_entries.Statement.{statement}
 use Rattle.operator.proofs.read_entries.Tie as tie
@@ -32,7 +33,7 @@ abbrev μ-loop : tie.MeasureT-loop
 -- The entry that was read, and that its variable is one.
 entry : (c : tie.After-variable Inv-loop μ-loop) → let a = c .before .before .before .before .before .before .before .before .args in let l = c .before .before .before .before .loop in
     let known = c .variable .given .0 in
-    entriesOf (a .sizes .now) 1 (l .least) (a .bytes .now) (l .next) ≡ got (entryIn (known .0) (known .1 .0) (known .1 .1 .0) ∷ []) (known .1 .1 .1 .0)
+    entriesOf (a .sizes .now) 1 (l .least) (a .bytes .now) (l .next) ≡ got (entryOf (known .0) (known .1 .0) (known .1 .1 .0) ∷ []) (known .1 .1 .1 .0)
 entry c = sym (c .before .before .read-entry .ensures) ∙ ap entryReadOf (c .variable .given .1)
 
 below : (c : tie.After-variable Inv-loop μ-loop) → c .variable .given .0 .0 < length (c .before .before .before .before .before .before .before .before .args .sizes .now)

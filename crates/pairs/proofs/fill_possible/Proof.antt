@@ -6,7 +6,7 @@ use native.Mathlib.Omega.{arith}
 use lib.ListN.{length}
 use borrow.Author.Tests.{not-true, not-false}
 use Rattle.meaning.specs.Workspace.{has}
-use Rattle.theory.specs.Possible.{entriesIn}
+use Rattle.theory.specs.Slices.{entriesIn}
 use Rattle.pairs.specs.Ready.{ready-listed, ready-befores, names-apart}
 use Rattle.pairs.specs.Fill.{Filled, filled-start, filled-lacks, filled-skip, filled-put, filled-done}
 use Rattle.pairs.proofs.fill_possible.Statement.{statement}

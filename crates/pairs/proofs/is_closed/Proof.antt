@@ -6,7 +6,7 @@ use native.Mathlib.Omega.{arith}
 use lib.ListN.{length}
 use Rattle.meaning.specs.Sets.{some}
 use Rattle.meaning.specs.Workspace.{has}
-use Rattle.theory.specs.Possible.{entriesIn}
+use Rattle.theory.specs.Slices.{entriesIn}
 use Rattle.pairs.specs.Places.{some-start, some-next, some-done}
 use Rattle.pairs.specs.Judge.{unclosedAt, closed-idle, closed-found, closed-none}
 use Rattle.pairs.proofs.is_closed.Statement.{statement}

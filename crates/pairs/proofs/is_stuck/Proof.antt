@@ -9,7 +9,7 @@ use lib.ListN.{length}
 use Rattle.meaning.specs.Sets.{some}
 use Rattle.meaning.specs.Task.{names}
 use Rattle.theory.specs.Search.{some-at, and-both, and-none-left, and-none-right}
-use Rattle.theory.specs.Possible.{entriesIn}
+use Rattle.theory.specs.Slices.{entriesIn}
 use Rattle.pairs.specs.Places.{some-start, some-next, some-done}
 use Rattle.pairs.specs.Judge.{valued}
 use Rattle.pairs.proofs.is_stuck.Statement.{statement}

@@ -2,7 +2,7 @@
 use mathlib.Core.Path.{_∙_, ap}
 use lib.ListN.{length}
 use borrow.Author.Needs.{needs}
-use Rattle.rows.specs.Given.{entry-fine}
+use Rattle.theory.specs.Slices.{entry-fine}
 use Rattle.rows.specs.Base.{length-least, base-filled}
 use Rattle.rows.proofs.fill_base.Statement.{statement}
 use Rattle.rows.proofs.fill_base.Tie as tie
@@ -14,7 +14,7 @@ fill-befores-requires : tie.Need-fill-befores-requires
 fill-befores-requires c κs =
     let start = c .before .before .before .before .before .before .before .before .before .before .before in
     let g = start .pre .0 in
-    (g .befores-due, λ k l. rw (ap length (c .before .before .before .fill-least .ensures) ∙ length-least _ _) (entry-fine g k l .0))
+    (g .befores-equal, λ k l. rw (ap length (c .before .before .before .fill-least .ensures) ∙ length-least _ _) (entry-fine g k l .0))
 
 same-length : tie.Need-same-length
 same-length c = search needs

@@ -4,11 +4,11 @@ use mathlib.Core.Path.{_≡_, sym, ap, _∙_}
 use native.Mathlib.Omega.{arith}
 use lib.ListN.{length}
 use Rattle.meaning.specs.Sets.{flat}
-use Rattle.theory.specs.Possible.{entriesIn}
+use Rattle.theory.specs.Slices.{entriesIn, entry-at, entry-fine, length-held}
 use Rattle.theory.specs.Walk.{entryAt}
 use Rattle.words.specs.Toggled.{toggledAll, toggled-start, toggled-turn, length-next}
 use Rattle.rows.specs.Moves.{room-toggled}
-use Rattle.rows.specs.Given.{length-entries, entry-at, entry-fine, entry-other}
+use Rattle.rows.specs.Given.{entry-other}
 use Rattle.rows.specs.Change.{movedBoth, stays, besideFeatures}
 use Rattle.rows.proofs.toggle_beside.Statement.{statement}
 use Rattle.rows.proofs.toggle_beside.Tie as tie
@@ -67,7 +67,7 @@ unfolding besideFeatures
 returns c =
     let start = c .before .before .before .before .before .before .before in
     let e : c .before .loop .k ≡ length (start .args .variables .now) = omega arith in
-    c .before .loop .inv .1 ∙ rw (e, length-entries (start .args .variables .now) (start .args .befores .now) (start .args .afters .now))
+    c .before .loop .inv .1 ∙ rw (e, length-held (length (start .args .variables .now)) (start .args .variables .now) (start .args .befores .now) (start .args .afters .now))
 
 pub toggle-beside-spec : {M : Type 1} → statement M
 toggle-beside-spec =

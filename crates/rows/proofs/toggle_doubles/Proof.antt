@@ -4,10 +4,9 @@ use mathlib.Core.Path.{_≡_, _∙_}
 use native.Mathlib.Omega.{arith}
 use lib.ListN.{length}
 use Rattle.meaning.specs.Sets.{flat}
-use Rattle.theory.specs.Possible.{entriesIn}
+use Rattle.theory.specs.Slices.{entriesIn, length-held}
 use Rattle.words.specs.Toggled.{toggledAll, toggled-start, toggled-turn, length-next}
 use Rattle.rows.specs.Moves.{room-toggled}
-use Rattle.rows.specs.Given.{length-entries}
 use Rattle.rows.specs.Change.{earlierFeatures, namedFeatures}
 use Rattle.rows.proofs.toggle_doubles.Statement.{statement}
 use Rattle.rows.proofs.toggle_doubles.Tie as tie
@@ -43,7 +42,7 @@ unfolding namedFeatures
 returns c =
     let start = c .before .before .before .before .before .before .before in
     let e : c .before .loop .l ≡ length (start .args .variables .now) = omega arith in
-    c .before .loop .inv .1 ∙ rw (e, length-entries (start .args .variables .now) (start .args .befores .now) (start .args .afters .now))
+    c .before .loop .inv .1 ∙ rw (e, length-held (length (start .args .variables .now)) (start .args .variables .now) (start .args .befores .now) (start .args .afters .now))
 
 pub toggle-doubles-spec : {M : Type 1} → statement M
 toggle-doubles-spec =

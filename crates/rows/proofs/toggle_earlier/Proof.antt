@@ -4,11 +4,10 @@ use mathlib.Core.Path.{_≡_, sym, ap₂, _∙_}
 use native.Mathlib.Omega.{arith}
 use native.Mathlib.Nat.{ne-of-lt}
 use Rattle.meaning.specs.Sets.{flat}
-use Rattle.theory.specs.Possible.{entriesIn}
+use Rattle.theory.specs.Slices.{entriesIn, entry-at, entry-fine, entries-rise}
 use Rattle.theory.specs.Walk.{entryAt}
 use Rattle.words.specs.Toggled.{toggledAll, toggled-start, toggled-turn, length-next}
 use Rattle.rows.specs.Moves.{room-toggled}
-use Rattle.rows.specs.Given.{entry-at, entry-fine, entries-rise}
 use Rattle.rows.specs.Change.{movedBoth, earlierFeatures}
 use Rattle.rows.proofs.toggle_earlier.Statement.{statement}
 use Rattle.rows.proofs.toggle_earlier.Tie as tie

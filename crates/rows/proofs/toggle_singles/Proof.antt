@@ -5,12 +5,11 @@ use native.Mathlib.Omega.{arith}
 use lib.ListN.{length}
 use Rattle.meaning.specs.Sets.{flat}
 use Rattle.meaning.specs.Feature.{single}
-use Rattle.theory.specs.Possible.{entriesIn}
+use Rattle.theory.specs.Slices.{entriesIn, entry-at, entry-fine, length-held}
 use Rattle.theory.specs.Walk.{entryAt, turned, walk}
 use Rattle.numbering.specs.Sizes.{limits-small}
 use Rattle.words.specs.Toggled.{toggledAll, toggled-start, toggled-turn, toggled-two, length-next}
 use Rattle.rows.specs.Moves.{room-toggled, room-one, single-room}
-use Rattle.rows.specs.Given.{length-entries, entry-at, entry-fine}
 use Rattle.rows.proofs.toggle_singles.Statement.{statement}
 use Rattle.rows.proofs.toggle_singles.Tie as tie
 
@@ -89,7 +88,7 @@ unfolding walk
 returns c =
     let start = c .before .before .before .before .before .before .before in
     let e : c .before .loop .k ≡ length (start .args .variables .now) = omega arith in
-    c .before .loop .inv .1 ∙ rw (e, length-entries (start .args .variables .now) (start .args .befores .now) (start .args .afters .now))
+    c .before .loop .inv .1 ∙ rw (e, length-held (length (start .args .variables .now)) (start .args .variables .now) (start .args .befores .now) (start .args .afters .now))
 
 pub toggle-singles-spec : {M : Type 1} → statement M
 toggle-singles-spec =

@@ -12,21 +12,21 @@ use borrow.Author.Needs.{needs}
 use borrow.Author.Tests.{not-true, not-false}
 use Rattle.meaning.specs.Limits.{mostVariables, mostFeatures}
 use Rattle.meaning.specs.Sets.{some}
-use Rattle.meaning.specs.Task.{Operator}
+use Rattle.meaning.specs.Task.{Operator, IsOperator}
 use Rattle.meaning.specs.Number.{Read, got}
 use Rattle.meaning.specs.File.{operatorOf}
 use Rattle.meaning.specs.Answer.{operatorIn}
 use Rattle.meaning.specs.Pair.{closed}
 use Rattle.meaning.specs.Workspace.{wordsFor, has}
-use Rattle.theory.specs.Possible.{entriesIn}
+use Rattle.theory.specs.Slices.{entriesIn}
 use Rattle.numbering.specs.Sizes.{atoms-limit}
 use Rattle.operator.specs.Records.{recordOf}
-use Rattle.operator.specs.Known.{read-next, read-faulted}
+use Rattle.operator.specs.Known.{read-next, read-faulted, Room, operator-is}
 use Rattle.pairs.specs.Places.{some-start, some-next, some-done}
 use Rattle.pairs.specs.Ready.{Ready}
 use Rattle.pairs.specs.Judge.{unclosedAt, closed-idle, closed-found, closed-none}
+use Rattle.pairs.specs.Slices.{count-room, slices-read, slices-ready}
 use Rattle.task.specs.Walk.{closedFrom, closed-more, closed-fails, closed-unread, closed-end}
-use Rattle.task.specs.Slices.{Room, count-room, parts-read, parts-ready}
 use Rattle.task.proofs.are_closed.Statement.{statement}
 use Rattle.task.proofs.are_closed.Tie as tie
 
@@ -46,7 +46,7 @@ abbrev μ-walk : tie.MeasureT-walk
 μ-walk bytes at count sizes pairs possible₀ closed₀ next₀ k₀ possible closed next k = count - k
 
 -- At a turn: the arrays of the operator that was read, that it was read, and that its slices are ready to be judged.
-room : (c : tie.After-read-operator Inv-loop μ-loop Inv-walk μ-walk) → let o = c .read-operator .result .operator in Room (o .variables) (o .befores) (o .afters)
+room : (c : tie.After-read-operator Inv-loop μ-loop Inv-walk μ-walk) → Room (c .read-operator .result .operator)
 room c = record { variables = search needs; befores = search needs; afters = search needs }
 
 abbrev sizes-of : tie.After-step Inv-loop μ-loop Inv-walk μ-walk → List ℕ
@@ -65,15 +65,18 @@ there s = operatorOf (sizes-of s) (s .before .before .before .before .before .be
 read : (s : tie.After-step Inv-loop μ-loop Inv-walk μ-walk) → there s ≡ got (operatorIn (recordOf (s .before .before .read-operator .result .operator))) (s .step .given .0 .0)
 read s = read-next _ _ _ _ _ (s .before .before .read-operator .ensures) (s .step .given .1)
 
+is : (s : tie.After-step Inv-loop μ-loop Inv-walk μ-walk) → IsOperator (sizes-of s) (operatorIn (recordOf (s .before .before .read-operator .result .operator)))
+is s = operator-is _ _ _ _ _ (read s)
+
 parts : (s : tie.After-step Inv-loop μ-loop Inv-walk μ-walk) → there s ≡ got (operator-of s) (s .step .given .0 .0)
-parts s = parts-read _ _ _ _ (room (s .before .before)) _ _ _ _ _ (s .before .before .before .before .before .before .before .before .pre) (read s)
+parts s = slices-read (room (s .before .before)) (s .before .before .before .before .before .before .before .before .pre) (is s) _ _ _ (read s)
 
 few : (s : tie.After-step Inv-loop μ-loop Inv-walk μ-walk) → s .before .before .read-operator .result .operator .count ≤ mostVariables
-few s = count-room _ _ _ _ (room (s .before .before)) _ _ _ _ _ (s .before .before .before .before .before .before .before .before .pre) (read s)
+few s = count-room (room (s .before .before)) (s .before .before .before .before .before .before .before .before .pre) (is s)
 
 ready : (s : tie.After-step Inv-loop μ-loop Inv-walk μ-walk) → let o = s .before .before .read-operator .result .operator in
     Ready (sizes-of s) (pairs-of s) (take (o .count) (o .variables)) (take (o .count) (o .befores)) (take (o .count) (o .afters))
-ready s = parts-ready _ _ _ _ (room (s .before .before)) _ _ _ _ _ (s .before .before .before .before .before .before .before .before .pre) (read s)
+ready s = slices-ready (room (s .before .before)) (s .before .before .before .before .before .before .before .before .pre) (is s)
 
 -- The turn in which it was asked whether an operator is idle.
 abbrev turn : tie.After-is-idle Inv-loop μ-loop Inv-walk μ-walk → tie.After-step Inv-loop μ-loop Inv-walk μ-walk

@@ -2,7 +2,7 @@
 use native.Mathlib.Omega.{arith}
 use borrow.Author.Needs.{needs}
 use Rattle.theory.specs.NumberBack.{number-bytes-length}
-use Rattle.writer.specs.Parts.{entryOf}
+use Rattle.theory.specs.Slices.{entryOf}
 use Rattle.writer.specs.Widths.{entry-length}
 use Rattle.writer.proofs.entry_width.Statement.{statement}
 use Rattle.writer.proofs.entry_width.Tie as tie

@@ -4,8 +4,8 @@ use mathlib.Core.Path.{_≡_, ap}
 use native.Mathlib.Omega.{arith}
 use lib.ListN.{length, drop}
 use Rattle.meaning.specs.File.{bytesOf, entryBytes, operatorBytes}
-use Rattle.writer.specs.Parts.{entriesIn}
-use Rattle.writer.specs.Widths.{bytes-none, operator-length, operator-few, entries-length, entry-width-more, triple-at}
+use Rattle.theory.specs.Slices.{entriesIn, length-held}
+use Rattle.writer.specs.Widths.{bytes-none, operator-length, operator-few, entry-width-more, triple-at}
 use Rattle.writer.proofs.operator_width.Statement.{statement}
 use Rattle.writer.proofs.operator_width.Tie as tie
 
@@ -69,7 +69,7 @@ returns : tie.Need-returns Inv-loop μ-loop
 returns c =
     let a = c .before .before .before .before .before .before .args in
     let o = entriesIn (a .variables .now) (a .befores .now) (a .afters .now) in
-    let all : length o ≤ c .before .loop .i = omega (arith, entries-length (a .variables .now) (a .befores .now) (a .afters .now)) in
+    let all : length o ≤ c .before .loop .i = omega (arith, length-held (length (a .variables .now)) (a .variables .now) (a .befores .now) (a .afters .now)) in
     omega (arith, ap length (bytes-none entryBytes o (c .before .loop .i) all))
 
 pub operator-width-spec : {M : Type 1} → statement M

@@ -5,7 +5,7 @@ use native.Mathlib.Omega.{arith}
 use borrow.Author.Needs.{needs}
 use Rattle.meaning.specs.Number.{numberBytes}
 use Rattle.meaning.specs.File.{entryBytes}
-use Rattle.writer.specs.Parts.{entryOf}
+use Rattle.theory.specs.Slices.{entryOf}
 use Rattle.writer.specs.Widths.{entry-length}
 use Rattle.writer.specs.Remains.{remains-all, remains-after, remains-none}
 use Rattle.writer.proofs.write_entry.Statement.{statement}

@@ -6,8 +6,8 @@ use native.Mathlib.Omega.{arith}
 use lib.ListN.{length, drop}
 use Rattle.meaning.specs.Number.{numberBytes}
 use Rattle.meaning.specs.File.{bytesOf, entryBytes, operatorBytes}
-use Rattle.writer.specs.Parts.{entryAt, entriesIn}
-use Rattle.writer.specs.Widths.{bytes-none, entries-length, operator-length, operator-split, entries-more, triple-at}
+use Rattle.theory.specs.Slices.{entryIn, entriesIn, length-held}
+use Rattle.writer.specs.Widths.{bytes-none, operator-length, operator-split, entries-more, triple-at}
 use Rattle.writer.specs.Remains.{Remains, remains-all, part-fits, remains-after, remains-none}
 use Rattle.writer.proofs.write_operator.Statement.{statement}
 use Rattle.writer.proofs.write_operator.Tie as tie
@@ -68,7 +68,7 @@ write-entry-requires c κs =
     let taken = c .before .before .before .before .loop-test .taken in
     let a = start .args in
     let i = turn .i in
-    let e = entryAt (a .variables .now) (a .befores .now) (a .afters .now) i in
+    let e = entryIn (a .variables .now) (a .befores .now) (a .afters .now) i in
     let known = triple-at (a .variables .now) (a .befores .now) (a .afters .now) i taken (start .pre .0) in
     let more = entries-more (a .variables .now) (a .befores .now) (a .afters .now) i taken in
     (known .0, known .1, known .2, part-fits (turn .inv .1) (entryBytes e) _ more)
@@ -84,7 +84,7 @@ loop-again c =
     let turn = c .before .before .before .before .before .before .before .before .loop in
     let a = c .before .before .before .before .before .before .before .before .before .before .before .before .before .before .before .before .before .args in
     let i = turn .i in
-    let e = entryAt (a .variables .now) (a .befores .now) (a .afters .now) i in
+    let e = entryIn (a .variables .now) (a .befores .now) (a .afters .now) i in
     let more = entries-more (a .variables .now) (a .befores .now) (a .afters .now) i (c .before .before .before .before .before .before .before .loop-test .taken) in
     let written = c .before .before .write-entry .ensures in
     (omega arith, remains-after (turn .inv .1) (entryBytes e) _ _ _ more (written .0) (written .1))
@@ -98,7 +98,7 @@ returns c =
     let turn = c .before .loop in
     let o = entriesIn (a .variables .now) (a .befores .now) (a .afters .now) in
     let rest = bytesOf entryBytes o in
-    let all : length o ≤ turn .i = omega (arith, entries-length (a .variables .now) (a .befores .now) (a .afters .now)) in
+    let all : length o ≤ turn .i = omega (arith, length-held (length (a .variables .now)) (a .variables .now) (a .befores .now) (a .afters .now)) in
     let written = remains-none (turn .inv .1) (bytes-none entryBytes o (turn .i) all) in
     remains-none (remains-after (after-count (c .before .before .before .before)) rest [] _ _ (sym (append-nil rest)) (written .0) (written .1)) refl
 

@@ -1,0 +1,43 @@
+-- The entries of an operator's record as three slices, ready to be judged.
+use Prim.Native.Nat.{ℕ, _≤_}
+use mathlib.Core.Path.{_≡_, sym, ap, _∙_}
+use mathlib.Core.List.{List}
+use native.Mathlib.Omega.{arith}
+use lib.ListN.{length, take}
+use lib.Seq.{length-take-le}
+use Rattle.meaning.specs.Limits.{mostVariables}
+use Rattle.meaning.specs.Task as meaning
+use Rattle.meaning.specs.Number.{got}
+use Rattle.meaning.specs.File.{operatorOf}
+use Rattle.meaning.specs.Answer.{operatorIn}
+use Rattle.theory.specs.Slices.{entriesIn, held-parts}
+use Rattle.operator.specs.declared.Operator.{Operator}
+use Rattle.operator.specs.Records.{recordOf}
+use Rattle.operator.specs.Known.{Room, count-fine}
+use Rattle.pairs.specs.Ready.{Listed, Ready}
+
+abbrev pub sliced : Operator → meaning.Operator
+sliced o = entriesIn (take (o .count) (o .variables)) (take (o .count) (o .befores)) (take (o .count) (o .afters))
+
+module _ {o : Operator} (room : Room o) {sizes pairs : List ℕ} (listed : Listed sizes pairs) (is : meaning.IsOperator sizes (operatorIn (recordOf o))) where
+  pub count-room : o .count ≤ mostVariables
+  count-room = omega (arith, count-fine sizes o is, listed .limits .variables)
+
+  pub slices-hold : operatorIn (recordOf o) ≡ sliced o
+  slices-hold = held-parts (o .count) (o .variables) (o .befores) (o .afters) (omega (arith, room .variables, count-room))
+
+  -- An operator that was read, by its slices.
+  pub slices-read : (bytes : List ℕ) (at next : ℕ) → operatorOf sizes bytes at ≡ got (operatorIn (recordOf o)) next → operatorOf sizes bytes at ≡ got (sliced o) next
+  slices-read bytes at next read = read ∙ ap (λ held. got held next) slices-hold
+
+  pub slices-ready : Ready sizes pairs (take (o .count) (o .variables)) (take (o .count) (o .befores)) (take (o .count) (o .afters))
+  slices-ready = record {
+    limits = listed .limits;
+    due = listed .due;
+    befores-equal = cut (o .befores) (room .befores) ∙ sym (cut (o .variables) (room .variables));
+    afters-equal = cut (o .afters) (room .afters) ∙ sym (cut (o .variables) (room .variables));
+    entries = rw (← slices-hold) (is .entries);
+  }
+    where
+      cut : (l : List ℕ) → length l ≡ mostVariables → length (take (o .count) l) ≡ o .count
+      cut l e = length-take-le (o .count) l (omega (arith, count-room))

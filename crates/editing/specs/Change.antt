@@ -4,7 +4,6 @@ use mathlib.Core.Path.{_≡_, refl, ap, ap₂, sym, _∙_, subst}
 use mathlib.Core.Logic.{inl, inr, Iff·trans}
 use mathlib.Core.List.{List, _++_}
 use native.Mathlib.Omega.{arith}
-use lib.Dec.{eqb}
 use lib.ListN.{length, take, drop}
 use lib.Seq.{drop-drop}
 use Rattle.meaning.specs.Sets.{Set, Slots}
@@ -13,9 +12,9 @@ use Rattle.meaning.specs.Task.{Operator}
 use Rattle.meaning.specs.Feature.{features}
 use Rattle.meaning.specs.Slot.{Reduced, SlotsOf, Stored}
 use Rattle.meaning.specs.Weight.{Allows}
-use Rattle.meaning.specs.Number.{Reason, Range, Malformed, refusal}
+use Rattle.meaning.specs.Number.{Reason, Malformed, refusal}
 use Rattle.meaning.specs.Workspace.{has, wordsFor, sizesAt, startAt, goalAt, pairsAt, slotsAt, wordsDue, Content, wordsOf, Proper, WellFormed}
-use Rattle.meaning.specs.Answer.{OperatorRecord, operatorIn, Edit, addOperator, replaceStart, replaceGoal, Judged, fine, faulty, need, valuesJudged, editJudged, Changes, EditsIn, Edits, done, refused}
+use Rattle.meaning.specs.Answer.{OperatorRecord, operatorIn, Edit, addOperator, Judged, fine, faulty, editJudged, Changes, EditsIn, Edits, done, refused}
 use Rattle.theory.specs.SlotsOf.{slots-of-stored}
 use Rattle.theory.specs.Rows.{rowsOf, allows-rows}
 use Rattle.theory.specs.InsertAll.{insertAll, insertAll-reduced, insertAll-stored}
@@ -27,7 +26,10 @@ use Rattle.condition.specs.Slotted.{heldSlots, slotted, Opened, area-slotted}
 use Rattle.formed.specs.declared.Formed.the-variants.{Yes, No}
 use Rattle.formed.specs.Parts.{sizesPart, pairsPart, slotsPart, contentParts, cut-listed, lent, length-part, sized-small}
 use Rattle.formed.specs.Formed.{FormedIs, no-formed, yes-formed, yes-content, yes-sized, yes-due, yes-cut}
-use Rattle.editing.specs.Operand.{goalJudged, startJudged, operatorJudged, values-long}
+use Rattle.editing.specs.declared.End.{End}
+use Rattle.editing.specs.declared.End.the-variants.{Start, Goal}
+use Rattle.editing.specs.Answers.{replaced, endAt}
+use Rattle.editing.specs.Operand.{valuesAnd, endJudged, operatorJudged, values-long}
 
 -- The sizes and the listed pairs as they are lent, from one place to the next.
 abbrev pub sizesLent : ℕ → List ℕ → List ℕ
@@ -85,11 +87,10 @@ module _ (ws : List ℕ) (v n : ℕ) (yes : FormedIs ws (Yes v n)) where
   count = length-part sizesAt v ws (yes-sized ws v n yes .room)
 
   -- What was judged by the parts that were lent.
-  pub goal-judged : (values : List ℕ) (found : Judged) → found ≡ goalJudged (sizesLent v ws) values → editJudged (contentParts v n ws) (replaceGoal values) ≡ found
-  goal-judged values found e = sym (rw (lent sizesAt v ws) at e)
-
-  pub start-judged : (values : List ℕ) (found : Judged) → found ≡ startJudged (sizesLent v ws) (has (pairsLent v n ws)) values → editJudged (contentParts v n ws) (replaceStart values) ≡ found
-  start-judged values found e = sym (rw (lent sizesAt v ws, lent (pairsAt v) (wordsFor n) ws) at e)
+  pub end-judged : (end : End) (values : List ℕ) (found : Judged) → found ≡ endJudged end (sizesLent v ws) (has (pairsLent v n ws)) values
+      → editJudged (contentParts v n ws) (replaced end values) ≡ found
+  end-judged Start values found e = sym (rw (lent sizesAt v ws, lent (pairsAt v) (wordsFor n) ws) at e)
+  end-judged Goal values found e = sym (rw (lent sizesAt v ws) at e)
 
   pub operator-judged : (r : OperatorRecord) (found : Judged) → found ≡ operatorJudged (sizesLent v ws) (has (pairsLent v n ws)) r → editJudged (contentParts v n ws) (addOperator r) ≡ found
   operator-judged r found e = sym (rw (lent sizesAt v ws, lent (pairsAt v) (wordsFor n) ws) at e)
@@ -97,27 +98,37 @@ module _ (ws : List ℕ) (v n : ℕ) (yes : FormedIs ws (Yes v n)) where
   pub parts-listed : Listed (sizesLent v ws) (pairsLent v n ws)
   parts-listed = rw (lent sizesAt v ws, lent (pairsAt v) (wordsFor n) ws) (cut-listed (yes-cut ws v n yes))
 
-  -- The part for v values from a place on is as long as values that are found fine.
-  pub part-long : (values : List ℕ) (rest : Judged) (at : ℕ) → at + v ≤ wordsDue v n → need (eqb (length values) (length (sizesLent v ws))) Range (valuesJudged (sizesLent v ws) values rest) ≡ fine
-      → length (take (at + v - at) (drop at ws)) ≡ length values
-  part-long values rest at h e = ap length (lent at v ws) ∙ length-part at v ws (omega (arith, yes-due ws v n yes))
-      ∙ sym (values-long (sizesLent v ws) values rest e ∙ ap length (lent sizesAt v ws) ∙ count)
+  abbrev withEnd : End → List ℕ → Content
+  withEnd Start values = withStart (contentParts v n ws) values
+  withEnd Goal values = withGoal (contentParts v n ws) values
 
-  pub goal-done : (values new : List ℕ) → editJudged (contentParts v n ws) (replaceGoal values) ≡ fine → new ≡ values
-      → Edits ws (replaceGoal values) (record { answer = done tt; lent = take (goalAt v) ws ++ (new ++ drop (pairsAt v - goalAt v) (drop (goalAt v) ws)) })
-  goal-done values new e q = edit-done (replaceGoal values) (withGoal (contentParts v n ws) values) _ e refl (part-written ws values new (goalAt v) v q ∙ sym written)
-    where
-      written : wordsOf (withGoal (contentParts v n ws) values) ++ formed-parts .further ≡ take (goalAt v) ws ++ (values ++ drop (pairsAt v) ws)
-      written = goal-changed (contentParts v n ws) (formed-parts .further) (formed-parts .proper .start .full) (formed-parts .proper .goal .full) values
-          ∙ ap₂ (λ k l. take (goalAt k) l ++ (values ++ drop (pairsAt k) l)) count (sym (formed-parts .words))
+  end-changes : (end : End) (values : List ℕ) → Changes (contentParts v n ws) (replaced end values) (withEnd end values)
+  end-changes Start values = refl
+  end-changes Goal values = refl
 
-  pub start-done : (values new : List ℕ) → editJudged (contentParts v n ws) (replaceStart values) ≡ fine → new ≡ values
-      → Edits ws (replaceStart values) (record { answer = done tt; lent = take (startAt v) ws ++ (new ++ drop (goalAt v - startAt v) (drop (startAt v) ws)) })
-  start-done values new e q = edit-done (replaceStart values) (withStart (contentParts v n ws) values) _ e refl (part-written ws values new (startAt v) v q ∙ sym written)
-    where
-      written : wordsOf (withStart (contentParts v n ws) values) ++ formed-parts .further ≡ take (startAt v) ws ++ (values ++ drop (goalAt v) ws)
-      written = start-changed (contentParts v n ws) (formed-parts .further) (formed-parts .proper .start .full) values
-          ∙ ap₂ (λ k l. take (startAt k) l ++ (values ++ drop (goalAt k) l)) count (sym (formed-parts .words))
+  end-written : (end : End) (values : List ℕ) → wordsOf (withEnd end values) ++ formed-parts .further ≡ take (endAt end v) ws ++ (values ++ drop (endAt end v + v) ws)
+  end-written Start values = start-changed (contentParts v n ws) (formed-parts .further) (formed-parts .proper .start .full) values
+      ∙ ap₂ (λ k l. take (startAt k) l ++ (values ++ drop (goalAt k) l)) count (sym (formed-parts .words))
+  end-written Goal values = goal-changed (contentParts v n ws) (formed-parts .further) (formed-parts .proper .start .full) (formed-parts .proper .goal .full) values
+      ∙ ap₂ (λ k l. take (goalAt k) l ++ (values ++ drop (pairsAt k) l)) count (sym (formed-parts .words))
+
+  end-due : (end : End) → endAt end v + v ≤ length ws
+  end-due Start = omega (arith, yes-due ws v n yes)
+  end-due Goal = omega (arith, yes-due ws v n yes)
+
+  -- The part for an end's values is in the words, and as long as values that are found fine; with these in it the edit is done.
+  module _ (end : End) (at : ℕ) (here : at ≡ endAt end v) (values : List ℕ) where
+    pub end-room : at + v ≤ length ws
+    end-room = rw here (end-due end)
+
+    pub end-long : (rest : Judged) → valuesAnd rest (sizesLent v ws) values ≡ fine → length (take (at + v - at) (drop at ws)) ≡ length values
+    end-long rest e = ap length (lent at v ws) ∙ length-part at v ws end-room
+        ∙ sym (values-long (sizesLent v ws) values rest e ∙ ap length (lent sizesAt v ws) ∙ count)
+
+    pub end-done : (new : List ℕ) → editJudged (contentParts v n ws) (replaced end values) ≡ fine → new ≡ values
+        → Edits ws (replaced end values) (record { answer = done tt; lent = take at ws ++ (new ++ drop (at + v - at) (drop at ws)) })
+    end-done new e q = edit-done (replaced end values) (withEnd end values) _ e (end-changes end values)
+        (part-written ws values new at v q ∙ rw here (sym (end-written end values)))
 
   -- ---- one more operator
 

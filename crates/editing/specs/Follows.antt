@@ -1,6 +1,6 @@
 -- An operator whose conditions already follow from the stored slots changes no word.
 use Prim.Native.Nat.{ℕ}
-use mathlib.Core.Path.{_≡_, refl, sym, ap, _∙_}
+use mathlib.Core.Path.{_≡_, ap, _∙_}
 use mathlib.Core.Logic.{inl, inr, Iff·rfl}
 use mathlib.Core.List.{List, _++_}
 use lib.ListN.{length, drop}

@@ -1,7 +1,7 @@
 -- What is judged of an operand, by the sizes and the listed pairs of a workspace: new values one at a time, and what is judged after them.
 use Prim.Native.Nat.{ℕ, suc, _+_, _<_, _≤_}
 use mathlib.Core.Path.{_≡_, refl, ap, ap₂, sym, _∙_}
-use mathlib.Core.Bool.{Bool, not}
+use mathlib.Core.Bool.{not}
 use mathlib.Core.List.{List, [], _∷_}
 use native.Mathlib.Omega.{arith}
 use native.Mathlib.Numerals.{add-one}
@@ -17,13 +17,19 @@ use Rattle.meaning.specs.File.{inside}
 use Rattle.meaning.specs.Answer.{OperatorRecord, operatorIn, Judged, fine, faulty, need, entriesJudged, valuesJudged}
 use Rattle.theory.specs.Operands.{need-fine, values-fine}
 use Rattle.operator.specs.Laws.{unless, need-unless}
+use Rattle.editing.specs.declared.End.{End}
+use Rattle.editing.specs.declared.End.the-variants.{Start, Goal}
 
--- What an edit judges of a new goal, of a new start, and of an operator.
-abbrev pub goalJudged : List ℕ → List ℕ → Judged
-goalJudged sizes values = need (eqb (length values) (length sizes)) Range (valuesJudged sizes values fine)
+-- What an edit judges of new values before the rest, of values for an end, and of an operator.
+abbrev pub valuesAnd : Judged → List ℕ → List ℕ → Judged
+valuesAnd rest sizes values = need (eqb (length values) (length sizes)) Range (valuesJudged sizes values rest)
 
-abbrev pub startJudged : List ℕ → Set → List ℕ → Judged
-startJudged sizes pairs values = need (eqb (length values) (length sizes)) Range (valuesJudged sizes values (need (not (holds sizes pairs values)) Held fine))
+abbrev pub heldJudged : End → List ℕ → Set → List ℕ → Judged
+heldJudged Start sizes pairs values = need (not (holds sizes pairs values)) Held fine
+heldJudged Goal sizes pairs values = fine
+
+abbrev pub endJudged : End → List ℕ → Set → List ℕ → Judged
+endJudged end sizes pairs values = valuesAnd (heldJudged end sizes pairs values) sizes values
 
 abbrev pub operatorJudged : List ℕ → Set → OperatorRecord → Judged
 operatorJudged sizes pairs r =
@@ -54,15 +60,15 @@ values-unless [] values rest = refl
 values-unless (d ∷ ds) [] rest = refl
 values-unless (d ∷ ds) (x ∷ xs) rest = rw (values-unless ds xs rest) (sym (need-unless (ltb x d) Range (valuesJudged ds xs fine) rest))
 
-pub start-after : (sizes : List ℕ) (pairs : Set) (values : List ℕ) (first : Judged) (held : Bool) → goalJudged sizes values ≡ first → holds sizes pairs values ≡ held
-    → startJudged sizes pairs values ≡ unless first (need (not held) Held fine)
-start-after sizes pairs values first held e h = let rest = need (not (holds sizes pairs values)) Held fine in
-    ap (need (eqb (length values) (length sizes)) Range) (values-unless sizes values rest)
-    ∙ sym (need-unless (eqb (length values) (length sizes)) Range (valuesJudged sizes values fine) rest)
-    ∙ ap₂ (λ j b. unless j (need (not b) Held fine)) e h
+pub end-after : (end : End) (sizes : List ℕ) (pairs : Set) (values : List ℕ) (first rest : Judged) → valuesAnd fine sizes values ≡ first → heldJudged end sizes pairs values ≡ rest
+    → endJudged end sizes pairs values ≡ unless first rest
+end-after end sizes pairs values first rest e h =
+    ap (need (eqb (length values) (length sizes)) Range) (values-unless sizes values (heldJudged end sizes pairs values))
+    ∙ sym (need-unless (eqb (length values) (length sizes)) Range (valuesJudged sizes values fine) (heldJudged end sizes pairs values))
+    ∙ ap₂ unless e h
 
 -- Values that are found fine are a state.
-module _ (sizes values : List ℕ) (rest : Judged) (e : need (eqb (length values) (length sizes)) Range (valuesJudged sizes values rest) ≡ fine) where
+module _ (sizes values : List ℕ) (rest : Judged) (e : valuesAnd rest sizes values ≡ fine) where
   pub values-long : length values ≡ length sizes
   values-long = eqb-true _ _ (need-fine (eqb (length values) (length sizes)) Range (valuesJudged sizes values rest) e .0)
 

@@ -7,14 +7,16 @@ use operator::Judgement;
 use operator::Operator;
 use words::WORD_BITS;
 ghost use mathlib.Core.Path.{_≡_};
+ghost use Prim.Native.Nat.{_≤_};
+ghost use Rattle.meaning.specs.Limits.{mostVariables};
 ghost use Rattle.meaning.specs.Pair.{closed};
 ghost use Rattle.meaning.specs.Workspace.{has};
-ghost use Rattle.meaning.specs.Answer.{Edits, addOperator, replaceStart, replaceGoal};
+ghost use Rattle.meaning.specs.Answer.{Edits, fine, addOperator, replaceStart, replaceGoal};
 ghost use Rattle.theory.specs.Slices.{entriesIn};
 ghost use Rattle.operator.specs.Records.{recordOf, judgementOf};
 ghost use Rattle.pairs.specs.Ready.{Listed, Ready};
-ghost use Rattle.editing.specs.Answers.{editedOf};
-ghost use Rattle.editing.specs.Operand.{goalJudged, startJudged, operatorJudged};
+ghost use Rattle.editing.specs.Answers.{editedOf, replaced, endAt};
+ghost use Rattle.editing.specs.Operand.{valuesAnd, endJudged, operatorJudged};
 
 // What an edit comes to: it is done, or refused with the paper's number.
 pub enum Edited {
@@ -22,9 +24,15 @@ pub enum Edited {
     Refused(u64),
 }
 
+// The two ends of a task, which may be given other values.
+enum End {
+    Start,
+    Goal,
+}
+
 // Judges new values: their length, then each value.
 fn judge_values(sizes: &[u64], values: &[u64]) -> Judgement
-    ensures { λ r. ⌜ judgementOf r ≡ goalJudged (now (sizes .entry)) (now (values .entry)) ⌝ }
+    ensures { λ r. ⌜ judgementOf r ≡ valuesAnd fine (now (sizes .entry)) (now (values .entry)) ⌝ }
 {
     if values.len() != sizes.len() {
         return Judgement::Faulty(Reason::Range);
@@ -39,19 +47,33 @@ fn judge_values(sizes: &[u64], values: &[u64]) -> Judgement
     Judgement::Fine
 }
 
-// Judges a new start: its values, then that it holds no listed pair.
-fn judge_start(sizes: &[u64], pairs: &[u64], values: &[u64]) -> Judgement
+// Judges new values for an end: as values, then, of a start, that it holds no listed pair.
+fn judge_end(end: End, sizes: &[u64], pairs: &[u64], values: &[u64]) -> Judgement
     requires { ⌜ Listed (now sizes) (now pairs) ⌝ }
-    ensures { λ r. ⌜ judgementOf r ≡ startJudged (now (sizes .entry)) (has (now (pairs .entry))) (now (values .entry)) ⌝ }
+    ensures { λ r. ⌜ judgementOf r ≡ endJudged end (now (sizes .entry)) (has (now (pairs .entry))) (now (values .entry)) ⌝ }
 {
     match judge_values(sizes, values) {
-        Judgement::Fine => {
-            if pairs::holds(sizes, pairs, values) {
-                return Judgement::Faulty(Reason::Held);
+        Judgement::Fine => match end {
+            End::Start => {
+                if pairs::holds(sizes, pairs, values) {
+                    return Judgement::Faulty(Reason::Held);
+                }
+                Judgement::Fine
             }
-            Judgement::Fine
-        }
+            End::Goal => Judgement::Fine,
+        },
         Judgement::Faulty(reason) => Judgement::Faulty(reason),
+    }
+}
+
+// Where an end's values begin.
+fn place_of(end: End, variables: usize) -> usize
+    requires { ⌜ variables ≤ mostVariables ⌝ }
+    ensures { λ r. ⌜ r ≡ endAt end variables ⌝ }
+{
+    match end {
+        End::Start => SIZES_AT + variables,
+        End::Goal => SIZES_AT + variables + variables,
     }
 }
 
@@ -97,21 +119,27 @@ fn judge_operator(sizes: &[u64], pairs: &[u64], operator: Operator) -> Judgement
     }
 }
 
-// Puts other values in the place of the goal's. Any words and values are taken.
-pub fn replace_goal(workspace: &mut [u64], values: &[u64]) -> Edited
-    ensures { λ r. ⌜ Edits (now (workspace .entry)) (replaceGoal (now (values .entry))) (record { answer = editedOf r; lent = now (workspace .exit) }) ⌝ }
+// Puts other values in the place of an end's. Any words and values are taken.
+fn replace(workspace: &mut [u64], end: End, values: &[u64]) -> Edited
+    ensures { λ r. ⌜ Edits (now (workspace .entry)) (replaced end (now (values .entry))) (record { answer = editedOf r; lent = now (workspace .exit) }) ⌝ }
 {
     match formed::well_formed(workspace) {
         Formed::Yes {
             variables,
-            features: _,
+            features,
         } => {
             let start = SIZES_AT + variables;
-            let goal = start + variables;
-            let pairs = goal + variables;
-            match judge_values(&workspace[SIZES_AT..start], values) {
+            let pairs = start + variables + variables;
+            let slots = pairs + (features + (WORD_BITS - 1)) / WORD_BITS;
+            match judge_end(
+                end,
+                &workspace[SIZES_AT..start],
+                &workspace[pairs..slots],
+                values,
+            ) {
                 Judgement::Fine => {
-                    words::copy(&mut workspace[goal..pairs], values);
+                    let at = place_of(end, variables);
+                    words::copy(&mut workspace[at..at + variables], values);
                     Edited::Done
                 }
                 Judgement::Faulty(reason) => Edited::Refused(number::refusal(reason)),
@@ -121,33 +149,18 @@ pub fn replace_goal(workspace: &mut [u64], values: &[u64]) -> Edited
     }
 }
 
-// Puts other values in the place of the start's. Any words and values are taken.
+// Puts other values in the place of the goal's.
+pub fn replace_goal(workspace: &mut [u64], values: &[u64]) -> Edited
+    ensures { λ r. ⌜ Edits (now (workspace .entry)) (replaceGoal (now (values .entry))) (record { answer = editedOf r; lent = now (workspace .exit) }) ⌝ }
+{
+    replace(workspace, End::Goal, values)
+}
+
+// Puts other values in the place of the start's.
 pub fn replace_start(workspace: &mut [u64], values: &[u64]) -> Edited
     ensures { λ r. ⌜ Edits (now (workspace .entry)) (replaceStart (now (values .entry))) (record { answer = editedOf r; lent = now (workspace .exit) }) ⌝ }
 {
-    match formed::well_formed(workspace) {
-        Formed::Yes {
-            variables,
-            features,
-        } => {
-            let start = SIZES_AT + variables;
-            let goal = start + variables;
-            let pairs = goal + variables;
-            let slots = pairs + (features + (WORD_BITS - 1)) / WORD_BITS;
-            match judge_start(
-                &workspace[SIZES_AT..start],
-                &workspace[pairs..slots],
-                values,
-            ) {
-                Judgement::Fine => {
-                    words::copy(&mut workspace[start..goal], values);
-                    Edited::Done
-                }
-                Judgement::Faulty(reason) => Edited::Refused(number::refusal(reason)),
-            }
-        }
-        Formed::No => Edited::Refused(number::refusal(Reason::Malformed)),
-    }
+    replace(workspace, End::Start, values)
 }
 
 // Adds the condition of one more operator to the slots. Any words and any record are taken.

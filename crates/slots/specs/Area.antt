@@ -2,7 +2,7 @@
 use Prim.Native.Nat.{ℕ, zero, suc, _+_, _-_, _*_, _<_, _≤_, min}
 use mathlib.Core.Path.{_≡_, ap, ap₂, sym, _∙_, fun-ext}
 use mathlib.Core.Logic.{_≢_, _⊎_, inl, inr}
-use mathlib.Core.Bool.{false, _&&_}
+use mathlib.Core.Bool.{_&&_}
 use mathlib.Core.List.{List, [], _++_, append-nil}
 use native.Mathlib.Omega.{arith}
 use native.Mathlib.Nat.{mul-le-mul-right}
@@ -50,15 +50,10 @@ part-is w i area = let e : i * w + w - i * w ≡ w = omega arith in rw e
 pub length-part : (w i : ℕ) (area : List ℕ) → i * w + w ≤ length area → length (slotPart w area i) ≡ w
 length-part w i area l = ap length (part-is w i area) ∙ length-slot w i area l
 
--- The same where w is known to be the words due for n features.
-module _ (n w i : ℕ) (area : List ℕ) (q : w ≡ wordsFor n) where
-  pub slot-room : length area ≡ n * wordsFor n → i < n → i * w + w ≤ length area
-  slot-room e l = rw q (omega (arith, slot-in (wordsFor n) i n l))
+pub slot-room : (n w i : ℕ) (area : List ℕ) → w ≡ wordsFor n → length area ≡ n * wordsFor n → i < n → i * w + w ≤ length area
+slot-room n w i area q e l = rw q (omega (arith, slot-in (wordsFor n) i n l))
 
-  pub part-slot : slotPart w area i ≡ slotAt (wordsFor n) area i
-  part-slot = part-is w i area ∙ ap (λ k. slotAt k area i) q
-
-pub words-slot : (w i : ℕ) (area : List ℕ) → Words area → Words (slotAt w area i)
+words-slot : (w i : ℕ) (area : List ℕ) → Words area → Words (slotAt w area i)
 words-slot w i area h = words-take w (drop (i * w) area) (words-drop (i * w) area h)
 
 pub slot-has : (n i : ℕ) (area : List ℕ) (f : ℕ) → i < n → slotsIn n area i f ≡ has (slotAt (wordsFor n) area i) f
@@ -138,12 +133,10 @@ area-back {n} {slots} R = fun-ext (λ i. fun-ext (each i))
       | off t ↦ rw t (elim (test (slots i f)) [ on e ↦ absurd (omega (arith, R .within i f e, ltb-false i n t)) | off e ↦ sym e ])
     ]
 
-module _ (n : ℕ) (area : List ℕ) (e : length area ≡ n * wordsFor n) (h : Words area) where
-  -- An area whose slots hold the sets of a family, with nothing at n or beyond, has the words of that family.
-  pub area-holds : (slots : Slots) → ((i f : ℕ) → n ≤ f → slots i f ≡ false) → ((i f : ℕ) → i < n → has (slotAt (wordsFor n) area i) f ≡ slots i f) → area ≡ slotWords n slots
-  area-holds slots past each = areas-same (wordsFor n) n area (slotWords n slots) e (length-slots n slots) (λ i l.
-      words-of n (slots i) (slotAt (wordsFor n) area i) (length-slot (wordsFor n) i area (omega (arith, slot-in (wordsFor n) i n l))) (words-slot (wordsFor n) i area h) (past i) (λ f. each i f l)
-      ∙ sym (slot-written n slots i l))
-
-  pub area-is : {slots : Slots} → Reduced n slots → ((i f : ℕ) → i < n → has (slotAt (wordsFor n) area i) f ≡ slots i f) → area ≡ slotWords n slots
-  area-is {slots} R = area-holds slots (slot-past R)
+-- An area whose slots hold the sets of a family in reduced shape has the words of that family.
+pub area-is : (n : ℕ) (area : List ℕ) → length area ≡ n * wordsFor n → Words area → {slots : Slots} → Reduced n slots
+    → ((i f : ℕ) → i < n → has (slotAt (wordsFor n) area i) f ≡ slots i f) → area ≡ slotWords n slots
+area-is n area e h {slots} R each = areas-same (wordsFor n) n area (slotWords n slots) e (length-slots n slots) (λ i l.
+    words-of n (slots i) (slotAt (wordsFor n) area i) (length-slot (wordsFor n) i area (omega (arith, slot-in (wordsFor n) i n l)))
+    (words-slot (wordsFor n) i area h) (slot-past R i) (λ f. each i f l)
+    ∙ sym (slot-written n slots i l))

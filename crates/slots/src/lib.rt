@@ -21,14 +21,31 @@ ghost use Rattle.slots.specs.Find.{found};
 ghost use Rattle.slots.specs.Shape.{Apart, Shaped, AllShaped};
 use limits::MOST_WORDS;
 
-// Adds a slot to a row, where the slot is not empty. Its index p is its least member then, so the words before that of p stay.
+// Slot i, where slots are w words long.
+fn slot_of<'a>(area: &'a [u64], w: usize, i: usize) -> &'a [u64]
+    requires { ⌜ i * w + w ≤ length (now area) ⌝ }
+    ensures { λ r. ⌜ (now r ≡ slotAt w (now (area .entry)) i) × (length (now r) ≡ w) ⌝ }
+{
+    let base = i * w;
+    &area[base..base + w]
+}
+
+// Adds a set to another. Its least member is p, if it has any, so the words before that of p stay.
+fn add_from(sum: &mut [u64], set: &[u64], p: usize)
+    requires { ⌜ (length (now sum) ≡ length (now set)) × (p < wordBits * length (now set)) × Led p (has (now set)) ⌝ }
+    ensures { λ r. ⌜ now (sum .exit) ≡ summed (now (sum .entry)) (now (set .entry)) ⌝ }
+{
+    let k = p / words::WORD_BITS;
+    words::add(&mut sum[k..], &set[k..]);
+}
+
+// Adds a slot to a row, where the slot is not empty.
 fn add_slot(row: &mut [u64], slot: &[u64], p: usize)
     requires { ⌜ (length (now row) ≡ length (now slot)) × (p < wordBits * length (now slot)) × Led p (has (now slot)) ⌝ }
     ensures { λ r. ⌜ now (row .exit) ≡ summed (now (row .entry)) (now (slot .entry)) ⌝ }
 {
     if words::has(slot, p) {
-        let k = p / words::WORD_BITS;
-        words::add(&mut row[k..], &slot[k..]);
+        add_from(row, slot, p);
     }
 }
 
@@ -41,8 +58,7 @@ fn reduce_members(area: &[u64], n: usize, row: &mut [u64], own: &mut [u64])
     let w = row.len();
     let mut p = words::next_member(own, 0);
     while p < n {
-        let base = p * w;
-        add_slot(row, &area[base..base + w], p);
+        add_slot(row, slot_of(area, w, p), p);
         p = words::next_member(own, p + 1);
     }
 }
@@ -64,8 +80,7 @@ fn clear_index(slot: &mut [u64], p: usize, row: &[u64])
     ensures { λ r. ⌜ now (slot .exit) ≡ cleared p (now (row .entry)) (now (slot .entry)) ⌝ }
 {
     if words::has(slot, p) {
-        let k = p / words::WORD_BITS;
-        words::add(&mut slot[k..], &row[k..]);
+        add_from(slot, row, p);
     }
 }
 
@@ -107,12 +122,12 @@ pub fn insert(area: &mut [u64], n: usize, row: &mut [u64])
     }
 }
 
-// Puts feature i in a set, or takes it out, where a slot has feature m.
-fn mark(set: &mut [u64], slot: &[u64], m: usize, i: usize)
-    requires { ⌜ (m < wordBits * length (now slot)) × (i < wordBits * length (now set)) ⌝ }
-    ensures { λ r. ⌜ now (set .exit) ≡ marked (has (now (slot .entry)) m) (now (set .entry)) i ⌝ }
+// Puts feature i in a set, or takes it out, where slot i has feature m.
+fn mark(set: &mut [u64], area: &[u64], w: usize, i: usize, m: usize)
+    requires { ⌜ (i * w + w ≤ length (now area)) × (m < wordBits * w) × (i < wordBits * length (now set)) ⌝ }
+    ensures { λ r. ⌜ now (set .exit) ≡ marked (has (slotAt w (now (area .entry)) i) m) (now (set .entry)) i ⌝ }
 {
-    if words::has(slot, m) {
+    if words::has(slot_of(area, w, i), m) {
         words::toggle(set, i);
     }
 }
@@ -127,8 +142,7 @@ fn witness(area: &[u64], m: usize, set: &mut [u64])
     words::toggle(set, m);
     let mut i = 0;
     while i <= m {
-        let base = i * w;
-        mark(set, &area[base..base + w], m, i);
+        mark(set, area, w, i, m);
         i += 1;
     }
 }
@@ -157,8 +171,7 @@ fn indices(area: &[u64], n: usize, full: &mut [u64])
     words::clear(full);
     let mut i = 0;
     while i < n {
-        let base = i * w;
-        mark(full, &area[base..base + w], i, i);
+        mark(full, area, w, i, i);
         i += 1;
     }
 }
@@ -205,8 +218,7 @@ fn all_shaped(area: &[u64], n: usize, full: &[u64]) -> bool
     let w = full.len();
     let mut i = 0;
     while i < n {
-        let base = i * w;
-        if !is_shaped(&area[base..base + w], n, i, full) {
+        if !is_shaped(slot_of(area, w, i), n, i, full) {
             return false;
         }
         i += 1;

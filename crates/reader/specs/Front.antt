@@ -5,7 +5,6 @@ use mathlib.Core.List.{List, _∷_, _++_}
 use lib.ListN.{length}
 use Rattle.meaning.specs.Task.{Operator, Task}
 use Rattle.meaning.specs.Feature.{atoms, features}
-use Rattle.meaning.specs.Number as meaning
 use Rattle.meaning.specs.Number.{Read, got, fault, number}
 use Rattle.meaning.specs.File.{Parser, give, then, header, valuesOf, featureList, operatorsOf, ended, taskOf}
 use Rattle.theory.specs.Reading.{on-on}

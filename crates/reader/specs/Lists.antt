@@ -19,27 +19,37 @@ use Rattle.words.specs.Change.{toggled}
 use Rattle.reader.specs.Answer.{written, ReadsInto, reads-same, placed, listOf, first-read, first-fault}
 use Rattle.words.specs.Toggled.{toggledAll}
 
+-- ---- any list
+
+-- A list is read by its first number and then the rest.
+pub record Splits (whole : Parser (List ℕ)) (first : Parser ℕ) (rest : ℕ → Parser (List ℕ)) : Type 0 where
+  pub by : whole ≡ listOf first rest
+
+module _ {whole : Parser (List ℕ)} {first : Parser ℕ} {rest : ℕ → Parser (List ℕ)} (split : Splits whole first rest) (bytes : List ℕ) (place : ℕ) where
+  -- The first goes to a place, and the others behind it.
+  pub list-more : (words : List ℕ) (to i x next : ℕ) → first bytes place ≡ got x next
+      → placed (whole bytes place) (sets words (to + i)) ≡ placed (rest x bytes next) (sets (set words (to + i) x) (to + (i + 1)))
+  list-more words to i x next e = let k : to + (i + 1) ≡ suc (to + i) = omega arith in
+      rw (split .by, k) (first-read first rest bytes place (sets words (to + i)) x next e)
+
+  pub list-fault : (words : List ℕ → List ℕ) (reason : meaning.Reason) (there : ℕ) → first bytes place ≡ fault reason there
+      → placed (whole bytes place) words ≡ fault reason there
+  list-fault words reason there e = rw (split .by) (first-fault first rest bytes place words reason there e)
+
 -- ---- sizes
 
 -- One size.
 abbrev pub sizeAt : Parser ℕ
 sizeAt = item (inside leastSize (suc mostSize)) Limit
 
-module _ (v i : ℕ) (bytes : List ℕ) (place : ℕ) (words : List ℕ) (to : ℕ) where
-  pub sizes-more : (d next : ℕ) → i < v → sizeAt bytes place ≡ got d next
-      → placed (sizesOf (v - i) bytes place) (sets words (to + i)) ≡ placed (sizesOf (v - (i + 1)) bytes next) (sets (set words (to + i) d) (to + (i + 1)))
+module _ (v i : ℕ) where
+  pub first-size : i < v → Splits (sizesOf (v - i)) sizeAt (λ _. sizesOf (v - (i + 1)))
   unfolding sizesOf
-  sizes-more d next h e = let q : v - i ≡ suc (v - (i + 1)) = omega arith in let k : to + (i + 1) ≡ suc (to + i) = omega arith in
-      rw (q, k) (first-read sizeAt (λ _. sizesOf (v - (i + 1))) bytes place (sets words (to + i)) d next e)
+  first-size h = let q : v - i ≡ suc (v - (i + 1)) = omega arith in record { by = rw q }
 
-  pub sizes-fault : (reason : meaning.Reason) (there : ℕ) → i < v → sizeAt bytes place ≡ fault reason there
-      → placed (sizesOf (v - i) bytes place) (sets words (to + i)) ≡ fault reason there
+  pub sizes-none : (bytes : List ℕ) (place : ℕ) (words : List ℕ) (to : ℕ) → v ≤ i → placed (sizesOf (v - i) bytes place) (sets words to) ≡ got words place
   unfolding sizesOf
-  sizes-fault reason there h e = let q : v - i ≡ suc (v - (i + 1)) = omega arith in rw q (first-fault sizeAt (λ _. sizesOf (v - (i + 1))) bytes place (sets words (to + i)) reason there e)
-
-  pub sizes-none : v ≤ i → placed (sizesOf (v - i) bytes place) (sets words (to + i)) ≡ got words place
-  unfolding sizesOf
-  sizes-none h = let q : v - i ≡ 0 = omega arith in rw q
+  sizes-none bytes place words to h = let q : v - i ≡ 0 = omega arith in rw q
 
 -- ---- values
 
@@ -60,54 +70,47 @@ abbrev pub valueAt : List ℕ → ℕ → Parser ℕ
 valueAt words i = item (inside 0 (getD words (sizesAt + i) 0)) Range
 
 -- The sizes stand in words, and values are written behind them.
-module _ (old bytes : List ℕ) (to : ℕ) (behind : startAt (getD old 0 0) ≤ to) (within : to + getD old 0 0 ≤ length old) where
+module _ (old : List ℕ) (to : ℕ) (behind : startAt (getD old 0 0) ≤ to) (within : to + getD old 0 0 ≤ length old) where
   sizes-length : length (sizesIn old) ≡ getD old 0 0
   unfolding sizesIn
   sizes-length = length-take-le (getD old 0 0) (drop sizesAt old) (omega (arith, length-drop sizesAt old))
 
-  module _ (new : List ℕ) (i place : ℕ) (more : i < getD old 0 0) (same : Before to old new) where
-    -- Of the values that are still to be read, the first.
-    first-value : valuesOf (drop i (sizesIn old)) ≡ listOf (valueAt new i) (λ _. valuesOf (drop (i + 1) (sizesIn old)))
-    unfolding Before sizesIn valuesOf
-    first-value = rw (drop-cons (sizesIn old) i 0 (omega (arith, sizes-length)), add-one, same (sizesAt + i) (omega arith)) (
-        rw (getD-take (getD old 0 0) (drop sizesAt old) i 0 more, getD-drop sizesAt old i 0) refl)
+  -- Of the values that are still to be read, the first.
+  pub first-value : (new : List ℕ) (i : ℕ) → i < getD old 0 0 → Before to old new
+      → Splits (valuesOf (drop i (sizesIn old))) (valueAt new i) (λ _. valuesOf (drop (i + 1) (sizesIn old)))
+  unfolding Before sizesIn valuesOf
+  first-value new i more same = record {
+    by = rw (drop-cons (sizesIn old) i 0 (omega (arith, sizes-length)), add-one, same (sizesAt + i) (omega arith)) (
+        rw (getD-take (getD old 0 0) (drop sizesAt old) i 0 more, getD-drop sizesAt old i 0) refl);
+  }
 
-    pub values-more : (x next : ℕ) → valueAt new i bytes place ≡ got x next
-        → placed (valuesOf (drop i (sizesIn old)) bytes place) (sets new (to + i)) ≡ placed (valuesOf (drop (i + 1) (sizesIn old)) bytes next) (sets (set new (to + i) x) (to + (i + 1)))
-    values-more x next e = let k : to + (i + 1) ≡ suc (to + i) = omega arith in rw (first-value, k) (first-read (valueAt new i) (λ _. valuesOf (drop (i + 1) (sizesIn old))) bytes place (sets new (to + i)) x next e)
-
-    pub values-fault : (reason : meaning.Reason) (there : ℕ) → valueAt new i bytes place ≡ fault reason there
-        → placed (valuesOf (drop i (sizesIn old)) bytes place) (sets new (to + i)) ≡ fault reason there
-    values-fault reason there e = rw first-value (first-fault (valueAt new i) (λ _. valuesOf (drop (i + 1) (sizesIn old))) bytes place (sets new (to + i)) reason there e)
-
-  pub values-none : (new : List ℕ) (i place : ℕ) → getD old 0 0 ≤ i → placed (valuesOf (drop i (sizesIn old)) bytes place) (sets new (to + i)) ≡ got new place
+  pub values-none : (bytes new : List ℕ) (i place next : ℕ) → getD old 0 0 ≤ i → placed (valuesOf (drop i (sizesIn old)) bytes next) (sets new place) ≡ got new next
   unfolding valuesOf
-  values-none new i place h = let past : length (sizesIn old) ≤ i = omega (arith, sizes-length) in rw (drop-of-length-le (sizesIn old) past)
+  values-none bytes new i place next h = let past : length (sizesIn old) ≤ i = omega (arith, sizes-length) in rw (drop-of-length-le (sizesIn old) past)
 
-  pub values-written : (place : ℕ) (answer : Step) (left : List ℕ)
+  pub values-written : (bytes : List ℕ) (place : ℕ) (answer : Step) (left : List ℕ)
       → ReadsInto (valuesOf (sizesIn old) bytes place) (sets old to) answer left → ReadsInto (valuesOf (sizesIn old) bytes place) (written old to) answer left
-  values-written place answer left =
+  values-written bytes place answer left =
       reads-same (valuesOf (sizesIn old) bytes place) (sets old to) (written old to) answer left
       (λ xs next e. sets-all old to _ xs refl (omega (arith, sizes-length, values-said bytes (sizesIn old) .gives place xs next e .known .0 .full)))
 
 -- ---- features
 
-module _ (k i low high least : ℕ) (bytes : List ℕ) (place : ℕ) (words : List ℕ) where
-  pub features-more : (f next : ℕ) → i < k → rising low high least bytes place ≡ got f next
-      → placed (featuresOf (k - i) low high least bytes place) (toggledAll words) ≡ placed (featuresOf (k - (i + 1)) low high (f + 1) bytes next) (toggledAll (toggled words f))
-  unfolding featuresOf toggledAll
-  features-more f next h e = let q : k - i ≡ suc (k - (i + 1)) = omega arith in
-      rw (q, add-one f) (first-read (rising low high least) (λ f. featuresOf (k - (i + 1)) low high (suc f)) bytes place (toggledAll words) f next e)
-
-  pub features-fault : (reason : meaning.Reason) (there : ℕ) → i < k → rising low high least bytes place ≡ fault reason there
-      → placed (featuresOf (k - i) low high least bytes place) (toggledAll words) ≡ fault reason there
+module _ (k i low high least : ℕ) where
+  pub first-feature : i < k → Splits (featuresOf (k - i) low high least) (rising low high least) (λ f. featuresOf (k - (i + 1)) low high (suc f))
   unfolding featuresOf
-  features-fault reason there h e = let q : k - i ≡ suc (k - (i + 1)) = omega arith in
-      rw q (first-fault (rising low high least) (λ f. featuresOf (k - (i + 1)) low high (suc f)) bytes place (toggledAll words) reason there e)
+  first-feature h = let q : k - i ≡ suc (k - (i + 1)) = omega arith in record { by = rw q }
 
-  pub features-none : k ≤ i → placed (featuresOf (k - i) low high least bytes place) (toggledAll words) ≡ got words place
-  unfolding featuresOf toggledAll
-  features-none h = let q : k - i ≡ 0 = omega arith in rw q
+  module _ (bytes : List ℕ) (place : ℕ) (words : List ℕ) where
+    pub features-more : (f next : ℕ) → i < k → rising low high least bytes place ≡ got f next
+        → placed (featuresOf (k - i) low high least bytes place) (toggledAll words) ≡ placed (featuresOf (k - (i + 1)) low high (f + 1) bytes next) (toggledAll (toggled words f))
+    unfolding toggledAll
+    features-more f next h e = rw (first-feature h .by, add-one f)
+        (first-read (rising low high least) (λ f. featuresOf (k - (i + 1)) low high (suc f)) bytes place (toggledAll words) f next e)
+
+    pub features-none : k ≤ i → placed (featuresOf (k - i) low high least bytes place) (toggledAll words) ≡ got words place
+    unfolding featuresOf toggledAll
+    features-none h = let q : k - i ≡ 0 = omega arith in rw q
 
 -- A feature that was read is in its range.
 pub feature-below : (low high least : ℕ) (bytes : List ℕ) (place f next : ℕ) → rising low high least bytes place ≡ got f next → f < high

@@ -9,7 +9,7 @@ use Rattle.meaning.specs.File.{featuresOf}
 use Rattle.number.specs.Answers.{numberOf}
 use Rattle.reader.specs.Answer.{placed, placed-next, placed-fault}
 use Rattle.words.specs.Toggled.{toggledAll}
-use Rattle.reader.specs.Lists.{features-more, features-fault, features-none, feature-below}
+use Rattle.reader.specs.Lists.{list-fault, first-feature, features-more, features-none, feature-below}
 use Rattle.reader.proofs.features_at.Statement.{statement}
 use Rattle.reader.proofs.features_at.Tie as tie
 
@@ -30,7 +30,11 @@ enum-known-feature : tie.Need-enum-known-feature Inv-loop μ-loop
 enum-known-feature c = search needs
 
 toggle-requires : tie.Need-toggle-requires Inv-loop μ-loop
-toggle-requires c κs = omega (arith, feature-below _ _ _ _ _ _ _ (sym (c .before .before .before .before .rising-at .ensures) ∙ ap numberOf (c .before .before .feature .given .1)))
+toggle-requires c κs = omega (
+  arith,
+  feature-below _ _ _ _ _ _ _
+      (sym (c .before .before .before .before .rising-at .ensures) ∙ ap numberOf (c .before .before .feature .given .1)),
+)
 
 add-least : tie.Need-add-least Inv-loop μ-loop
 add-least c = omega (
@@ -46,7 +50,7 @@ same-length : tie.Need-same-length Inv-loop μ-loop
 same-length c = omega arith
 
 returns : tie.Need-returns Inv-loop μ-loop
-returns c = placed-fault _ _ _ _ _ (c .before .before .before .before .before .loop .inv .2 ∙ features-fault _ _ _ _ _ _ _ _ _ _ (c .before .before .before .before .loop-test .taken)
+returns c = placed-fault _ _ _ _ _ (c .before .before .before .before .before .loop .inv .2 ∙ list-fault (first-feature _ _ _ _ _ (c .before .before .before .before .loop-test .taken)) _ _ _ _ _
     (sym (c .before .before .before .rising-at .ensures) ∙ ap numberOf (c .before .reason .given .1)))
 
 add-i : tie.Need-add-i Inv-loop μ-loop

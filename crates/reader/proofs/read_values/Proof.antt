@@ -11,7 +11,7 @@ use Rattle.meaning.specs.File.{valuesOf}
 use Rattle.theory.specs.Contents.{sizesIn}
 use Rattle.number.specs.Answers.{numberOf}
 use Rattle.reader.specs.Answer.{placed, placed-next, placed-fault}
-use Rattle.reader.specs.Lists.{Before, before-none, before-set, values-more, values-fault, values-none, values-written}
+use Rattle.reader.specs.Lists.{Before, before-none, before-set, list-more, list-fault, first-value, values-none, values-written}
 use Rattle.reader.proofs.read_values.Statement.{statement}
 use Rattle.reader.proofs.read_values.Tie as tie
 
@@ -59,11 +59,11 @@ same-length : tie.Need-same-length Inv-loop μ-loop
 same-length c = omega arith
 
 returns : tie.Need-returns Inv-loop μ-loop
-returns c = values-written _ _ _ (c .before .before .before .before .before .before .before .before .before .before .pre .0)
-    (c .before .before .before .before .before .before .before .before .before .before .pre .1) _ _ _ (placed-fault _ _ _ _ _ (c .before .before .before .before .before .before .loop .inv .3
-    ∙ values-fault _ _ _ (c .before .before .before .before .before .before .before .before .before .before .pre .0)
-    (c .before .before .before .before .before .before .before .before .before .before .pre .1) _ _ _ (c .before .before .before .before .before .loop-test .taken)
-    (c .before .before .before .before .before .before .loop .inv .2) _ _ (sym (c .before .before .before .item-at .ensures) ∙ ap numberOf (c .before .reason .given .1))))
+returns c = let s = c .before .before .before .before .before .before .before .before .before .before .pre in
+    let t = c .before .before .before .before .before .before .loop in
+    values-written _ _ (s .0) (s .1) _ _ _ _ (placed-fault _ _ _ _ _ (t .inv .3
+    ∙ list-fault (first-value _ _ (s .0) (s .1) _ _ (c .before .before .before .before .before .loop-test .taken) (t .inv .2)) _ _ _ _ _
+    (sym (c .before .before .before .item-at .ensures) ∙ ap numberOf (c .before .reason .given .1))))
 
 add-i : tie.Need-add-i Inv-loop μ-loop
 add-i c = omega arith
@@ -72,23 +72,21 @@ loop-less : tie.Need-loop-less Inv-loop μ-loop
 loop-less c = omega arith
 
 loop-again : tie.Need-loop-again Inv-loop μ-loop
-loop-again c = (
-  omega arith,
-  simp length-set (c .before .before .before .before .before .before .loop .inv .1),
-  before-set _ _ _ _ _ (c .before .before .before .before .before .before .loop .inv .2),
-  c .before .before .before .before .before .before .loop .inv .3
-      ∙ values-more _ _ _ (c .before .before .before .before .before .before .before .before .before .before .pre .0)
-      (c .before .before .before .before .before .before .before .before .before .before .pre .1) _ _ _ (c .before .before .before .before .before .loop-test .taken)
-      (c .before .before .before .before .before .before .loop .inv .2) _ _ (sym (c .before .before .before .item-at .ensures) ∙ ap numberOf (c .before .value .given .1)),
-)
+loop-again c = let s = c .before .before .before .before .before .before .before .before .before .before .pre in
+    let t = c .before .before .before .before .before .before .loop in (
+      omega arith,
+      simp length-set (t .inv .1),
+      before-set _ _ _ _ _ (t .inv .2),
+      t .inv .3 ∙ list-more (first-value _ _ (s .0) (s .1) _ _ (c .before .before .before .before .before .loop-test .taken) (t .inv .2)) _ _ _ _ _ _ _
+          (sym (c .before .before .before .item-at .ensures) ∙ ap numberOf (c .before .value .given .1)),
+    )
 
 same-length-2 : tie.Need-same-length-2 Inv-loop μ-loop
 same-length-2 c = omega arith
 
 returns-2 : tie.Need-returns-2 Inv-loop μ-loop
-returns-2 c = values-written _ _ _ (c .before .before .before .before .before .pre .0) (c .before .before .before .before .before .pre .1) _ _ _
-    (placed-next _ _ _ _ (c .before .loop .inv .3 ∙ values-none _ _ _ (c .before .before .before .before .before .pre .0) (c .before .before .before .before .before .pre .1) _ _ _
-    (c .loop-test .left)))
+returns-2 c = let s = c .before .before .before .before .before .pre in
+    values-written _ _ (s .0) (s .1) _ _ _ _ (placed-next _ _ _ _ (c .before .loop .inv .3 ∙ values-none _ _ (s .0) (s .1) _ _ _ _ _ (c .loop-test .left)))
 
 pub read-values-spec : {M : Type 1} → statement M
 read-values-spec =

@@ -9,7 +9,7 @@ use lib.Seq.{sets}
 use Rattle.meaning.specs.File.{sizesOf}
 use Rattle.number.specs.Answers.{numberOf}
 use Rattle.reader.specs.Answer.{placed, placed-next, placed-fault}
-use Rattle.reader.specs.Lists.{sizes-more, sizes-fault, sizes-none}
+use Rattle.reader.specs.Lists.{list-more, list-fault, first-size, sizes-none}
 use Rattle.reader.proofs.sizes_at.Statement.{statement}
 use Rattle.reader.proofs.sizes_at.Tie as tie
 
@@ -48,7 +48,8 @@ same-length : tie.Need-same-length Inv-loop μ-loop
 same-length c = omega arith
 
 returns : tie.Need-returns Inv-loop μ-loop
-returns c = placed-fault _ _ _ _ _ (c .before .before .before .before .before .loop .inv .2 ∙ sizes-fault _ _ _ _ _ _ _ _ (c .before .before .before .before .loop-test .taken)
+returns c = let t = c .before .before .before .before .before .loop in
+    placed-fault _ _ _ _ _ (t .inv .2 ∙ list-fault (first-size _ _ (c .before .before .before .before .loop-test .taken)) _ _ _ _ _
     (sym (c .before .before .before .item-at .ensures) ∙ ap numberOf (c .before .reason .given .1)))
 
 add-i : tie.Need-add-i Inv-loop μ-loop
@@ -58,11 +59,11 @@ loop-less : tie.Need-loop-less Inv-loop μ-loop
 loop-less c = omega arith
 
 loop-again : tie.Need-loop-again Inv-loop μ-loop
-loop-again c = (
+loop-again c = let t = c .before .before .before .before .before .loop in (
   omega arith,
-  simp length-set (c .before .before .before .before .before .loop .inv .1),
-  c .before .before .before .before .before .loop .inv .2 ∙ sizes-more _ _ _ _ _ _ _ _
-      (c .before .before .before .before .loop-test .taken) (sym (c .before .before .before .item-at .ensures) ∙ ap numberOf (c .before .size .given .1)),
+  simp length-set (t .inv .1),
+  t .inv .2 ∙ list-more (first-size _ _ (c .before .before .before .before .loop-test .taken)) _ _ _ _ _ _ _
+      (sym (c .before .before .before .item-at .ensures) ∙ ap numberOf (c .before .size .given .1)),
 )
 
 same-length-2 : tie.Need-same-length-2 Inv-loop μ-loop

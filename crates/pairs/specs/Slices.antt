@@ -19,9 +19,22 @@ use Rattle.pairs.specs.Ready.{Listed, Ready}
 abbrev pub sliced : Operator → meaning.Operator
 sliced o = entriesIn (take (o .count) (o .variables)) (take (o .count) (o .befores)) (take (o .count) (o .afters))
 
+-- Arrays that hold as many entries as are counted.
+pub record Fits (o : Operator) : Type 0 where
+  pub variables : o .count ≤ length (o .variables)
+  pub befores : o .count ≤ length (o .befores)
+  pub afters : o .count ≤ length (o .afters)
+
 module _ {o : Operator} (room : Room o) {sizes pairs : List ℕ} (listed : Listed sizes pairs) (is : meaning.IsOperator sizes (operatorIn (recordOf o))) where
   pub count-room : o .count ≤ mostVariables
   count-room = omega (arith, count-fine sizes o is, listed .limits .variables)
+
+  pub slices-fit : Fits o
+  slices-fit = record {
+    variables = omega (arith, room .variables, count-room);
+    befores = omega (arith, room .befores, count-room);
+    afters = omega (arith, room .afters, count-room);
+  }
 
   pub slices-hold : operatorIn (recordOf o) ≡ sliced o
   slices-hold = held-parts (o .count) (o .variables) (o .befores) (o .afters) (omega (arith, room .variables, count-room))

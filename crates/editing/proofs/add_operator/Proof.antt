@@ -1,15 +1,12 @@
 -- `editing::add_operator`: a refusal by the first test that fails; else the operator's rows were inserted into the slots.
-use Prim.Native.Nat.{_≤_}
 use mathlib.Core.Path.{_≡_, ap, sym, _∙_, subst}
 use native.Mathlib.Omega.{arith}
 use lib.Seq.{length-take-le}
 use borrow.Author.Needs.{needs}
-use Rattle.meaning.specs.Answer.{addOperator, fine, operatorIn}
-use Rattle.meaning.specs.Limits.{mostVariables}
-use Rattle.meaning.specs.Task.{IsOperator}
+use Rattle.meaning.specs.Answer.{addOperator, fine}
 use Rattle.operator.specs.Records.{recordOf, judgementOf}
 use Rattle.operator.specs.Known.{Room}
-use Rattle.pairs.specs.Slices.{count-room, slices-hold, slices-ready}
+use Rattle.pairs.specs.Slices.{Fits, slices-fit, slices-hold, slices-ready}
 use Rattle.formed.specs.declared.Formed.the-variants.{Yes}
 use Rattle.formed.specs.Formed.{FormedIs}
 use Rattle.editing.specs.Judging.{fileJudged, operator-file, file-known}
@@ -17,6 +14,7 @@ use Rattle.editing.specs.Change.{sizesLent, pairsLent, edit-malformed, e
 use Rattle.editing.proofs.add_operator.Statement.{statement}
 use Rattle.editing.proofs.add_operator.Tie as tie
 
+-- The workspace is well formed.
 yes : (c : tie.After-variables) → FormedIs (c .before .before .before .before .before .args .workspace .now) (Yes (c .variables .given .0 .0) (c .variables .given .0 .1 .0))
 yes c = subst (FormedIs _) (c .variables .given .1) (c .before .before .well-formed .ensures)
 
@@ -27,17 +25,14 @@ formed-at c = c .before .before .before .before .before .before .before .before 
 room : (c : tie.After-enum-told) → Room (formed-at c .before .before .before .before .before .args .operator)
 room c = record { variables = search needs; befores = search needs; afters = search needs }
 
-file : (c : tie.After-enum-told) → let s = formed-at c in
-    fileJudged (sizesLent (s .variables .given .0 .0) (s .before .before .before .before .before .args .workspace .now)) (s .before .before .before .before .before .args .operator) ≡ fine
-file c = let s = formed-at c in let a = s .before .before .before .before .before .args in
-    operator-file (sizesLent (s .variables .given .0 .0) (a .workspace .now)) (pairsLent (s .variables .given .0 .0) (s .variables .given .0 .1 .0) (a .workspace .now)) (a .operator) (sym (c .before .before .judge-operator .ensures) ∙ ap judgementOf (c .enum-told .given .1))
+file : (c : tie.After-enum-told) → let s = formed-at c in let a = s .before .before .before .before .before .args in
+    fileJudged (sizesLent (s .variables .given .0 .0) (a .workspace .now)) (a .operator) ≡ fine
+file c = let s = formed-at c in let a = s .before .before .before .before .before .args in let v = s .variables .given .0 .0 in
+    operator-file (sizesLent v (a .workspace .now)) (pairsLent v (s .variables .given .0 .1 .0) (a .workspace .now)) (a .operator)
+    (sym (c .before .before .judge-operator .ensures) ∙ ap judgementOf (c .enum-told .given .1))
 
-known : (c : tie.After-enum-told) → let s = formed-at c in
-    IsOperator (sizesLent (s .variables .given .0 .0) (s .before .before .before .before .before .args .workspace .now)) (operatorIn (recordOf (s .before .before .before .before .before .args .operator)))
-known c = file-known _ _ (file c)
-
-few : (c : tie.After-enum-told) → formed-at c .before .before .before .before .before .args .operator .count ≤ mostVariables
-few c = count-room (room c) (parts-listed _ _ _ (yes (formed-at c))) (known c)
+fits : (c : tie.After-enum-told) → Fits (formed-at c .before .before .before .before .before .args .operator)
+fits c = slices-fit (room c) (parts-listed _ _ _ (yes (formed-at c))) (file-known _ _ (file c))
 
 well-formed-requires : tie.Need-well-formed-requires
 well-formed-requires c κs = search needs
@@ -85,31 +80,35 @@ part-judge-operator-end-2 : tie.Need-part-judge-operator-end-2
 part-judge-operator-end-2 c = omega (arith, places _ _ _ (yes (c .before .before .before .before .before .before)))
 
 judge-operator-requires : tie.Need-judge-operator-requires
-judge-operator-requires c κs = parts-listed (c .before .before .before .before .before .before .before .before .before .before .before .before .args .workspace .now) _ _ (yes (c .before .before .before .before .before .before .before))
+judge-operator-requires c κs = let s = c .before .before .before .before .before .before .before .before .before .before .before .before .args in
+    parts-listed (s .workspace .now) _ _ (yes (c .before .before .before .before .before .before .before))
 
 enum-told : tie.Need-enum-told
 enum-told c = search needs
 
 array-share-prefix-named : tie.Need-array-share-prefix-named
-array-share-prefix-named c = omega (arith, room (c .before) .variables, few (c .before))
+array-share-prefix-named c = fits (c .before) .variables
 
 slice-aggregate-add-rows : tie.Need-slice-aggregate-add-rows
-slice-aggregate-add-rows c = sym (length-take-le _ _ (omega (arith, room (c .before .before) .variables, few (c .before .before))))
+slice-aggregate-add-rows c = sym (length-take-le _ _ (fits (c .before .before) .variables))
 
 array-share-prefix-befores : tie.Need-array-share-prefix-befores
-array-share-prefix-befores c = omega (arith, room (c .before .before) .befores, few (c .before .before))
+array-share-prefix-befores c = fits (c .before .before) .befores
 
 slice-aggregate-add-rows-2 : tie.Need-slice-aggregate-add-rows-2
-slice-aggregate-add-rows-2 c = sym (length-take-le _ _ (omega (arith, room (c .before .before .before) .befores, few (c .before .before .before))))
+slice-aggregate-add-rows-2 c = sym (length-take-le _ _ (fits (c .before .before .before) .befores))
 
 array-share-prefix-afters : tie.Need-array-share-prefix-afters
-array-share-prefix-afters c = omega (arith, room (c .before .before .before) .afters, few (c .before .before .before))
+array-share-prefix-afters c = fits (c .before .before .before) .afters
 
 slice-aggregate-add-rows-3 : tie.Need-slice-aggregate-add-rows-3
-slice-aggregate-add-rows-3 c = sym (length-take-le _ _ (omega (arith, room (c .before .before .before .before) .afters, few (c .before .before .before .before))))
+slice-aggregate-add-rows-3 c = sym (length-take-le _ _ (fits (c .before .before .before .before) .afters))
 
 add-rows-requires : tie.Need-add-rows-requires
-add-rows-requires c κs = added-opened (c .before .before .before .before .before .before .before .before .before .before .before .before .before .before .before .before .before .before .before .args .workspace .now) _ _ (yes (c .before .before .before .before .before .before .before .before .before .before .before .before .before .before)) _ _ _ (slices-ready (room (c .before .before .before .before)) (parts-listed _ _ _ (yes (c .before .before .before .before .before .before .before .before .before .before .before .before .before .before))) (known (c .before .before .before .before)))
+add-rows-requires c κs = let t = c .before .before .before .before in
+    let formed = yes (formed-at t) in
+    added-opened (formed-at t .before .before .before .before .before .args .workspace .now) _ _ formed _ _ _
+    (slices-ready (room t) (parts-listed _ _ _ formed) (file-known _ _ (file t)))
 
 enum-known-reason : tie.Need-enum-known-reason
 enum-known-reason c = search needs
@@ -127,22 +126,30 @@ same-length : tie.Need-same-length
 same-length c = search needs
 
 returns : tie.Need-returns
-returns c = let o = c .before .before .before .before .before .before .before .before .before .before .before .before .before .before .before .before .before .before .before .before .before .before .args .operator in
-    operator-done (c .before .before .before .before .before .before .before .before .before .before .before .before .before .before .before .before .before .before .before .before .before .before .args .workspace .now) _ _ (yes (c .before .before .before .before .before .before .before .before .before .before .before .before .before .before .before .before .before)) (recordOf o) _ _ (operator-judged _ _ _ (yes (c .before .before .before .before .before .before .before .before .before .before .before .before .before .before .before .before .before)) (recordOf o) _ (c .before .before .before .before .before .before .before .before .before .judge-operator .ensures) ∙ ap judgementOf (c .before .before .before .before .before .before .before .enum-told .given .1))
-    (slices-hold (room (c .before .before .before .before .before .before .before)) (parts-listed _ _ _ (yes (c .before .before .before .before .before .before .before .before .before .before .before .before .before .before .before .before .before))) (known (c .before .before .before .before .before .before .before))) (c .before .before .add-rows .ensures)
+returns c = let t = c .before .before .before .before .before .before .before in
+    let s = formed-at t .before .before .before .before .before .args in
+    let formed = yes (formed-at t) in
+    operator-done (s .workspace .now) _ _ formed (recordOf (s .operator)) _ _
+    (operator-judged _ _ _ formed (recordOf (s .operator)) _ (t .before .before .judge-operator .ensures) ∙ ap judgementOf (t .enum-told .given .1))
+    (slices-hold (room t) (parts-listed _ _ _ formed) (file-known _ _ (file t))) (c .before .before .add-rows .ensures)
 
 same-length-2 : tie.Need-same-length-2
 same-length-2 c = search needs
 
 returns-2 : tie.Need-returns-2
-returns-2 c = let o = c .before .before .before .before .before .before .before .before .before .before .before .before .before .before .before .before .before .args .operator in
-    edit-refused (c .before .before .before .before .before .before .before .before .before .before .before .before .before .before .before .before .before .args .workspace .now) _ _ (yes (c .before .before .before .before .before .before .before .before .before .before .before .before)) (addOperator (recordOf o)) _ _ (operator-judged _ _ _ (yes (c .before .before .before .before .before .before .before .before .before .before .before .before)) (recordOf o) _ (c .before .before .before .before .judge-operator .ensures) ∙ ap judgementOf (c .before .before .reason .given .1)) (c .refusal .ensures)
+returns-2 c = let s = c .before .before .before .before .before .before .before .before .before .before .before .before .before .before .before .before .before .args in
+    let formed = yes (c .before .before .before .before .before .before .before .before .before .before .before .before) in
+    edit-refused (s .workspace .now) _ _ formed (addOperator (recordOf (s .operator))) _ _
+    (operator-judged _ _ _ formed (recordOf (s .operator)) _ (c .before .before .before .before .judge-operator .ensures) ∙ ap judgementOf (c .before .before .reason .given .1))
+    (c .refusal .ensures)
 
 same-length-3 : tie.Need-same-length-3
 same-length-3 c = search needs
 
 returns-3 : tie.Need-returns-3
-returns-3 c = edit-malformed (c .before .before .before .before .before .before .args .workspace .now) (addOperator (recordOf (c .before .before .before .before .before .before .args .operator))) _ (subst (FormedIs _) (c .before .enum-told2 .given .1) (c .before .before .before .well-formed .ensures)) (c .refusal2 .ensures)
+returns-3 c = let s = c .before .before .before .before .before .before .args in
+    edit-malformed (s .workspace .now) (addOperator (recordOf (s .operator))) _
+    (subst (FormedIs _) (c .before .enum-told2 .given .1) (c .before .before .before .well-formed .ensures)) (c .refusal2 .ensures)
 
 pub add-operator-spec : {M : Type 1} → statement M
 add-operator-spec =

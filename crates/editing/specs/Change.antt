@@ -39,11 +39,13 @@ abbrev pub pairsLent : ℕ → ℕ → List ℕ → List ℕ
 pairsLent v n ws = take (slotsAt v n - pairsAt v) (drop (pairsAt v) ws)
 
 -- Values written over a part that was lent.
-part-written : (ws values new : List ℕ) (at v : ℕ) → new ≡ values → take at ws ++ (new ++ drop (at + v - at) (drop at ws)) ≡ take at ws ++ (values ++ drop (at + v) ws)
+part-written : (ws values new : List ℕ) (at v : ℕ) → new ≡ values
+    → take at ws ++ (new ++ drop (at + v - at) (drop at ws)) ≡ take at ws ++ (values ++ drop (at + v) ws)
 part-written ws values new at v e = let q : at + v - at ≡ v = omega arith in rw (e, q, drop-drop v at ws)
 
 -- Words that are not well formed.
-pub edit-malformed : (ws : List ℕ) (edit : Edit) (number : ℕ) → FormedIs ws No → number ≡ refusal Malformed → Edits ws edit (record { answer = refused number; lent = ws })
+pub edit-malformed : (ws : List ℕ) (edit : Edit) (number : ℕ) → FormedIs ws No → number ≡ refusal Malformed
+    → Edits ws edit (record { answer = refused number; lent = ws })
 edit-malformed ws edit number is-not e = inl (no-formed ws is-not, ap (λ k. record { answer = refused k; lent = ws }) e)
 
 module _ (ws : List ℕ) (v n : ℕ) (yes : FormedIs ws (Yes v n)) where
@@ -92,7 +94,8 @@ module _ (ws : List ℕ) (v n : ℕ) (yes : FormedIs ws (Yes v n)) where
   end-judged Start values found e = sym (rw (lent sizesAt v ws, lent (pairsAt v) (wordsFor n) ws) at e)
   end-judged Goal values found e = sym (rw (lent sizesAt v ws) at e)
 
-  pub operator-judged : (r : OperatorRecord) (found : Judged) → found ≡ operatorJudged (sizesLent v ws) (has (pairsLent v n ws)) r → editJudged (contentParts v n ws) (addOperator r) ≡ found
+  pub operator-judged : (r : OperatorRecord) (found : Judged) → found ≡ operatorJudged (sizesLent v ws) (has (pairsLent v n ws)) r
+      → editJudged (contentParts v n ws) (addOperator r) ≡ found
   operator-judged r found e = sym (rw (lent sizesAt v ws, lent (pairsAt v) (wordsFor n) ws) at e)
 
   pub parts-listed : Listed (sizesLent v ws) (pairsLent v n ws)
@@ -106,7 +109,8 @@ module _ (ws : List ℕ) (v n : ℕ) (yes : FormedIs ws (Yes v n)) where
   end-changes Start values = refl
   end-changes Goal values = refl
 
-  end-written : (end : End) (values : List ℕ) → wordsOf (withEnd end values) ++ formed-parts .further ≡ take (endAt end v) ws ++ (values ++ drop (endAt end v + v) ws)
+  end-written : (end : End) (values : List ℕ)
+      → wordsOf (withEnd end values) ++ formed-parts .further ≡ take (endAt end v) ws ++ (values ++ drop (endAt end v + v) ws)
   end-written Start values = start-changed (contentParts v n ws) (formed-parts .further) (formed-parts .proper .start .full) values
       ∙ ap₂ (λ k l. take (startAt k) l ++ (values ++ drop (goalAt k) l)) count (sym (formed-parts .words))
   end-written Goal values = goal-changed (contentParts v n ws) (formed-parts .further) (formed-parts .proper .start .full) (formed-parts .proper .goal .full) values
@@ -141,7 +145,8 @@ module _ (ws : List ℕ) (v n : ℕ) (yes : FormedIs ws (Yes v n)) where
   slots-written m slots q = rw q (slots-changed (contentParts v n ws) (formed-parts .further) (formed-parts .proper .start .full) (formed-parts .proper .goal .full) (slots (features (sizesPart v ws)))
       ∙ ap₂ (λ k l. slotted k (features (sizesPart v ws)) l (slots (features (sizesPart v ws)))) count (sym (formed-parts .words)))
 
-  pub added-opened : (variables befores afters : List ℕ) → Ready (sizesLent v ws) (pairsLent v n ws) variables befores afters → Opened v n ws variables befores afters
+  pub added-opened : (variables befores afters : List ℕ) → Ready (sizesLent v ws) (pairsLent v n ws) variables befores afters
+      → Opened v n ws variables befores afters
   added-opened variables befores afters ready = record {
     counted = total;
     due = yes-due ws v n yes;
@@ -155,7 +160,8 @@ module _ (ws : List ℕ) (v n : ℕ) (yes : FormedIs ws (Yes v n)) where
 
   -- The slots after an operator's rows were inserted stand for what was stored and for the operator's condition.
   pub operator-done : (r : OperatorRecord) (o : Operator) (exit : List ℕ) → editJudged (contentParts v n ws) (addOperator r) ≡ fine → operatorIn r ≡ o
-      → exit ≡ slotted v n ws (insertAll n (heldSlots v n ws) (rowsOf (sizesPart v ws) (has (pairsPart v n ws)) o)) → Edits ws (addOperator r) (record { answer = done tt; lent = exit })
+      → exit ≡ slotted v n ws (insertAll n (heldSlots v n ws) (rowsOf (sizesPart v ws) (has (pairsPart v n ws)) o))
+      → Edits ws (addOperator r) (record { answer = done tt; lent = exit })
   operator-done r o exit e h q = edit-done (addOperator r) (withSlots (contentParts v n ws) slots) exit e (slots, stands, refl)
       (q ∙ ap (λ p. slotted v n ws (insertAll n (heldSlots v n ws) (rowsOf (sizesPart v ws) (has (pairsPart v n ws)) p))) (sym h) ∙ sym (slots-written n (λ m. insertAll m (slotsIn m (slotsPart v n ws)) rows) total))
     where

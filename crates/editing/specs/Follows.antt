@@ -12,6 +12,7 @@ use Rattle.meaning.specs.Weight.{Allows}
 use Rattle.meaning.specs.Workspace.{Content, wordsOf, WellFormed}
 use Rattle.meaning.specs.Answer.{Outcome, OperatorRecord, operatorIn, addOperator, Judged, fine, faulty, editJudged, EditsIn, Edits}
 use Rattle.theory.specs.SlotsOf.{slots-of-stored, slots-only}
+use Rattle.theory.specs.Contents.{withSlots}
 
 -- The new operator's conditions follow: weights that meet the stored slots evenly are allowed by it.
 abbrev pub Follows : Content → OperatorRecord → Type 0
@@ -36,7 +37,7 @@ module _ (workspace : List ℕ) (r : OperatorRecord) (outcome : Outcome (Unit {0
   by-judgement : (judged : Judged) → EditsIn judged workspace (formed .content) (addOperator r) outcome → outcome .lent ≡ workspace
   by-judgement (faulty reason) q = ap (λ o. o .lent) q
   by-judgement fine (c', (slots, D, q'), q) =
-      let same : c' ≡ formed .content = q' ∙ ap (λ s. record { sizes = formed .content .sizes; start = formed .content .start; goal = formed .content .goal; pairs = formed .content .pairs; slots = s }) (same-slots slots D) in
+      let same : c' ≡ formed .content = q' ∙ ap (withSlots (formed .content)) (same-slots slots D) in
       ap (λ o. o .lent) q ∙ ap (λ c. wordsOf c ++ drop (length (wordsOf c)) workspace) same ∙ rewritten (formed .content) (formed .further) workspace (formed .words)
 
 -- Whatever add_operator answers, the words stay as they were.

@@ -39,7 +39,8 @@ operatorJudged sizes pairs r =
 
 module _ (sizes values : List ℕ) (rest : Judged) (long : length values ≡ length sizes) (i : ℕ) where
   module _ (h : i < length sizes) where
-    pub values-next : getD values i 0 < getD sizes i 0 → valuesJudged (drop i sizes) (drop i values) rest ≡ valuesJudged (drop (i + 1) sizes) (drop (i + 1) values) rest
+    pub values-next : getD values i 0 < getD sizes i 0
+        → valuesJudged (drop i sizes) (drop i values) rest ≡ valuesJudged (drop (i + 1) sizes) (drop (i + 1) values) rest
     unfolding valuesJudged
     values-next l = rw (drop-cons sizes i 0 h, drop-cons values i 0 (omega arith), add-one i, lt-ltb _ _ l)
 
@@ -60,7 +61,8 @@ values-unless [] values rest = refl
 values-unless (d ∷ ds) [] rest = refl
 values-unless (d ∷ ds) (x ∷ xs) rest = rw (values-unless ds xs rest) (sym (need-unless (ltb x d) Range (valuesJudged ds xs fine) rest))
 
-pub end-after : (end : End) (sizes : List ℕ) (pairs : Set) (values : List ℕ) (first rest : Judged) → valuesAnd fine sizes values ≡ first → heldJudged end sizes pairs values ≡ rest
+pub end-after : (end : End) (sizes : List ℕ) (pairs : Set) (values : List ℕ) (first rest : Judged) → valuesAnd fine sizes values ≡ first
+    → heldJudged end sizes pairs values ≡ rest
     → endJudged end sizes pairs values ≡ unless first rest
 end-after end sizes pairs values first rest e h =
     ap (need (eqb (length values) (length sizes)) Range) (values-unless sizes values (heldJudged end sizes pairs values))

@@ -89,7 +89,8 @@ reads-map (fault reason place) words f others answer left same h = h
 abbrev pub placed : {A : Type 0} → Read A → (A → List ℕ) → Read (List ℕ)
 placed read words = onRead read (λ a next. got (words a) next)
 
-pub placed-next : {A : Type 0} (read : Read A) (words : A → List ℕ) (left : List ℕ) (next : ℕ) → placed read words ≡ got left next → ReadsInto read words (Next next) left
+pub placed-next : {A : Type 0} (read : Read A) (words : A → List ℕ) (left : List ℕ) (next : ℕ) → placed read words ≡ got left next
+    → ReadsInto read words (Next next) left
 unfolding ReadsInto
 placed-next (got a after) words left next e = (ap Next (sym (got-next e)), sym (got-value e))
 placed-next (fault reason place) words left next e = absurd (not-got e)
@@ -111,5 +112,6 @@ module _ (first : Parser ℕ) (rest : ℕ → Parser (List ℕ)) (bytes : List �
       others (got xs after) = refl
       others (fault reason there) = refl
 
-  pub first-fault : (reason : meaning.Reason) (there : ℕ) → first bytes place ≡ fault reason there → placed (listOf first rest bytes place) words ≡ fault reason there
+  pub first-fault : (reason : meaning.Reason) (there : ℕ) → first bytes place ≡ fault reason there
+      → placed (listOf first rest bytes place) words ≡ fault reason there
   first-fault reason there e = rw e

@@ -18,7 +18,8 @@ module _ (low high : ℕ) (bytes : List ℕ) (place : ℕ) where
   unfolding featureList
   list-fault reason there e = rw e
 
-  pub list-read : (count next : ℕ) (words : List ℕ) (answer : Step) (left : List ℕ) → low ≤ high → words ≡ replicate (wordsFor high) 0 → number bytes place ≡ got count next
+  pub list-read : (count next : ℕ) (words : List ℕ) (answer : Step) (left : List ℕ) → low ≤ high → words ≡ replicate (wordsFor high) 0
+      → number bytes place ≡ got count next
       → ReadsInto (featuresOf count low high 0 bytes next) (toggledAll words) answer left
       → ReadsInto (featureList low high bytes place) (featureWords high) answer left
   unfolding featureList

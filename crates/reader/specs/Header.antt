@@ -42,7 +42,8 @@ module _ (bytes : List ℕ) where
   pub count-known : (v next : ℕ) → countAt bytes 0 ≡ got v next → (leastVariables ≤ v) × (v ≤ mostVariables)
   count-known v next e = let known = item-said bytes leastVariables (suc mostVariables) Limit .gives 0 v next e .known in (known .0, omega (arith, known .1))
 
-  pub sizes-faulted : (v next : ℕ) (reason : meaning.Reason) (there : ℕ) → countAt bytes 0 ≡ got v next → sizesOf v bytes next ≡ fault reason there → header bytes 0 ≡ fault reason there
+  pub sizes-faulted : (v next : ℕ) (reason : meaning.Reason) (there : ℕ) → countAt bytes 0 ≡ got v next → sizesOf v bytes next ≡ fault reason there
+      → header bytes 0 ≡ fault reason there
   unfolding header
   sizes-faulted v next reason there e f = rw (e, f)
 
@@ -73,7 +74,8 @@ module _ (bytes : List ℕ) where
         room = omega (arith, sizes-known .0, count-known v next counted)
 
         words-are : words ≡ begun old (sizedWords sizes)
-        words-are = e ∙ ap (λ n. sets (set old 0 n) sizesAt sizes) (sym (sizes-known .0)) ∙ sets-all old 0 (length (sizedWords sizes)) (sizedWords sizes) (sym (zero-add _)) room
+        words-are = e ∙ ap (λ n. sets (set old 0 n) sizesAt sizes) (sym (sizes-known .0))
+            ∙ sets-all old 0 (length (sizedWords sizes)) (sizedWords sizes) (sym (zero-add _)) room
 
         part : take (sizesAt + v - sizesAt) (drop sizesAt (begun old (sizedWords sizes))) ≡ sizes
         part = let k : sizesAt + v - sizesAt ≡ v = omega arith in rw k (take-at sizes _ v (sizes-known .0))
@@ -86,7 +88,8 @@ module _ (bytes : List ℕ) where
 
 -- ---- the end of a weight file
 
-weights-ended : (n : ℕ) (bytes weights : List ℕ) (next : ℕ) → featureList 0 n bytes 0 ≡ got weights next → length bytes ≤ next → judgedWeights n bytes ≡ got weights next
+weights-ended : (n : ℕ) (bytes weights : List ℕ) (next : ℕ) → featureList 0 n bytes 0 ≡ got weights next → length bytes ≤ next
+    → judgedWeights n bytes ≡ got weights next
 unfolding judgedWeights ended judge
 weights-ended n bytes weights next e h = rw (e, le-leb (length bytes) next h)
 

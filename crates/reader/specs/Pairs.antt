@@ -74,12 +74,14 @@ module _ (words : List ℕ) (n : ℕ) (clear : Cleared words n) where
 -- ---- the whole front
 
 -- What is read of sizes, start and goal.
-states-said : (bytes : List ℕ) → Gives bytes statesOf (λ states l. InLimits (states .sizes) × State (states .sizes) (states .start) × State (states .sizes) (states .goal))
+states-said : (bytes : List ℕ)
+    → Gives bytes statesOf (λ states l. InLimits (states .sizes) × State (states .sizes) (states .start) × State (states .sizes) (states .goal))
 unfolding statesOf
 states-said bytes = gives-then _ _ (header-said bytes) (λ sizes l h. gives-then _ _ (values-said bytes sizes) (λ start m g.
     gives-map (statesWith sizes start) _ (values-said bytes sizes) (λ goal k r. (h .0, g .0, r .0))))
 
-state-length : (states : States) → State (states .sizes) (states .start) → State (states .sizes) (states .goal) → length (stateWords states) ≡ pairsAt (length (states .sizes))
+state-length : (states : States) → State (states .sizes) (states .start) → State (states .sizes) (states .goal)
+    → length (stateWords states) ≡ pairsAt (length (states .sizes))
 unfolding stateWords
 state-length states start goal =
     omega (arith, length-append (states .sizes) (states .start ++ states .goal), length-append (states .start) (states .goal), start .full, goal .full)
@@ -100,7 +102,8 @@ zeros-left (suc k) zero = let q : zero - suc k ≡ 0 = omega arith in rw q
 zeros-left (suc k) (suc m) = let q : suc m - suc k ≡ m - k = omega arith in rw q (zeros-left k m)
 
 module _ (bytes words : List ℕ) where
-  pub header-fault : (reason : Reason) (place : ℕ) (left : List ℕ) → frontOf bytes 0 ≡ fault (reasonOf reason) place → HeaderInto (frontOf bytes 0) words (Fault reason place) left
+  pub header-fault : (reason : Reason) (place : ℕ) (left : List ℕ) → frontOf bytes 0 ≡ fault (reasonOf reason) place
+      → HeaderInto (frontOf bytes 0) words (Fault reason place) left
   unfolding HeaderInto
   header-fault reason place left e = rw e (ap (λ r. Fault r place) (sym (declared-reason reason)))
 
@@ -108,7 +111,8 @@ module _ (bytes words : List ℕ) where
   unfolding frontOf
   states-unread reason place e = rw e
 
-  pub after-states : (answer : Step) (left : List ℕ) (next : ℕ) → ReadsInto (statesOf bytes 0) (λ states. begun words (stateWords states)) answer left → answer ≡ Next next
+  pub after-states : (answer : Step) (left : List ℕ) (next : ℕ) → ReadsInto (statesOf bytes 0) (λ states. begun words (stateWords states)) answer left
+      → answer ≡ Next next
       → AfterGoal bytes words left next
   unfolding stateWords
   after-states answer left next read e = known (reads-next (statesOf bytes 0) (λ states. begun words (stateWords states)) answer next left read e)
@@ -154,7 +158,8 @@ module _ (bytes words : List ℕ) where
       unfolding frontOf
       front-rest = rw (known .same, n-is, known .read) refl
 
-      pub pairs-unread : (reason : meaning.Reason) (place : ℕ) → featureList (atoms (sizesIn old)) n bytes next ≡ fault reason place → frontOf bytes 0 ≡ fault reason place
+      pub pairs-unread : (reason : meaning.Reason) (place : ℕ) → featureList (atoms (sizesIn old)) n bytes next ≡ fault reason place
+          → frontOf bytes 0 ≡ fault reason place
       pairs-unread reason place e = front-rest ∙ rw e
 
       module _ (answer : Step) (left : List ℕ) (after : ℕ)
@@ -165,11 +170,13 @@ module _ (bytes words : List ℕ) where
         pub count-unread : (reason : meaning.Reason) (place : ℕ) → number bytes after ≡ fault reason place → frontOf bytes 0 ≡ fault reason place
         count-unread reason place f = front-rest ∙ rw (pairs-read .1, f)
 
-        pub header-got : (v operators last : ℕ) → v ≡ getD old 0 0 → number bytes after ≡ got operators last → HeaderInto (frontOf bytes 0) words (Got v n operators last) left
+        pub header-got : (v operators last : ℕ) → v ≡ getD old 0 0 → number bytes after ≡ got operators last
+            → HeaderInto (frontOf bytes 0) words (Got v n operators last) left
         unfolding frontWords HeaderInto
         header-got v operators last same f = made (pairs-read .0) (pairs-read .1) (pairs-read .2)
           where
-            made : (pairs : List ℕ) → featureList (atoms (sizesIn old)) n bytes next ≡ got pairs after → left ≡ written old (pairsAt (getD old 0 0)) (featureWords n pairs)
+            made : (pairs : List ℕ) → featureList (atoms (sizesIn old)) n bytes next ≡ got pairs after
+                → left ≡ written old (pairsAt (getD old 0 0)) (featureWords n pairs)
                 → HeaderInto (frontOf bytes 0) words (Got v n operators last) left
             made pairs r w =
                 let front : frontOf bytes 0 ≡ got (record { states = known .states; pairs = pairs; count = operators }) last = front-rest ∙ rw (r, f) in

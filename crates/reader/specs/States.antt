@@ -59,7 +59,8 @@ module _ (bytes words : List ℕ) where
   unfolding statesOf
   sizes-unread reason place e = rw e
 
-  pub after-sizes : (answer : Step) (left : List ℕ) (next : ℕ) → ReadsInto (header bytes 0) (λ sizes. begun words (sizedWords sizes)) answer left → answer ≡ Next next
+  pub after-sizes : (answer : Step) (left : List ℕ) (next : ℕ) → ReadsInto (header bytes 0) (λ sizes. begun words (sizedWords sizes)) answer left
+      → answer ≡ Next next
       → AfterSizes bytes words left next
   unfolding statesOf
   after-sizes answer left next read e = known (reads-next (header bytes 0) (λ sizes. begun words (sizedWords sizes)) answer next left read e)
@@ -78,7 +79,8 @@ module _ (bytes words : List ℕ) where
     after-start answer left after read e =
         begin (reads-next (valuesOf (sizesIn old) bytes next) (written old (startAt (getD old 0 0))) answer after left read e)
       where
-        begin : (start : List ℕ) × (valuesOf (sizesIn old) bytes next ≡ got start after) × (left ≡ written old (startAt (getD old 0 0)) start) → AfterStart bytes words left (getD old 0 0) after
+        begin : (start : List ℕ) × (valuesOf (sizesIn old) bytes next ≡ got start after) × (left ≡ written old (startAt (getD old 0 0)) start)
+            → AfterStart bytes words left (getD old 0 0) after
         begin (start, r, w) =
             let read : valuesOf (known .sizes) bytes next ≡ got start after = rw (known .same) at r in
             let are : left ≡ begun words (sizedWords (known .sizes) ++ start)
@@ -97,7 +99,8 @@ module _ (bytes words : List ℕ) where
             }
 
   pub after-goal : (old : List ℕ) (v next : ℕ) (answer : Step) (left : List ℕ) → AfterStart bytes words old v next
-      → ReadsInto (valuesOf (sizesIn old) bytes next) (written old (goalAt v)) answer left → ReadsInto (statesOf bytes 0) (λ states. begun words (stateWords states)) answer left
+      → ReadsInto (valuesOf (sizesIn old) bytes next) (written old (goalAt v)) answer left
+      → ReadsInto (statesOf bytes 0) (λ states. begun words (stateWords states)) answer left
   unfolding stateWords
   after-goal old v next answer left known read =
       let sizes = known .sizes in

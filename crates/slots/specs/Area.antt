@@ -120,7 +120,8 @@ areas-same w n a b e q h = sym (take-all (n * w) a (omega arith)) ∙ take-same 
 
 -- One of the slots that are written one after another.
 slot-written : (n : ℕ) (slots : Slots) (i : ℕ) → i < n → slotAt (wordsFor n) (slotWords n slots) i ≡ packed n (slots i)
-slot-written n slots i l = ap (λ area. slotAt (wordsFor n) area i) (sym (append-nil (slotWords n slots))) ∙ flat-from n (wordsFor n) (λ j. packed n (slots j)) (λ j. length-packed n (slots j)) [] i l
+slot-written n slots i l = ap (λ area. slotAt (wordsFor n) area i) (sym (append-nil (slotWords n slots)))
+    ∙ flat-from n (wordsFor n) (λ j. packed n (slots j)) (λ j. length-packed n (slots j)) [] i l
 
 -- The words of slots in reduced shape are read back as those slots.
 pub area-back : {n : ℕ} {slots : Slots} → Reduced n slots → slotsIn n (slotWords n slots) ≡ slots

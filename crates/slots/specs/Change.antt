@@ -63,7 +63,8 @@ added-from k l m w e h = rw (
 -- Words that hold nothing change nothing.
 pub added-none : (l m : List ℕ) → Words m → length l ≡ length m → ((f : ℕ) → has m f ≡ false) → l ≡ summed l m
 unfolding summed
-added-none l m w e h = sym (append-nil l) ∙ ap₂ _++_ (sym (take-all (length l) l (omega arith))) (none (drop (length l) l) (drop-of-length-le l {i = length l} (omega arith)))
+added-none l m w e h = sym (append-nil l)
+    ∙ ap₂ _++_ (sym (take-all (length l) l (omega arith))) (none (drop (length l) l) (drop-of-length-le l {i = length l} (omega arith)))
     ∙ summed-after (length l) l m e (λ i j. word-none m i w (λ b t. h (i * wordBits + b)))
   where
     none : (d : List ℕ) → d ≡ [] → [] ≡ summed d (drop (length l) m)

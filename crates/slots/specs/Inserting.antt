@@ -35,7 +35,8 @@ cleared-first p row area j = rw (le-ltb j 0 (omega arith))
 
 -- Slot i is next.
 pub cleared-next : (p i : ℕ) (row area area' words : List ℕ) → i * length row + length row ≤ length area' → words ≡ cleared p row (slotAt (length row) area' i)
-    → ((j : ℕ) → slotAt (length row) area' j ≡ slotCleared p row area i j) → (j : ℕ) → slotAt (length row) (slotPut (length row) area' i words) j ≡ slotCleared p row area (i + 1) j
+    → ((j : ℕ) → slotAt (length row) area' j ≡ slotCleared p row area i j) → (j : ℕ)
+    → slotAt (length row) (slotPut (length row) area' i words) j ≡ slotCleared p row area (i + 1) j
 cleared-next p i row area area' words l e h j = elim (order j i) [
   | less k ↦ put-other (length row) i area' words long l j (omega arith) ∙ h j ∙ rw (lt-ltb j i k, lt-ltb j (i + 1) (omega arith))
   | same q ↦ rw q (put-same (length row) i area' words long l ∙ e ∙ rw (h i, le-ltb i i (omega arith), lt-ltb i (i + 1) (omega arith)))
@@ -47,7 +48,8 @@ cleared-next p i row area area' words l e h j = elim (order j i) [
 
 -- The row becomes slot p.
 pub after-put : (p : ℕ) (row area area' words : List ℕ) → p * length row + length row ≤ length area' → words ≡ row
-    → ((j : ℕ) → slotAt (length row) area' j ≡ slotCleared p row area p j) → (j : ℕ) → slotAt (length row) (slotPut (length row) area' p words) j ≡ slotAfter p row area j
+    → ((j : ℕ) → slotAt (length row) area' j ≡ slotCleared p row area p j) → (j : ℕ)
+    → slotAt (length row) (slotPut (length row) area' p words) j ≡ slotAfter p row area j
 after-put p row area area' words l e h j = elim (test (eqb j p)) [
   | on t ↦ rw (t, eqb-true j p t) (put-same (length row) p area' words (ap length e) l ∙ e)
   | off t ↦ rw t (put-other (length row) p area' words (ap length e) l j (eqb-false j p t) ∙ h j)

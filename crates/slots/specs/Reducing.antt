@@ -50,7 +50,8 @@ module _ {n : ℕ} {S : Slots} (R : Reduced n S) (d : Set) where
   unfolding red
   upto-first p row e h f = ap (λ a. a f) e ∙ sym (red-skip 0 (min p n) (omega arith) (λ g j l. h g j (omega arith)) f)
 
-  upto-next : (p q : ℕ) (row row' : List ℕ) → p < n → p + 1 ≤ q → d p ≡ true → Clear d (p + 1) q → ((f : ℕ) → has row' f ≡ has row f ⊕ S p f) → Upto S n d p row → Upto S n d q row'
+  upto-next : (p q : ℕ) (row row' : List ℕ) → p < n → p + 1 ≤ q → d p ≡ true → Clear d (p + 1) q → ((f : ℕ) → has row' f ≡ has row f ⊕ S p f) → Upto S n d p row
+      → Upto S n d q row'
   upto-next p q row row' l m e h k u f = let z : min p n ≡ p = omega arith in
       k f ∙ ap (λ b. b ⊕ S p f) (u f ∙ ap (λ j. red S j d f) z) ∙ sym (red-turn p e f)
       ∙ sym (red-skip (suc p) (min q n) (omega arith) (λ g j i. h g (omega arith) (omega arith)) f)
@@ -70,7 +71,8 @@ module _ {n : ℕ} {S : Slots} (R : Reduced n S) (own : List ℕ) where
   turn-first copy p e h = let k = subst (λ l. Next (has l) (wordBits * length l) 0 p) e h in
       record { within = k .within; long = refl; member = k .member; upto = upto-first R (has own) p own refl (k .clear) }
 
-  pub turn-next : (copy row row' slot : List ℕ) (p q : ℕ) → p < n → n ≤ wordBits * length own → copy ≡ own → Next (has copy) (wordBits * length copy) (p + 1) q → length slot ≡ length own
+  pub turn-next : (copy row row' slot : List ℕ) (p q : ℕ) → p < n → n ≤ wordBits * length own → copy ≡ own → Next (has copy) (wordBits * length copy) (p + 1) q
+      → length slot ≡ length own
       → ((f : ℕ) → has slot f ≡ S p f) → row' ≡ summed row slot → Turn n S own p row → Turn n S own q row'
   turn-next copy row row' slot p q l m e h s each r t = let k = subst (λ l. Next (has l) (wordBits * length l) (p + 1) q) e h in record {
     within = k .within;

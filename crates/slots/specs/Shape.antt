@@ -67,7 +67,8 @@ module _ (a b : List ℕ) (v : Words a) (w : Words b) where
 
       to : x / 2 ^ (i % 64) / 2 ^ 1 ≡ 0 → Clear (λ f. has a f && has b f) (i + 1) ((i / 64 + 1) * 64)
       to e f j k = let q : i / 64 * 64 + (i % 64 + (1 + (f - (i + 1)))) ≡ f = omega arith in
-          ap (λ g. has a g && has b g) (sym q) ∙ both-at (i / 64) (i % 64 + (1 + (f - (i + 1)))) (omega arith) ∙ sym (shifted (f - (i + 1))) ∙ rw e (bit-none (f - (i + 1)))
+          ap (λ g. has a g && has b g) (sym q) ∙ both-at (i / 64) (i % 64 + (1 + (f - (i + 1)))) (omega arith) ∙ sym (shifted (f - (i + 1)))
+          ∙ rw e (bit-none (f - (i + 1)))
 
       small : x / 2 ^ (i % 64) / 2 ^ 1 < 2 ^ wordBits
       small = lt-of-le-of-lt (div-le-self (x / 2 ^ (i % 64)) (2 ^ 1)) (lt-of-le-of-lt (div-le-self x (2 ^ (i % 64))) (both-small (i / 64) l m))
@@ -79,7 +80,8 @@ module _ (a b : List ℕ) (v : Words a) (w : Words b) where
         | off t ↦ bit-past x (i % 64 + (1 + k)) (lt-of-lt-of-le (both-small (i / 64) l m) (pow-mono (ltb-false (i % 64 + (1 + k)) 64 t)))
       ])
 
-  pub gathered-next : (i j common : ℕ) → i < j * wordBits → j < length a → j < length b → Gathered a b i j common → Gathered a b i (j + 1) (bitOr common (bitAnd (getD a j 0) (getD b j 0)))
+  pub gathered-next : (i j common : ℕ) → i < j * wordBits → j < length a → j < length b → Gathered a b i j common
+      → Gathered a b i (j + 1) (bitOr common (bitAnd (getD a j 0) (getD b j 0)))
   gathered-next i j common s l m g = tells-map to from (tells-eq (bitOr common x) 0)
     where
       x : ℕ
@@ -136,8 +138,8 @@ module _ (n i : ℕ) (full slot : List ℕ) where
   shaped-past r h d = never (λ s. omega (arith, s .within r (h .member (omega (arith, h .within))), h .above))
 
   -- The index is the least member and all are below n: it is left that no other index is a member.
-  pub shaped-apart : {b : Bool} (r q : ℕ) → Next (has slot) (wordBits * length slot) 0 r → r ≢ length slot * wordBits → r ≡ i → Next (has slot) (wordBits * length slot) n q → q ≡ length
-      slot * wordBits
+  pub shaped-apart : {b : Bool} (r q : ℕ) → Next (has slot) (wordBits * length slot) 0 r → r ≢ length slot * wordBits → r ≡ i
+      → Next (has slot) (wordBits * length slot) n q → q ≡ length slot * wordBits
       → Tells b (Apart (has slot) (has full) i) → Tells b (Shaped n i (has full) (has slot))
   shaped-apart {b} r q h d e k z = tells-map to from
     where

@@ -58,7 +58,7 @@ ShortNumber Separated = Unit {0}
 ShortNumber Nothing = Unit {0}
 ShortNumber (Refused number) = number < 10 ^ mostDigits
 
-refusal-short : (reason : Reason) → refusal reason < 10 ^ mostDigits
+pub refusal-short : (reason : Reason) → refusal reason < 10 ^ mostDigits
 refusal-short Ends = omega arith
 refusal-short Padded = omega arith
 refusal-short Endless = omega arith
@@ -95,7 +95,7 @@ features-few input fs prints = elim (answers input (done (separating fs)) prints
       omega (arith, run-length 0 (features (T .sizes)) fs run)
 ]
 
-line-short : (input : List ℕ) (answer : Answer Answered) → Prints input answer → length (line answer) ≤ lineBytes
+pub line-short : (input : List ℕ) (answer : Answer Answered) → Prints input answer → length (line answer) ≤ lineBytes
 unfolding line
 line-short input (done (separating fs)) prints =
     omega (arith, length-append (wordsIn (length fs ∷ fs)) (10 ∷ []), words-few (length fs ∷ fs), features-few input fs prints)

@@ -1,0 +1,138 @@
+-- Every value that a call can answer fits: it is below 2^32.
+use Prim.Native.Nat.{ℕ, _<_, _≤_}
+use mathlib.Core.Path.{_≡_, refl, sym, subst}
+use mathlib.Core.Logic.{_⊎_, inl, inr}
+use mathlib.Core.Bool.{Bool, true, false, cond}
+use mathlib.Core.List.{List, []}
+use native.Mathlib.Omega.{arith}
+use native.Mathlib.Nat.{mul-le-mul}
+use lib.Dec.{ltb}
+use lib.ListN.{length}
+use Rattle.meaning.specs.Limits.{wordBits, numberEnd}
+use Rattle.meaning.specs.Sets.{Set, listed}
+use Rattle.meaning.specs.Task.{Task}
+use Rattle.meaning.specs.Feature.{features}
+use Rattle.meaning.specs.Number.{Reason, Small, Malformed, refusal, Read, got, fault}
+use Rattle.meaning.specs.File.{judgedTask, judgedWeights, taskBytes, InLimits}
+use Rattle.meaning.specs.Workspace.{packed, wordsFor, wordsDue, Content, wordsOf, WellFormed}
+use Rattle.meaning.specs.Answer.{Answer, done, refused, Outcome, refuses, writes, delivered, byRead, Verdict, accepted, endsAlike, breaks, Judges, Checks, Opens}
+use Rattle.meaning.specs.Answer.{Finding, none, separated, FindsIn, FindsBy, Finds, Edit, Judged, fine, faulty, editJudged, EditsIn, Edits}
+use Rattle.meaning.specs.Bay.{Bay, judgedBay, bayTask, Builds}
+use Rattle.meaning.specs.Line.{line}
+use Rattle.theory.specs.Accepted.{accepted as task-accepted}
+use Rattle.theory.specs.BayTask.{ReadableBay, accepted-bay}
+use Rattle.theory.specs.Truth.{on, off, test}
+use Rattle.building.specs.Answers.{Sides}
+use Rattle.building.specs.Files.{task-few}
+use Rattle.line.specs.Answer.{Lines}
+use Rattle.line.specs.Fits.{refusal-short, line-short}
+use Rattle.florumeja.specs.Code.{valueEnd, Code, answerCode, verdictCode, lengthCode, findingCode, editCode}
+
+abbrev pub Fits : {A : Type 0} → (A → Code) → Answer A → Type 0
+Fits resultCode answer = answerCode resultCode answer .value < valueEnd
+
+abbrev pub FitsIn : {A : Type 0} → (A → Code) → Outcome A → Type 0
+FitsIn resultCode outcome = Fits resultCode (outcome .answer)
+
+refusal-fits : (reason : Reason) → refusal reason < valueEnd
+refusal-fits reason = omega (arith, refusal-short reason)
+
+-- ---- how such statements are put together: whatever a relation allows is good
+
+module _ {A : Type 0} (Good : A → Type 0) where
+  is-good : (b : A) → Good b → (a : A) → a ≡ b → Good a
+  is-good b good a e = subst Good (sym e) good
+
+  if-good : (t : Bool) (P Q : A → Type 0) → ((a : A) → P a → Good a) → ((a : A) → Q a → Good a) → (a : A) → cond t (P a) (Q a) → Good a
+  if-good true P Q p q = p
+  if-good false P Q p q = q
+
+  read-good : {B : Type 0} (read : Read B) (P : B → A → Type 0) (bad : Reason → A)
+      → ((b : B) (next : ℕ) → read ≡ got b next → (a : A) → P b a → Good a) → ((reason : Reason) → Good (bad reason)) → (a : A) → byRead read (λ b. P b a) (λ reason. a ≡ bad reason) → Good a
+  read-good (got b next) P bad good refusals = good b next refl
+  read-good (fault reason place) P bad good refusals = is-good (bad reason) (refusals reason)
+
+  formed-good : (workspace : List ℕ) (P : Content → A → Type 0) (bad : A) → ((c : Content) (a : A) → P c a → Good a) → Good bad
+      → (a : A) → ((WellFormed workspace → ⊥) × (a ≡ bad)) ⊎ ((formed : WellFormed workspace) × P (formed .content) a) → Good a
+  formed-good workspace P bad good refusal a (inl h) = is-good bad refusal a (h .1)
+  formed-good workspace P bad good refusal a (inr h) = good (h .0 .content) a (h .1)
+
+-- ---- the checker: an operator's number is below what a file can count
+
+verdict-fits : (T : Task) (weights : Set) (v : Verdict) → length (T .operators) < numberEnd → Judges T weights v → verdictCode v .value < valueEnd
+verdict-fits T weights accepted few h = omega arith
+verdict-fits T weights endsAlike few h = omega arith
+verdict-fits T weights (breaks j) few h = omega (arith, h .counted)
+
+pub checks-fit : (task weights : List ℕ) (answer : Answer Verdict) → Checks task weights answer → Fits verdictCode answer
+checks-fit task weights =
+    let bad : Reason → Answer Verdict = λ reason. refused (refusal reason) in
+    read-good (Fits verdictCode) (judgedTask task) _ bad
+    (λ T next e. read-good (Fits verdictCode) (judgedWeights (features (T .sizes)) weights) _ bad
+    (λ ws end e' answer h. is-good (Fits verdictCode) (done (h .0))
+    (verdict-fits T (listed ws) (h .0) (task-accepted task T next e .countable) (h .2)) answer (h .1))
+    refusal-fits)
+    refusal-fits
+
+-- ---- opening: the words due for a task within its limits
+
+words-fit : (sizes : List ℕ) → InLimits sizes → wordsDue (length sizes) (features sizes) < valueEnd
+words-fit sizes limits =
+    let few : wordsFor (features sizes) ≤ wordBits = omega (arith, limits .total) in
+    omega (arith, limits .variables .1, limits .total, mul-le-mul {m₂ = wordBits} (limits .total) few)
+
+pub opens-fit : (task room : List ℕ) (outcome : Outcome ℕ) → Opens task room outcome → FitsIn lengthCode outcome
+opens-fit task room =
+    read-good (FitsIn lengthCode) (judgedTask task) _ (λ reason. refuses reason room)
+    (λ T next e. if-good (FitsIn lengthCode) (ltb (length room) (wordsDue (length (T .sizes)) (features (T .sizes)))) _ _
+    (is-good (FitsIn lengthCode) (refuses Small room) (refusal-fits Small))
+    (λ o h. is-good (FitsIn lengthCode) _ (words-fit (T .sizes) (task-accepted task T next e .acceptable .limits)) o (h .2)))
+    refusal-fits
+
+-- ---- finding and edits: no value but that of a refusal
+
+found-fits : (c : Content) (room : List ℕ) (outcome : Outcome Finding) → FindsIn c room outcome → FitsIn findingCode outcome
+found-fits c room o (inl h) = is-good (FitsIn findingCode) (writes none [] room) (omega arith) o (h .1)
+found-fits c room o (inr h) = is-good (FitsIn findingCode) (writes separated (packed (features (c .sizes)) (h .0)) room) (omega arith) o (h .2)
+
+pub finds-fit : (workspace room : List ℕ) (outcome : Outcome Finding) → Finds workspace room outcome → FitsIn findingCode outcome
+finds-fit workspace room =
+    formed-good (FitsIn findingCode) workspace (λ c. FindsBy c room) (refuses Malformed room)
+    (λ c. if-good (FitsIn findingCode) (ltb (length room) (wordsFor (features (c .sizes)))) _ _
+    (is-good (FitsIn findingCode) (refuses Small room) (refusal-fits Small)) (found-fits c room))
+    (refusal-fits Malformed)
+
+edited-fits : (judged : Judged) (workspace : List ℕ) (c : Content) (edit : Edit) (outcome : Outcome (Unit {0}))
+    → EditsIn judged workspace c edit outcome → FitsIn editCode outcome
+edited-fits (faulty reason) workspace c edit o h = is-good (FitsIn editCode) (refuses reason workspace) (refusal-fits reason) o h
+edited-fits fine workspace c edit o h = is-good (FitsIn editCode) (writes tt (wordsOf (h .0)) workspace) (omega arith) o (h .2)
+
+pub edits-fit : (workspace : List ℕ) (edit : Edit) (outcome : Outcome (Unit {0})) → Edits workspace edit outcome → FitsIn editCode outcome
+edits-fit workspace edit =
+    formed-good (FitsIn editCode) workspace _ (refuses Malformed workspace) (λ c. edited-fits (editJudged c edit) workspace c edit)
+    (refusal-fits Malformed)
+
+-- ---- building: a bay's task file is short
+
+delivered-fits : (file room : List ℕ) → length file < valueEnd → FitsIn lengthCode (delivered file room)
+delivered-fits file room h = elim (test (ltb (length room) (length file))) [ on s ↦ rw s (refusal-fits Small) | off s ↦ rw s h ]
+
+pub builds-fit : (bay room : List ℕ) (outcome : Outcome ℕ) → Builds bay room outcome → FitsIn lengthCode outcome
+builds-fit bay room =
+    read-good (FitsIn lengthCode) (judgedBay bay) _ (λ reason. refuses reason room)
+    (λ b next e. is-good (FitsIn lengthCode) _ (delivered-fits (taskBytes (bayTask b)) room (file-fits b (accepted-bay bay b next e .readable))))
+    refusal-fits
+  where
+    file-fits : (b : Bay) → ReadableBay b → length (taskBytes (bayTask b)) < valueEnd
+    file-fits b bay =
+        let rows = bay .rows-limit in
+        let columns = bay .columns-limit in
+        let slots = bay .slots-limit in
+        let sides : Sides (b .rows) (b .columns) = (rows .0, rows .1, columns .0, columns .1, slots .0, slots .1) in
+        omega (arith, task-few (b .rows) (b .columns) sides _ (b .start) (b .goal) _ refl (bay .start-state) (bay .goal-state) refl)
+
+-- ---- the line: it is short
+
+pub lines-fit : (input room : List ℕ) (outcome : Outcome ℕ) → Lines input room outcome → FitsIn lengthCode outcome
+lines-fit input room o (answer, prints, e) =
+    is-good (FitsIn lengthCode) _ (delivered-fits (line answer) room (omega (arith, line-short input answer prints))) o e

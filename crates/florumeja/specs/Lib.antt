@@ -1,0 +1,5 @@
+-- How answers become numbers, that every value fits, what a caller reads back, and what an operator on slices is.
+pub mod Code
+pub mod Fits
+pub mod Back
+pub mod Places

@@ -1,0 +1,109 @@
+/*
+ * Florumeja from C: parity weights that prove a planning task unsolvable.
+ *
+ * Build the archive and link it; it needs nothing but the C library, and runs on x86-64 Linux:
+ *
+ *     rt staticlib florumeja
+ *     cc -std=c99 -I include program.c target/staticlib/libflorumeja.a -o program
+ *
+ * Every call takes every input: there is no file, workspace or length that it must not be given. What the caller owes is memory:
+ *
+ *   - A slice is a pointer and then its length, in elements (bytes or 64-bit words). The pointer is valid for so many elements, aligned for
+ *     them, and not NULL; where the length is 0 nothing is read or written through it.
+ *   - A slice that is lent for writing (a room; the workspace of an edit) shares no byte with another slice of the call.
+ *   - No other thread writes a slice of a call, or touches one that is lent for writing, before the call returns.
+ *
+ * Nothing is kept between calls and nothing is allocated. A call takes some 20 KiB of stack, florumeja_line some 70 KiB (measured, not proved).
+ *
+ * Each call answers one number, case * 2^32 + value; take it apart by florumeja_case and florumeja_value:
+ *
+ *   case                      value                             given by
+ *   0 FLORUMEJA_DONE          0                                 check: accepted; find: separated; an edit: done
+ *                             words due                         open
+ *                             bytes written                     build, line
+ *   1 FLORUMEJA_ENDS_ALIKE    0                                 check: rejected, the parities of start and goal are equal
+ *   1 FLORUMEJA_NONE          0                                 find: no weights separate; this is no refusal
+ *   2 FLORUMEJA_OPERATOR      the operator's number, from 0     check: rejected, this operator is the first that breaks parity
+ *   3 FLORUMEJA_REFUSED       a refusal's number, see below     every call
+ *
+ * A refused call leaves all lent memory as it came. Otherwise what is due goes to the front of the lent memory and the rest stays.
+ * Which answer is given, and what is left in lent memory, is settled for every input by the contract of each function in
+ * crates/florumeja/src/lib.rt.
+ */
+#ifndef FLORUMEJA_H
+#define FLORUMEJA_H
+
+#include <stddef.h>
+#include <stdint.h>
+
+#ifdef __cplusplus
+extern "C" {
+#endif
+
+/* The cases of an answer. */
+enum {
+    FLORUMEJA_DONE = 0,
+    FLORUMEJA_ENDS_ALIKE = 1,
+    FLORUMEJA_NONE = 1,
+    FLORUMEJA_OPERATOR = 2,
+    FLORUMEJA_REFUSED = 3
+};
+
+/* The numbers of refusals. */
+enum {
+    FLORUMEJA_BAD_NUMBER = 1,  /* input ends inside what is due, or a number is badly formed */
+    FLORUMEJA_LIMIT = 2,       /* v, a size, N, or a bay dimension breaks its limit */
+    FLORUMEJA_RANGE = 3,       /* a value, variable, entry count, feature or label is outside its range, or new values haven't length v */
+    FLORUMEJA_UNORDERED = 4,   /* entries, pairs or weights don't increase */
+    FLORUMEJA_LEFT_OVER = 5,   /* bytes are left over */
+    FLORUMEJA_HELD = 6,        /* the start holds a listed pair */
+    FLORUMEJA_UNCLOSED = 7,    /* the pairs aren't closed under an operator */
+    FLORUMEJA_SMALL = 8,       /* lent room is too small */
+    FLORUMEJA_MALFORMED = 9,   /* a workspace isn't well formed */
+    FLORUMEJA_MISLABELLED = 10 /* a bay list misses or repeats a label */
+};
+
+static inline uint32_t florumeja_case(uint64_t answer) { return (uint32_t)(answer >> 32); }
+
+static inline uint32_t florumeja_value(uint64_t answer) { return (uint32_t)(answer & 0xffffffffu); }
+
+/* Room that is never too small. A workspace of v variables and N features has 1 + 3v + W + N*W words and an answer has W, where W is N/64 rounded
+ * up; v is at most 64 and N at most 4,096. The task file of a bay of three by three has 2,019 bytes. The longest line has the count and 640
+ * features. */
+#define FLORUMEJA_WORKSPACE_WORDS 262401
+#define FLORUMEJA_ANSWER_WORDS 64
+#define FLORUMEJA_BAY_BYTES 2019
+#define FLORUMEJA_LINE_BYTES 2464
+
+/* Checks weights against a task: a task file and a weight file. */
+uint64_t florumeja_check(const uint8_t *task, size_t task_length, const uint8_t *weights, size_t weights_length);
+
+/* Opens a workspace from a task file. */
+uint64_t florumeja_open(const uint8_t *task, size_t task_length, uint64_t *room, size_t room_length);
+
+/* Finds the least weights that separate a workspace's start from its goal. Feature i is bit i % 64 of word i / 64 of the room. */
+uint64_t florumeja_find(const uint64_t *workspace, size_t workspace_length, uint64_t *room, size_t room_length);
+
+/* Adds an operator with so many entries: variables strictly increasing, each with its value before and after. Places past a list's end
+ * count as 0, and places from the count on are ignored. */
+uint64_t florumeja_add_operator(uint64_t *workspace, size_t workspace_length, uint64_t count,
+                                const uint64_t *variables, size_t variables_length,
+                                const uint64_t *befores, size_t befores_length,
+                                const uint64_t *afters, size_t afters_length);
+
+/* Puts other values in the place of the start's, or of the goal's: one for each variable. */
+uint64_t florumeja_replace_start(uint64_t *workspace, size_t workspace_length, const uint64_t *values, size_t values_length);
+uint64_t florumeja_replace_goal(uint64_t *workspace, size_t workspace_length, const uint64_t *values, size_t values_length);
+
+/* Builds the task file of a bay file. */
+uint64_t florumeja_build(const uint8_t *bay, size_t bay_length, uint8_t *room, size_t room_length);
+
+/* The line that the finder's program prints for an input, its line end included. The program's own refusals are lines too: case 3 is given
+ * only where the room is too small for the line. */
+uint64_t florumeja_line(const uint8_t *input, size_t input_length, uint8_t *room, size_t room_length);
+
+#ifdef __cplusplus
+}
+#endif
+
+#endif

@@ -1,0 +1,109 @@
+/* Each call of include/florumeja.h on document 01's cases. Every expected answer and word is from document 01, or worked out beside it. */
+#include "florumeja.h"
+
+#include <stdio.h>
+#include <string.h>
+
+static int passed, failed;
+
+static void expect(int holds, const char *what) {
+    if (holds) {
+        passed++;
+    } else {
+        failed++;
+        printf("differs: %s\n", what);
+    }
+}
+
+static int is(uint64_t answer, uint32_t answer_case, uint32_t value) {
+    return florumeja_case(answer) == answer_case && florumeja_value(answer) == value;
+}
+
+static int refused(uint64_t answer, uint32_t number) { return is(answer, FLORUMEJA_REFUSED, number); }
+
+/* Whether words or bytes are the same. */
+#define SAME(a, b) (memcmp((a), (b), sizeof(b)) == 0)
+#define COUNT(a) (sizeof(a) / sizeof((a)[0]))
+
+/* Tasks of document 01: A, B, D, G, H. */
+static const uint8_t task_a[] = {2, 2, 2, 0, 0, 0, 1, 0, 0};
+static const uint8_t task_b[] = {2, 2, 2, 0, 0, 0, 1, 0, 4, 2, 0, 0, 1, 1, 0, 1, 2, 0, 0, 1, 1, 1, 0, 2, 0, 1, 0, 1, 1, 0, 2, 0, 1, 0, 1, 0, 1};
+static const uint8_t task_d[] = {2, 2, 2, 0, 0, 1, 0, 0, 1, 1, 0, 0, 1};
+static const uint8_t task_g[] = {2, 2, 2, 0, 0, 1, 0, 1, 7, 1, 1, 0, 0, 1};
+static const uint8_t task_h[] = {2, 2, 2, 1, 1, 0, 0, 1, 7, 0};
+
+/* B's workspace, with two words of room behind it that stay. */
+static const uint64_t words_b[] = {2, 2, 2, 0, 0, 0, 1, 0, 111, 0, 0, 0, 240, 0, 0, 0, 9, 9};
+
+static void check_calls(void) {
+    const uint8_t both[] = {2, 0, 2}, first[] = {1, 0}, third[] = {1, 2}, past[] = {1, 8};
+    expect(is(florumeja_check(task_b, sizeof task_b, both, sizeof both), FLORUMEJA_DONE, 0), "B with {0,2} is accepted");
+    expect(is(florumeja_check(task_b, sizeof task_b, first, sizeof first), FLORUMEJA_ENDS_ALIKE, 0), "J: ends alike");
+    expect(is(florumeja_check(task_b, sizeof task_b, third, sizeof third), FLORUMEJA_OPERATOR, 0), "K: operator 0");
+    expect(refused(florumeja_check(task_g, sizeof task_g, first, sizeof first), FLORUMEJA_UNCLOSED), "G: refused 7");
+    expect(refused(florumeja_check(task_h, sizeof task_h, first, sizeof first), FLORUMEJA_HELD), "H: refused 6");
+    expect(refused(florumeja_check(task_b, sizeof task_b, past, sizeof past), FLORUMEJA_RANGE), "feature 8 of 8: refused 3");
+    expect(refused(florumeja_check(task_b, 0, both, sizeof both), FLORUMEJA_BAD_NUMBER), "an empty task: refused 1");
+}
+
+static void open_and_find(void) {
+    uint64_t room[18], answer[2] = {9, 9};
+    const uint64_t nines[] = {9, 9, 9, 9, 9, 9, 9, 9, 9, 9, 9, 9, 9, 9, 9, 9, 9, 9}, none[] = {9, 9}, both[] = {5, 9};
+    memcpy(room, nines, sizeof room);
+    expect(refused(florumeja_open(task_b, sizeof task_b, room, 15), FLORUMEJA_SMALL) && SAME(room, nines), "15 words are too few for B");
+    expect(is(florumeja_open(task_b, sizeof task_b, room, COUNT(room)), FLORUMEJA_DONE, 16) && SAME(room, words_b), "B's workspace");
+    expect(refused(florumeja_find(room, COUNT(room), answer, 0), FLORUMEJA_SMALL) && SAME(answer, none), "no room for an answer");
+    expect(is(florumeja_find(room, COUNT(room), answer, 2), FLORUMEJA_DONE, 0) && SAME(answer, both), "B: {0,2}");
+    expect(refused(florumeja_find(room, 15, answer, 2), FLORUMEJA_MALFORMED) && SAME(answer, both), "a workspace a word short: refused 9");
+    expect(is(florumeja_open(task_d, sizeof task_d, room, COUNT(room)), FLORUMEJA_DONE, 16), "D is opened");
+    expect(is(florumeja_find(room, COUNT(room), answer, 2), FLORUMEJA_NONE, 0) && SAME(answer, both), "D: none, and the room stays");
+}
+
+/* A with lift is C, and with another goal D. Lift changes 00 to 10 and 01 to 11, so {0,1,4,6} and {0,1,5,7} are forced, and their sum {4,5,6,7}:
+ * slot 0 holds {0,1,5,7}, which is 163, and slot 4 {4,5,6,7}, which is 240. */
+static void edits(void) {
+    uint64_t room[16], answer[1];
+    const uint64_t nothing[1] = {0}, one[] = {1}, ends[] = {1, 0}, two[] = {0, 2}, falls[] = {1, 0, 0};
+    const uint64_t words_c[] = {2, 2, 2, 0, 0, 0, 1, 0, 163, 0, 0, 0, 240, 0, 0, 0}, words_d[] = {2, 2, 2, 0, 0, 1, 0, 0, 163, 0, 0, 0, 240, 0, 0, 0};
+    const uint64_t third[] = {4};
+    expect(is(florumeja_open(task_a, sizeof task_a, room, 16), FLORUMEJA_DONE, 16), "A is opened");
+    expect(is(florumeja_add_operator(room, 16, 1, nothing, 0, nothing, 0, one, 1), FLORUMEJA_DONE, 0) && SAME(room, words_c), "lift, places past the end are 0");
+    expect(is(florumeja_find(room, 16, answer, 1), FLORUMEJA_DONE, 0) && SAME(answer, third), "C: {2}");
+    expect(refused(florumeja_add_operator(room, 16, 0, nothing, 1, nothing, 1, one, 1), FLORUMEJA_RANGE), "no entry: refused 3");
+    expect(refused(florumeja_add_operator(room, 16, 3, nothing, 1, nothing, 1, one, 1), FLORUMEJA_RANGE), "three entries of two: refused 3");
+    expect(refused(florumeja_add_operator(room, 16, UINT64_MAX, nothing, 1, nothing, 1, one, 1), FLORUMEJA_RANGE), "the largest count: refused 3");
+    expect(refused(florumeja_add_operator(room, 16, 2, falls, 3, nothing, 1, one, 1), FLORUMEJA_UNORDERED), "entries that fall: refused 4");
+    expect(refused(florumeja_replace_goal(room, 16, ends, 1), FLORUMEJA_RANGE), "one value of two: refused 3");
+    expect(refused(florumeja_replace_start(room, 16, two, 2), FLORUMEJA_RANGE) && SAME(room, words_c), "a value that equals its size: refused 3, no word changed");
+    expect(is(florumeja_replace_goal(room, 16, ends, 2), FLORUMEJA_DONE, 0) && SAME(room, words_d), "D's words");
+    expect(is(florumeja_find(room, 16, answer, 1), FLORUMEJA_NONE, 0) && SAME(answer, third), "D: none");
+    expect(is(florumeja_replace_start(room, 16, ends, 2), FLORUMEJA_DONE, 0) && room[3] == 1 && room[4] == 0, "another start");
+    expect(refused(florumeja_replace_goal(room, 0, ends, 2), FLORUMEJA_MALFORMED), "no words at all: refused 9");
+}
+
+static void builds_and_lines(void) {
+    static const uint8_t bay[] = {1, 2, 0, 1, 1, 0}, twice[] = {1, 2, 0, 0, 1, 0}, high[] = {10, 1};
+    static const uint8_t largest[] = {3, 3, 0, 1, 2, 3, 4, 5, 6, 7, 8, 0, 1, 2, 3, 4, 5, 6, 8, 7};
+    static const uint8_t task[] = {2, 2, 2, 0, 1, 1, 0, 2, 4, 7, 2, 2, 0, 0, 1, 1, 1, 0, 2, 0, 1, 0, 1, 0, 1, 7};
+    uint8_t room[FLORUMEJA_LINE_BYTES];
+    memset(room, 7, sizeof room);
+    expect(refused(florumeja_build(bay, sizeof bay, room, 24), FLORUMEJA_SMALL) && room[0] == 7, "24 bytes are too few for the bay 1 by 2");
+    expect(is(florumeja_build(bay, sizeof bay, room, sizeof room), FLORUMEJA_DONE, 25) && SAME(room, task), "the bay 1 by 2");
+    expect(refused(florumeja_build(twice, sizeof twice, room, sizeof room), FLORUMEJA_MISLABELLED), "a label twice: refused 10");
+    expect(refused(florumeja_build(high, sizeof high, room, sizeof room), FLORUMEJA_LIMIT), "ten rows: refused 2");
+    expect(refused(florumeja_build(largest, sizeof largest, room, FLORUMEJA_BAY_BYTES - 1), FLORUMEJA_SMALL), "a byte too few for the bay 3 by 3");
+    expect(is(florumeja_build(largest, sizeof largest, room, FLORUMEJA_BAY_BYTES), FLORUMEJA_DONE, FLORUMEJA_BAY_BYTES), "the bay 3 by 3");
+    memset(room, 7, sizeof room);
+    expect(refused(florumeja_line(task_b, sizeof task_b, room, 15), FLORUMEJA_SMALL) && room[0] == 7, "15 bytes are too few for B's line");
+    expect(is(florumeja_line(task_b, sizeof task_b, room, sizeof room), FLORUMEJA_DONE, 16) && memcmp(room, "separated 2 0 2\n\7", 17) == 0, "B's line");
+    expect(is(florumeja_line(task_g, sizeof task_g, room, sizeof room), FLORUMEJA_DONE, 10) && memcmp(room, "refused 7\n", 10) == 0, "G's line");
+}
+
+int main(void) {
+    check_calls();
+    open_and_find();
+    edits();
+    builds_and_lines();
+    printf("%d passed, %d failed\n", passed, failed);
+    return failed != 0;
+}

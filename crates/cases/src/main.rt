@@ -1,7 +1,6 @@
 // Checks the cases of standard input, one after another, and prints a line for each.
 ghost use Prim.Native.Nat.{_+_, _≤_};
 ghost use lib.ListN.{length};
-use checking::Verdict;
 
 // How many bytes say how long a file is.
 const LENGTH_BYTES: usize = 2;
@@ -24,28 +23,6 @@ fn file_end(bytes: &[u8], at: usize) -> usize
     first + length
 }
 
-// Prints a verdict.
-fn print(verdict: Verdict) {
-    match verdict {
-        Verdict::Accepted => {
-            io::write_all(1, b"accepted\n");
-        }
-        Verdict::EndsAlike => {
-            io::write_all(1, b"rejected ends alike\n");
-        }
-        Verdict::Operator(j) => {
-            io::write_all(1, b"rejected operator ");
-            io::print_decimal(1, j as u64);
-            io::write_all(1, b"\n");
-        }
-        Verdict::Refused(n) => {
-            io::write_all(1, b"refused ");
-            io::print_decimal(1, n);
-            io::write_all(1, b"\n");
-        }
-    }
-}
-
 fn main() {
     let mut input = io::large_buffer();
     let n = io::read_full(0, &mut input);
@@ -57,7 +34,7 @@ fn main() {
             return;
         }
         let end = file_end(bytes, middle);
-        print(checking::check(
+        verdicts::print(checking::check(
             &bytes[at + LENGTH_BYTES..middle],
             &bytes[middle + LENGTH_BYTES..end],
         ));

@@ -1,18 +1,10 @@
 -- `main`: the place is within the bytes that were read, and moves on at each case.
 use Prim.Native.Nat.{_-_, _≤_}
 use mathlib.Core.Path.{_≡_}
-use native.Mathlib.Omega.{arith}
 use lib.ListN.{length}
 use borrow.Author.Needs.{needs}
 use Rattle.cases.proofs.main.Statement.{statement}
 use Rattle.cases.proofs.main.Tie as tie
-use Rattle.cases.proofs.main.Reads as reads
-use Rattle.cases.proofs.main.Lts as lts
-use Rattle.cases.proofs.file_end.Reads as file-end-reads
-use Rattle.cases.proofs.print.Reads as print-reads
-use Rattle.checking.proofs.check.Reads as check-reads
-use Rattle.io.proofs.large_buffer.Reads as large-buffer-reads
-use Rattle.io.proofs.read_full.Reads as read-full-reads
 
 abbrev Inv-loop : tie.InvT-loop
 Inv-loop n bytes at₀ at = (at ≤ n) × (n ≡ length bytes) × (n ≤ 65536)
@@ -20,99 +12,75 @@ Inv-loop n bytes at₀ at = (at ≤ n) × (n ≡ length bytes) × (n ≤ 65536)
 abbrev μ-loop : tie.MeasureT-loop
 μ-loop n bytes at₀ at = n - at
 
--- src/main.rt:45:21
 large-buffer-requires : tie.Need-large-buffer-requires Inv-loop μ-loop
 large-buffer-requires c κs = search needs
 
--- src/main.rt:46:30
 slice-aggregate-read-full : tie.Need-slice-aggregate-read-full Inv-loop μ-loop
 slice-aggregate-read-full c = search needs
 
--- src/main.rt:46:9
 read-full-requires : tie.Need-read-full-requires Inv-loop μ-loop
 read-full-requires c κs = search needs
 
--- src/main.rt:47:17
 array-share-prefix-input : tie.Need-array-share-prefix-input Inv-loop μ-loop
 array-share-prefix-input c = search needs
 
--- src/main.rt:47:9
 slice-aggregate-bytes : tie.Need-slice-aggregate-bytes Inv-loop μ-loop
 slice-aggregate-bytes c = search needs
 
--- src/main.rt:49:5
 loop-holds : tie.Need-loop-holds Inv-loop μ-loop
 loop-holds c = search needs
 
--- src/main.rt:49:11
 add-loop : tie.Need-add-loop Inv-loop μ-loop
 add-loop c = search needs
 
--- src/main.rt:50:13
 file-end-requires : tie.Need-file-end-requires Inv-loop μ-loop
 file-end-requires c κs = search needs
 
--- src/main.rt:51:16
 add-if1 : tie.Need-add-if1 Inv-loop μ-loop
 add-if1 c = search needs
 
--- src/main.rt:52:13
 returns : tie.Need-returns Inv-loop μ-loop
 returns c = search needs
 
--- src/main.rt:54:13
 file-end-requires-2 : tie.Need-file-end-requires-2 Inv-loop μ-loop
 file-end-requires-2 c κs = search needs
 
--- src/main.rt:56:20
 add-check : tie.Need-add-check Inv-loop μ-loop
 add-check c = search needs
 
--- src/main.rt:56:13
 sub-check : tie.Need-sub-check Inv-loop μ-loop
 sub-check c = search needs
 
--- src/main.rt:56:13
 part-check-start : tie.Need-part-check-start Inv-loop μ-loop
 part-check-start c = search needs
 
--- src/main.rt:56:13
 part-check-end : tie.Need-part-check-end Inv-loop μ-loop
 part-check-end c = search needs
 
--- src/main.rt:57:20
 add-check-2 : tie.Need-add-check-2 Inv-loop μ-loop
 add-check-2 c = search needs
 
--- src/main.rt:57:13
 sub-check-2 : tie.Need-sub-check-2 Inv-loop μ-loop
 sub-check-2 c = search needs
 
--- src/main.rt:57:13
 part-check-start-2 : tie.Need-part-check-start-2 Inv-loop μ-loop
 part-check-start-2 c = search needs
 
--- src/main.rt:57:13
 part-check-end-2 : tie.Need-part-check-end-2 Inv-loop μ-loop
 part-check-end-2 c = search needs
 
--- src/main.rt:55:15
 check-requires : tie.Need-check-requires Inv-loop μ-loop
 check-requires c κs = search needs
 
--- src/main.rt:55:9
 print-requires : tie.Need-print-requires Inv-loop μ-loop
 print-requires c κs = search needs
 
--- src/main.rt:49:5
 loop-less : tie.Need-loop-less Inv-loop μ-loop
 loop-less c = search needs
 
--- src/main.rt:49:5
 loop-again : tie.Need-loop-again Inv-loop μ-loop
 loop-again c = search needs
 
--- src/main.rt:44:1
 returns-2 : tie.Need-returns-2 Inv-loop μ-loop
 returns-2 c = search needs
 

@@ -18,9 +18,9 @@ use building::Built;
 use checking::Verdict;
 use editing::Edited;
 use finding::Found;
+use limits::MOST_ENTRIES;
 use line::Printed;
 use opening::Opened;
-use operator::MOST_ENTRIES;
 use operator::Operator;
 
 // Every value is below this number.

@@ -10,6 +10,7 @@ ghost use Rattle.line.specs.Sought.{mostDue, weightWords};
 ghost use Rattle.line.specs.Fits.{lineBytes, ShortNumber};
 use decimal::WORD_WIDTH;
 use finding::Found;
+use limits::MOST_VARIABLES;
 use number::Reason;
 use opening::Opened;
 use words::WORD_BITS;
@@ -24,17 +25,15 @@ pub enum Printed {
 const MOST_INPUT: usize = 8192;
 
 // "more than 640 features give 8 after 7"
-const MOST_FEATURES: usize = 640;
+const MOST_PROGRAM_FEATURES: usize = 640;
 
-const MOST_VARIABLES: usize = 64;
-
-const WEIGHT_WORDS: usize = MOST_FEATURES / WORD_BITS;
+const WEIGHT_WORDS: usize = MOST_PROGRAM_FEATURES / WORD_BITS;
 
 // As many words as a workspace with the most features and variables takes. With more features no workspace is as short.
-const WORKSPACE_WORDS: usize = 1 + 3 * MOST_VARIABLES + WEIGHT_WORDS + MOST_FEATURES * WEIGHT_WORDS;
+const WORKSPACE_WORDS: usize = 1 + 3 * MOST_VARIABLES + WEIGHT_WORDS + MOST_PROGRAM_FEATURES * WEIGHT_WORDS;
 
 // The longest line: `separated`, the count and the most features, and the line's end.
-pub const LINE_BYTES: usize = 9 + WORD_WIDTH * (1 + MOST_FEATURES) + 1;
+pub const LINE_BYTES: usize = 9 + WORD_WIDTH * (1 + MOST_PROGRAM_FEATURES) + 1;
 
 // Finds the least weights for a task file. Its workspace is spent, and the words of the weights come as zeros.
 fn seek(input: &[u8], workspace: &mut [u64], weights: &mut [u64]) -> Found

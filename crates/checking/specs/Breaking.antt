@@ -1,7 +1,7 @@
 -- The first operator of a file that weights do not allow.
 use Prim.Native.Nat.{ℕ, zero, suc, _+_, _-_, _<_, _≤_}
-use mathlib.Core.Path.{_≡_, refl, sym, ap, _∙_}
-use mathlib.Core.Bool.{Bool, true, false, cond}
+use mathlib.Core.Path.{_≡_}
+use mathlib.Core.Bool.{true, false, cond}
 use mathlib.Core.List.{List, [], _∷_}
 use native.Mathlib.Omega.{arith}
 use lib.ListN.{length, getD}
@@ -9,8 +9,8 @@ use Rattle.meaning.specs.Sets.{Set}
 use Rattle.meaning.specs.Task.{Operator}
 use Rattle.meaning.specs.Number.{Reason, Read, got, fault}
 use Rattle.meaning.specs.File.{operatorOf, operatorsOf}
-use Rattle.theory.specs.Truth.{on, off, test, clash}
-use Rattle.theory.specs.Reading.{on-got, got-value, got-next}
+use Rattle.theory.specs.Truth.{on, off, test}
+use Rattle.theory.specs.Reading.{on-got, got-value}
 use Rattle.theory.specs.Rows.{allowed}
 
 -- A number by what was read and by what follows, or another where nothing was.

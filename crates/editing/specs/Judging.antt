@@ -23,7 +23,8 @@ abbrev pub fileJudged : List ℕ → Operator → Judged
 fileJudged sizes o = need (inside 1 (suc (length sizes)) (o .count)) Range (entriesJudged sizes 0 (operatorIn (recordOf o)) fine)
 
 -- That the list is closed is judged last.
-pub operator-after : (sizes pairs : List ℕ) (o : Operator) (first : Judged) (is-closed : Bool) → fileJudged sizes o ≡ first → closed sizes (has pairs) (operatorIn (recordOf o)) ≡ is-closed
+pub operator-after : (sizes pairs : List ℕ) (o : Operator) (first : Judged) (is-closed : Bool) → fileJudged sizes o ≡ first
+    → closed sizes (has pairs) (operatorIn (recordOf o)) ≡ is-closed
     → operatorJudged sizes (has pairs) (recordOf o) ≡ unless first (need is-closed Unclosed fine)
 operator-after sizes pairs o first is-closed e h = edit-judged (contentFrom sizes [] [] pairs []) (recordOf o) ∙ ap₂ (λ j b. unless j (need b Unclosed fine)) e h
 

@@ -1,4 +1,5 @@
 // The limits and offsets of document 01 that several crates use, each under one name.
+
 // "v 1 to 64"
 pub const LEAST_VARIABLES: usize = 1;
 

@@ -37,20 +37,19 @@ module _ {o : Operator} (room : Room o) {sizes pairs : List ℕ} (listed : Liste
   }
 
   pub slices-hold : operatorIn (recordOf o) ≡ sliced o
-  slices-hold = held-parts (o .count) (o .variables) (o .befores) (o .afters) (omega (arith, room .variables, count-room))
+  slices-hold = held-parts (o .count) (o .variables) (o .befores) (o .afters) (slices-fit .variables)
 
   -- An operator that was read, by its slices.
   pub slices-read : (bytes : List ℕ) (at next : ℕ) → operatorOf sizes bytes at ≡ got (operatorIn (recordOf o)) next → operatorOf sizes bytes at ≡ got (sliced o) next
   slices-read bytes at next read = read ∙ ap (λ held. got held next) slices-hold
 
   pub slices-ready : Ready sizes pairs (take (o .count) (o .variables)) (take (o .count) (o .befores)) (take (o .count) (o .afters))
-  slices-ready = record {
-    limits = listed .limits;
-    due = listed .due;
-    befores-equal = cut (o .befores) (room .befores) ∙ sym (cut (o .variables) (room .variables));
-    afters-equal = cut (o .afters) (room .afters) ∙ sym (cut (o .variables) (room .variables));
-    entries = rw (← slices-hold) (is .entries);
-  }
-    where
-      cut : (l : List ℕ) → length l ≡ mostVariables → length (take (o .count) l) ≡ o .count
-      cut l e = length-take-le (o .count) l (omega (arith, count-room))
+  slices-ready =
+      let long = length-take-le (o .count) (o .variables) (slices-fit .variables) in
+      record {
+        limits = listed .limits;
+        due = listed .due;
+        befores-equal = length-take-le (o .count) (o .befores) (slices-fit .befores) ∙ sym long;
+        afters-equal = length-take-le (o .count) (o .afters) (slices-fit .afters) ∙ sym long;
+        entries = rw (← slices-hold) (is .entries);
+      }

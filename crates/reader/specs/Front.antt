@@ -50,8 +50,6 @@ HeaderInto (got front next) words answer left =
     (answer ≡ Got (length (front .states .sizes)) (features (front .states .sizes)) (front .count) next) × (left ≡ begun words (frontWords front))
 HeaderInto (fault reason place) words answer left = answer ≡ Fault (declaredOf reason) place
 
--- ---- the front of a task
-
 -- A task with this front.
 abbrev pub taskWith : Front → List Operator → Task
 taskWith front operators =

@@ -32,8 +32,8 @@ kindOf Used = used
 abbrev pub atomOf : Atom → List (ℕ × Kind)
 atomOf a = (a .value, kindOf (a .kind)) ∷ []
 
-abbrev pub entryOf : Move → Entry
-entryOf m = record { variable = m .variable; before = m .before; after = m .after }
+abbrev pub entryOfMove : Move → Entry
+entryOfMove m = record { variable = m .variable; before = m .before; after = m .after }
 
 abbrev pub AtomIn : List ℕ → Atom → Type 0
 AtomIn sizes a = (a .variable < length sizes) × (a .value < size sizes (a .variable))

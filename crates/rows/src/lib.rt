@@ -17,7 +17,7 @@ ghost use Rattle.theory.specs.Rows.{change};
 ghost use Rattle.theory.specs.Walk.{walk};
 ghost use Rattle.words.specs.Next.{Next};
 ghost use Rattle.words.specs.Toggled.{toggledAll};
-ghost use Rattle.rows.specs.Moves.{kindOf, atomOf, entryOf, AtomIn, MoveIn, Room, byGrid};
+ghost use Rattle.rows.specs.Moves.{kindOf, atomOf, entryOfMove, AtomIn, MoveIn, Room, byGrid};
 ghost use Rattle.rows.specs.Change.{movedBoth, besideFeatures, earlierFeatures, namedFeatures, unnamedFeatures, difference};
 ghost use Rattle.rows.specs.Base.{atomsAt, leastValues, withBefores, baseBy};
 ghost use Rattle.rows.specs.Apart.{wantedBy, wantedFrom, placesFrom};
@@ -129,7 +129,7 @@ fn toggle_atom(sizes: &[u64], a: Atom, to: Move, row: &mut [u64])
 // Toggles what two variables change together.
 fn toggle_moves(sizes: &[u64], of: Move, to: Move, row: &mut [u64])
     requires { ⌜ Room (now sizes) (now row) × MoveIn (now sizes) of × MoveIn (now sizes) to × (of .variable ≢ to .variable) ⌝ }
-    ensures { λ r. ⌜ now (row .exit) ≡ toggledAll (now (row .entry)) (movedBoth (now (sizes .entry)) (entryOf of) (entryOf to)) ⌝ }
+    ensures { λ r. ⌜ now (row .exit) ≡ toggledAll (now (row .entry)) (movedBoth (now (sizes .entry)) (entryOfMove of) (entryOfMove to)) ⌝ }
 {
     if of.before == of.after {
         toggle_atom(

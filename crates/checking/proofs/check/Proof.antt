@@ -8,66 +8,48 @@ use Rattle.checking.specs.Weigh.{task-refused}
 use borrow.Author.Needs.{needs}
 use Rattle.checking.proofs.check.Statement.{statement}
 use Rattle.checking.proofs.check.Tie as tie
-use Rattle.checking.proofs.check.Reads as reads
-use Rattle.checking.proofs.check.Lts as lts
-use Rattle.checking.proofs.weigh.Reads as weigh-reads
-use Rattle.number.proofs.refusal.Reads as refusal-reads
-use Rattle.task.proofs.judge.Reads as judge-reads
 
 -- What is known of an accepted task.
 known : (c : tie.After-variables) → let told = c .variables .given .0 in
     Known (c .before .before .before .before .before .before .before .args .task .now) (replicate 257 0) (c .before .before .before .judge .last .1 .0) (told .0) (told .1 .0) (told .1 .1 .0) (told .1 .1 .1 .0)
 known c = judged-accepted _ _ _ _ _ _ _ _ (c .before .before .before .judge .ensures) (c .variables .given .1)
 
--- src/lib.rt:158:29
 slice-aggregate-judge : tie.Need-slice-aggregate-judge
 slice-aggregate-judge c = search needs
 
--- src/lib.rt:158:11
 judge-requires : tie.Need-judge-requires
 judge-requires c κs = search needs
 
--- src/lib.rt:160:13
 enum-known-variables : tie.Need-enum-known-variables
 enum-known-variables c = search needs
 
--- src/lib.rt:166:34
 sub-w : tie.Need-sub-w
 sub-w c = search needs
 
--- src/lib.rt:166:22
 add-w : tie.Need-add-w
 add-w c = omega (arith, known-limits (known (c .before)) .1)
 
--- src/lib.rt:170:17
 slice-aggregate-weigh : tie.Need-slice-aggregate-weigh
 slice-aggregate-weigh c = search needs
 
--- src/lib.rt:175:17
 array-borrow-prefix-words : tie.Need-array-borrow-prefix-words
 array-borrow-prefix-words c = omega (arith, known-limits (known (c .before .before)) .1)
 
--- src/lib.rt:175:17
 slice-aggregate-weigh-2 : tie.Need-slice-aggregate-weigh-2
 slice-aggregate-weigh-2 c = simp length-take (omega (arith, known-limits (known (c .before .before .before)) .1))
 
--- src/lib.rt:167:13
 weigh-requires : tie.Need-weigh-requires
 weigh-requires c κs = ((_, known (c .before .before .before)), room-zeros _ _ (known-limits (known (c .before .before .before)) .1) refl)
 
--- src/lib.rt:178:25
 enum-known-reason : tie.Need-enum-known-reason
 enum-known-reason c = search needs
 
--- src/lib.rt:178:56
 refusal-requires : tie.Need-refusal-requires
 refusal-requires c κs = search needs
 
--- src/lib.rt:154:1
 returns : tie.Need-returns
 returns c = search needs
 
--- src/lib.rt:154:1
 returns-2 : tie.Need-returns-2
 returns-2 c = task-refused _ _ _ _ (judged-refused _ _ _ _ _ _ (c .before .before .before .before .before .judge .ensures) (c .before .before .reason .given .1)) _ (c .refusal .ensures)
 

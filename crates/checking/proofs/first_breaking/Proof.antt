@@ -20,10 +20,6 @@ use Rattle.pairs.specs.Ready.{Ready}
 use Rattle.checking.specs.Breaking.{breakingFrom, breaking-more, breaking-here, breaking-unread, breaking-end}
 use Rattle.checking.proofs.first_breaking.Statement.{statement}
 use Rattle.checking.proofs.first_breaking.Tie as tie
-use Rattle.checking.proofs.first_breaking.Reads as reads
-use Rattle.checking.proofs.first_breaking.Lts as lts
-use Rattle.condition.proofs.is_allowed.Reads as is-allowed-reads
-use Rattle.operator.proofs.read_operator.Reads as read-operator-reads
 use Rattle.pairs.specs.Slices.{count-room, slices-read, slices-ready}
 
 abbrev Inv-loop : tie.InvT-loop
@@ -57,71 +53,54 @@ parts : (c : tie.After-step Inv-loop μ-loop) → let a = c .before .before .bef
     ≡ got (entriesIn (take (o .count) (o .variables)) (take (o .count) (o .befores)) (take (o .count) (o .afters))) (c .step .given .0 .0)
 parts c = slices-read (room (c .before .before)) (c .before .before .before .before .before .before .before .before .before .pre .0) (is c) _ _ _ (read c)
 
--- src/lib.rt:47:5
 loop-holds : tie.Need-loop-holds Inv-loop μ-loop
 loop-holds c = (omega arith, simp (sub-zero, zero-add))
 
--- src/lib.rt:48:13
 read-operator-requires : tie.Need-read-operator-requires Inv-loop μ-loop
 read-operator-requires c κs = omega (arith, c .before .before .before .before .before .before .pre .0 .limits .variables)
 
--- src/lib.rt:50:24
 enum-known-step : tie.Need-enum-known-step Inv-loop μ-loop
 enum-known-step c = search needs
 
--- src/lib.rt:51:13
 enum-told : tie.Need-enum-told Inv-loop μ-loop
 enum-told c = search needs
 
--- src/lib.rt:51:13
 returns : tie.Need-returns Inv-loop μ-loop
 returns c = sym (c .before .before .before .before .loop .inv .1 ∙ breaking-unread _ _ _ _ _ _ _ _ _ (c .before .before .before .loop-test .taken) (read-faulted _ _ _ _ _ _ (c .before .before .read-operator .ensures) (c .enum-told .given .1)))
 
--- src/lib.rt:60:13
 array-share-prefix-variables : tie.Need-array-share-prefix-variables Inv-loop μ-loop
 array-share-prefix-variables c = omega (arith, few (c .before .before .before .before), room (c .before .before .before .before .before .before) .variables)
 
--- src/lib.rt:60:13
 slice-aggregate-is-allowed : tie.Need-slice-aggregate-is-allowed Inv-loop μ-loop
 slice-aggregate-is-allowed c = sym (length-take-le _ _ (omega (arith, few (c .before .before .before .before .before), room (c .before .before .before .before .before .before .before) .variables)))
 
--- src/lib.rt:61:13
 array-share-prefix-befores : tie.Need-array-share-prefix-befores Inv-loop μ-loop
 array-share-prefix-befores c = omega (arith, few (c .before .before .before .before .before), room (c .before .before .before .before .before .before .before) .befores)
 
--- src/lib.rt:61:13
 slice-aggregate-is-allowed-2 : tie.Need-slice-aggregate-is-allowed-2 Inv-loop μ-loop
 slice-aggregate-is-allowed-2 c = sym (length-take-le _ _ (omega (arith, few (c .before .before .before .before .before .before), room (c .before .before .before .before .before .before .before .before) .befores)))
 
--- src/lib.rt:62:13
 array-share-prefix-afters : tie.Need-array-share-prefix-afters Inv-loop μ-loop
 array-share-prefix-afters c = omega (arith, few (c .before .before .before .before .before .before), room (c .before .before .before .before .before .before .before .before) .afters)
 
--- src/lib.rt:62:13
 slice-aggregate-is-allowed-3 : tie.Need-slice-aggregate-is-allowed-3 Inv-loop μ-loop
 slice-aggregate-is-allowed-3 c = sym (length-take-le _ _ (omega (arith, few (c .before .before .before .before .before .before .before), room (c .before .before .before .before .before .before .before .before .before) .afters)))
 
--- src/lib.rt:57:13
 is-allowed-requires : tie.Need-is-allowed-requires Inv-loop μ-loop
 is-allowed-requires c κs = (ready (c .before .before .before .before .before .before .before), c .before .before .before .before .before .before .before .before .before .before .before .before .before .before .before .before .pre .1 .long, c .before .before .before .before .before .before .before .before .before .before .before .before .before .before .before .before .pre .1 .past)
 
--- src/lib.rt:65:13
 returns-2 : tie.Need-returns-2 Inv-loop μ-loop
 returns-2 c = sym (c .before .before .before .before .before .before .before .before .before .before .before .before .before .loop .inv .1 ∙ breaking-here _ _ _ _ _ _ _ _ _ (c .before .before .before .before .before .before .before .before .before .before .before .before .loop-test .taken) (parts (c .before .before .before .before .before .before .before .before .before)) (sym (c .before .is-allowed .ensures) ∙ not-true _ (c .if1 .taken)))
 
--- src/lib.rt:68:9
 add-k : tie.Need-add-k Inv-loop μ-loop
 add-k c = omega arith
 
--- src/lib.rt:47:5
 loop-less : tie.Need-loop-less Inv-loop μ-loop
 loop-less c = omega arith
 
--- src/lib.rt:47:5
 loop-again : tie.Need-loop-again Inv-loop μ-loop
 loop-again c = (omega arith, c .before .before .before .before .before .before .before .before .before .before .before .before .before .loop .inv .1 ∙ breaking-more _ _ _ _ _ _ _ _ _ (c .before .before .before .before .before .before .before .before .before .before .before .before .loop-test .taken) (parts (c .before .before .before .before .before .before .before .before .before)) (sym (c .before .is-allowed .ensures) ∙ not-false _ (c .if1 .left)))
 
--- src/lib.rt:34:1
 returns-3 : tie.Need-returns-3 Inv-loop μ-loop
 returns-3 c = sym (c .before .loop .inv .1 ∙ breaking-end _ _ _ _ _ _ _ (c .loop-test .left))
 

@@ -1,5 +1,4 @@
 -- `judge_weights`: the ends decide, then the first operator that is not allowed.
-use mathlib.Core.Path.{_∙_}
 use native.Mathlib.Omega.{arith}
 use lib.ListN.{length-take}
 use borrow.Author.Tests.{not-true, not-false}
@@ -7,36 +6,25 @@ use Rattle.checking.specs.Answer.{room-zeros, verdict-alike, verdict-bre
 use borrow.Author.Needs.{needs}
 use Rattle.checking.proofs.judge_weights.Statement.{statement}
 use Rattle.checking.proofs.judge_weights.Tie as tie
-use Rattle.checking.proofs.judge_weights.Reads as reads
-use Rattle.checking.proofs.judge_weights.Lts as lts
-use Rattle.checking.proofs.do_ends_differ.Reads as do-ends-differ-reads
-use Rattle.checking.proofs.first_breaking.Reads as first-breaking-reads
 
--- src/lib.rt:108:53
 array-borrow-prefix-row : tie.Need-array-borrow-prefix-row
 array-borrow-prefix-row c = search needs
 
--- src/lib.rt:108:53
 slice-aggregate-do-ends-differ : tie.Need-slice-aggregate-do-ends-differ
 slice-aggregate-do-ends-differ c = simp length-take (omega (arith, c .before .before .before .before .before .before .before .pre .3 .long, c .before .before .before .before .before .before .before .pre .0 .limits .total))
 
--- src/lib.rt:108:9
 do-ends-differ-requires : tie.Need-do-ends-differ-requires
 do-ends-differ-requires c κs = let (listed, start, goal, for) = c .before .before .before .before .before .before .before .pre in (listed .limits, start, goal, for, room-zeros _ _ (listed .limits .total) (for .long))
 
--- src/lib.rt:109:9
 returns : tie.Need-returns
 returns c = verdict-alike _ _ _ _ _ _ _ _ _ (c .before .before .do-ends-differ .ensures) (not-true _ (c .if1 .taken))
 
--- src/lib.rt:111:9
 first-breaking-requires : tie.Need-first-breaking-requires
 first-breaking-requires c κs = search needs
 
--- src/lib.rt:113:9
 returns-2 : tie.Need-returns-2
 returns-2 c = verdict-breaks _ _ _ _ _ _ _ _ _ (c .before .before .before .before .do-ends-differ .ensures) _ (c .before .first-breaking .ensures) (not-false _ (c .before .before .if1 .left)) (c .if2 .taken)
 
--- src/lib.rt:92:1
 returns-3 : tie.Need-returns-3
 returns-3 c = verdict-accepts _ _ _ _ _ _ _ _ _ (c .before .before .before .before .do-ends-differ .ensures) _ (c .before .first-breaking .ensures) (not-false _ (c .before .before .if1 .left)) (c .if2 .left)
 

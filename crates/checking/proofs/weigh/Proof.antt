@@ -8,15 +8,6 @@ use Rattle.checking.specs.Weigh.{weights-refused, lent-ready, lent-check
 use borrow.Author.Needs.{needs}
 use Rattle.checking.proofs.weigh.Statement.{statement}
 use Rattle.checking.proofs.weigh.Tie as tie
-use Rattle.checking.proofs.weigh.Reads as reads
-use Rattle.checking.proofs.weigh.Lts as lts
-use Rattle.checking.proofs.judge_weights.Reads as judge-weights-reads
-use Rattle.number.proofs.refusal.Reads as refusal-reads
-use Rattle.reader.proofs.read_weights.Reads as read-weights-reads
-use Rattle.task.proofs.goal_at.Reads as goal-at-reads
-use Rattle.task.proofs.pairs_at.Reads as pairs-at-reads
-use Rattle.task.proofs.slots_at.Reads as slots-at-reads
-use Rattle.task.proofs.start_at.Reads as start-at-reads
 
 -- Where the parts of the header begin and end.
 cuts : (c : tie.After-slots-at) → let a = c .before .before .before .before .before .before .before .before .before .before .before .before .before .before .args in
@@ -26,115 +17,87 @@ cuts c = record { start-is = c .before .before .before .start-at .ensures; goal-
 room : (c : tie.After-slots-at) → c .slots-at .result ≤ length (c .before .before .before .before .before .before .before .before .before .before .before .before .before .before .args .header .now)
 room c = omega (arith, c .slots-at .ensures, known-room (c .before .before .before .before .before .before .before .before .before .before .before .before .before .before .pre .0 .1))
 
--- src/lib.rt:132:11
 read-weights-requires : tie.Need-read-weights-requires
 read-weights-requires c κs = search needs
 
--- src/lib.rt:134:17
 enum-told : tie.Need-enum-told
 enum-told c = search needs
 
--- src/lib.rt:134:17
 start-at-requires : tie.Need-start-at-requires
 start-at-requires c κs = known-limits (c .before .before .before .before .before .before .before .before .before .before .pre .0 .1) .0
 
--- src/lib.rt:135:17
 goal-at-requires : tie.Need-goal-at-requires
 goal-at-requires c κs = known-limits (c .before .before .before .before .before .before .before .before .before .before .before .pre .0 .1) .0
 
--- src/lib.rt:136:17
 pairs-at-requires : tie.Need-pairs-at-requires
 pairs-at-requires c κs = known-limits (c .before .before .before .before .before .before .before .before .before .before .before .before .pre .0 .1) .0
 
--- src/lib.rt:137:17
 slots-at-requires : tie.Need-slots-at-requires
 slots-at-requires c κs = known-limits (c .before .before .before .before .before .before .before .before .before .before .before .before .before .pre .0 .1)
 
--- src/lib.rt:142:17
 sub-judge-weights : tie.Need-sub-judge-weights
 sub-judge-weights c = search needs
 
--- src/lib.rt:142:17
 part-judge-weights-start : tie.Need-part-judge-weights-start
 part-judge-weights-start c = search needs
 
--- src/lib.rt:142:17
 part-judge-weights-end : tie.Need-part-judge-weights-end
 part-judge-weights-end c = omega (arith, cuts (c) .start-is, cuts (c) .end-is, room (c))
 
--- src/lib.rt:143:17
 mul-judge-weights : tie.Need-mul-judge-weights
 mul-judge-weights c = search needs
 
--- src/lib.rt:143:17
 sub-judge-weights-2 : tie.Need-sub-judge-weights-2
 sub-judge-weights-2 c = search needs
 
--- src/lib.rt:143:17
 part-judge-weights-start-2 : tie.Need-part-judge-weights-start-2
 part-judge-weights-start-2 c = search needs
 
--- src/lib.rt:143:17
 part-judge-weights-end-2 : tie.Need-part-judge-weights-end-2
 part-judge-weights-end-2 c = omega (arith, cuts (c .before) .goal-is, cuts (c .before) .end-is, room (c .before))
 
--- src/lib.rt:144:17
 mul-judge-weights-2 : tie.Need-mul-judge-weights-2
 mul-judge-weights-2 c = search needs
 
--- src/lib.rt:144:17
 sub-judge-weights-3 : tie.Need-sub-judge-weights-3
 sub-judge-weights-3 c = search needs
 
--- src/lib.rt:144:17
 part-judge-weights-start-3 : tie.Need-part-judge-weights-start-3
 part-judge-weights-start-3 c = search needs
 
--- src/lib.rt:144:17
 part-judge-weights-end-3 : tie.Need-part-judge-weights-end-3
 part-judge-weights-end-3 c = omega (arith, cuts (c .before .before) .pairs-is, cuts (c .before .before) .end-is, room (c .before .before))
 
--- src/lib.rt:145:17
 mul-judge-weights-3 : tie.Need-mul-judge-weights-3
 mul-judge-weights-3 c = search needs
 
--- src/lib.rt:145:17
 sub-judge-weights-4 : tie.Need-sub-judge-weights-4
 sub-judge-weights-4 c = search needs
 
--- src/lib.rt:145:17
 part-judge-weights-start-4 : tie.Need-part-judge-weights-start-4
 part-judge-weights-start-4 c = search needs
 
--- src/lib.rt:145:17
 part-judge-weights-end-4 : tie.Need-part-judge-weights-end-4
 part-judge-weights-end-4 c = room (c .before .before .before)
 
--- src/lib.rt:138:13
 judge-weights-requires : tie.Need-judge-weights-requires
 judge-weights-requires c κs = let (ws, read, held) = reads-next _ _ _ _ _ (c .before .before .before .before .before .before .before .before .before .before .before .before .before .read-weights .ensures) (c .before .before .before .before .before .before .before .before .before .enum-told .given .1) in lent-ready _ _ _ _ _ _ _ (c .before .before .before .before .before .before .before .before .before .before .before .before .before .before .before .before .before .before .before .pre .0 .1) _ _ _ _ _ (cuts (c .before .before .before .before .before)) ws _ _ read held
 
--- src/lib.rt:149:21
 enum-known-reason : tie.Need-enum-known-reason
 enum-known-reason c = search needs
 
--- src/lib.rt:149:52
 refusal-requires : tie.Need-refusal-requires
 refusal-requires c κs = search needs
 
--- src/lib.rt:119:1
 same-length : tie.Need-same-length
 same-length c = search needs
 
--- src/lib.rt:119:1
 returns : tie.Need-returns
 returns c = let (ws, read, held) = reads-next _ _ _ _ _ (c .before .before .before .before .before .before .before .before .before .before .before .before .before .before .read-weights .ensures) (c .before .before .before .before .before .before .before .before .before .before .enum-told .given .1) in lent-checks _ _ _ _ _ _ _ (c .before .before .before .before .before .before .before .before .before .before .before .before .before .before .before .before .before .before .before .before .pre .0 .1) _ _ _ _ _ (cuts (c .before .before .before .before .before .before)) ws _ _ read held _ (c .judge-weights .ensures)
 
--- src/lib.rt:119:1
 same-length-2 : tie.Need-same-length-2
 same-length-2 c = search needs
 
--- src/lib.rt:119:1
 returns-2 : tie.Need-returns-2
 returns-2 c = weights-refused _ _ _ _ _ _ _ (c .before .before .before .before .before .before .before .before .before .before .before .before .pre .0 .1) _ _ _ (reads-fault _ _ _ _ _ _ (c .before .before .before .before .before .before .read-weights .ensures) (c .before .before .reason .given .1)) _ (c .refusal .ensures)
 

@@ -5,10 +5,10 @@ use lib.Seq.{length-take-le}
 use borrow.Author.Needs.{needs}
 use Rattle.meaning.specs.Answer.{addOperator, fine}
 use Rattle.operator.specs.Records.{recordOf, judgementOf}
-use Rattle.operator.specs.Known.{Room}
-use Rattle.pairs.specs.Slices.{Fits, slices-fit, slices-hold, slices-ready}
 use Rattle.formed.specs.declared.Formed.the-variants.{Yes}
 use Rattle.formed.specs.Formed.{FormedIs}
+use Rattle.operator.specs.Known.{Room}
+use Rattle.pairs.specs.Slices.{Fits, slices-fit, slices-hold, slices-ready}
 use Rattle.editing.specs.Judging.{fileJudged, operator-file, file-known}
 use Rattle.editing.specs.Change.{sizesLent, pairsLent, edit-malformed, edit-refused, places, parts-listed, operator-judged, added-opened, operator-done}
 use Rattle.editing.proofs.add_operator.Statement.{statement}

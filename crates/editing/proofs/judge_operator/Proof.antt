@@ -51,8 +51,7 @@ slice-aggregate-is-closed-3 : tie.Need-slice-aggregate-is-closed-3
 slice-aggregate-is-closed-3 c = sym (length-take-le _ _ (fits (c .before .before .before) .afters))
 
 is-closed-requires : tie.Need-is-closed-requires
-is-closed-requires c κs = let t = c .before .before .before in
-    slices-ready (room t) (t .before .before .before .before .before .before .before .before .pre) (file-known _ _ (file t))
+is-closed-requires c κs = let t = c .before .before .before in slices-ready (room t) (t .before .before .before .before .before .before .before .before .pre) (file-known _ _ (file t))
 
 returns : tie.Need-returns
 returns c = let t = c .before .before .before .before .before in

@@ -5,10 +5,6 @@ use lib.ListN.{length}
 use borrow.Author.Needs.{needs}
 use Rattle.spaces.proofs.print_words.Statement.{statement}
 use Rattle.spaces.proofs.print_words.Tie as tie
-use Rattle.spaces.proofs.print_words.Reads as reads
-use Rattle.spaces.proofs.print_words.Lts as lts
-use Rattle.io.proofs.print_decimal.Reads as print-decimal-reads
-use Rattle.io.proofs.write_all.Reads as write-all-reads
 
 abbrev Inv-loop : tie.InvT-loop
 Inv-loop words i₀ t3 t4 i = (i ≤ length words) × (length t3 ≡ 1) × (length t4 ≡ 1)

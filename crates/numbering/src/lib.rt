@@ -80,13 +80,17 @@ fn starting_numbers(sizes: &[u64]) -> [usize; MOST_VARIABLES]
     starts
 }
 
-// How many two-variable features stand before those of the variables i < j.
-fn pair_start(sizes: &[u64], i: usize, j: usize) -> usize
-    requires { ⌜ SmallSizes (now sizes) × (i < j) × (j < length (now sizes)) ⌝ }
+// How many two-variable features stand before those of the variables i < j, by the starting numbers and the number of all atoms.
+fn pair_start(
+    sizes: &[u64],
+    starts: &[usize; MOST_VARIABLES],
+    all: usize,
+    i: usize,
+    j: usize,
+) -> usize
+    requires { ⌜ SmallSizes (now sizes) × (now starts ≡ startingNumbers (now sizes)) × (all ≡ atoms (now sizes)) × (i < j) × (j < length (now sizes)) ⌝ }
     ensures { λ r. ⌜ r ≡ pairStart (now (sizes .entry)) i j ⌝ }
 {
-    let starts = starting_numbers(sizes);
-    let all = atoms(sizes);
     let mut sum = 0;
     let mut k = 0;
     while k < i {
@@ -103,7 +107,10 @@ fn double(sizes: &[u64], i: usize, x: usize, j: usize, y: usize) -> usize
     requires { ⌜ SmallSizes (now sizes) × (i < j) × (j < length (now sizes)) × (x < size (now sizes) i) × (y < size (now sizes) j) ⌝ }
     ensures { λ r. ⌜ r ≡ double (now (sizes .entry)) i x j y ⌝ }
 {
-    atoms(sizes) + (pair_start(sizes, i, j) + (x * size(sizes, j) + y))
+    let starts = starting_numbers(sizes);
+    let last = sizes.len() - 1;
+    let all = starts[last] + size(sizes, last);
+    all + (pair_start(sizes, &starts, all, i, j) + (x * size(sizes, j) + y))
 }
 
 // The number of that feature with its two atoms either way round.

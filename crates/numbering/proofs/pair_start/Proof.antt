@@ -13,44 +13,34 @@ use Rattle.numbering.proofs.pair_start.Statement.{statement}
 use Rattle.numbering.proofs.pair_start.Tie as tie
 
 abbrev Inv-loop : tie.InvT-loop
-Inv-loop sizes i j starts all sum₀ k₀ sum k = (k ≤ i) × (sum ≡ pairStart sizes k (suc k))
+Inv-loop sizes starts all i j sum₀ k₀ sum k = (k ≤ i) × (sum ≡ pairStart sizes k (suc k))
 
 abbrev μ-loop : tie.MeasureT-loop
-μ-loop sizes i j starts all sum₀ k₀ sum k = i - k
+μ-loop sizes starts all i j sum₀ k₀ sum k = i - k
 
 -- What a turn adds: the product of variable k's size with all atoms after its own.
 turn : (c : tie.After-size Inv-loop μ-loop)
-    → let sizes = c .before .before .before .before .before .before .args .sizes .now in
-    let starts = c .before .before .before .before .starting-numbers .result in
+    → let a = c .before .before .before .before .args in
     let at = c .before .before .loop in
-    Block sizes (at .k) (length sizes) (c .size .result) (getD starts (at .k) 0) (c .before .before .before .atoms .result) (at .sum)
+    Block (a .sizes .now) (at .k) (length (a .sizes .now)) (c .size .result) (getD (a .starts .now) (at .k) 0) (a .all) (at .sum)
 turn c =
-    let start = c .before .before .before .before .before .before in
-    let at = c .before .before .loop in
-    block _ _ _ _ _ _ _ (start .pre .0) (omega arith) (c .size .ensures)
-    (starting-number _ _ _ (start .pre .0) (c .before .before .before .before .starting-numbers .ensures) (omega arith))
-    (c .before .before .before .atoms .ensures ∙ sym (all-atoms _))
-    (at .inv .1)
+    let start = c .before .before .before .before in
+    let (small, table, total, _, _) = start .pre in
+    block _ _ _ _ _ _ _ small (omega arith) (c .size .ensures) (starting-number _ _ _ small table (omega arith)) (total ∙ sym (all-atoms _))
+    (c .before .before .loop .inv .1)
 
 -- What the last product adds: variable i's size times the atoms between its own and variable j's.
 last : (c : tie.After-size2 Inv-loop μ-loop)
-    → let a = c .before .before .before .before .before .before .args in
-    let starts = c .before .before .before .before .starting-numbers .result in
-    Block (a .sizes .now) (a .i) (a .j) (c .size2 .result) (getD starts (a .i) 0) (getD starts (a .j) 0) (c .before .before .loop .sum)
+    → let a = c .before .before .before .before .args in
+    Block (a .sizes .now) (a .i) (a .j) (c .size2 .result) (getD (a .starts .now) (a .i) 0) (getD (a .starts .now) (a .j) 0) (c .before .before .loop .sum)
 last c =
-    let start = c .before .before .before .before .before .before in
-    let table = c .before .before .before .before .starting-numbers .ensures in
+    let start = c .before .before .before .before in
+    let (small, table, _, ordered, _) = start .pre in
     let e : c .before .before .loop .k ≡ start .args .i = omega arith in
-    block _ _ _ _ _ _ _ (start .pre .0) (start .pre .1) (c .size2 .ensures)
-    (starting-number _ _ _ (start .pre .0) table (omega arith))
-    (starting-number _ _ _ (start .pre .0) table (omega arith))
+    block _ _ _ _ _ _ _ small ordered (c .size2 .ensures)
+    (starting-number _ _ _ small table (omega arith))
+    (starting-number _ _ _ small table (omega arith))
     (c .before .before .loop .inv .1 ∙ ap (λ k. pairStart (start .args .sizes .now) k (suc k)) e)
-
-starting-numbers-requires : tie.Need-starting-numbers-requires Inv-loop μ-loop
-starting-numbers-requires c κs = c .before .pre .0
-
-atoms-requires : tie.Need-atoms-requires Inv-loop μ-loop
-atoms-requires c κs = c .before .before .pre .0
 
 loop-holds : tie.Need-loop-holds Inv-loop μ-loop
 loop-holds c = (omega arith, sym (pair-first _))
@@ -61,20 +51,20 @@ size-requires c κs = omega arith
 mul-sum : tie.Need-mul-sum Inv-loop μ-loop
 mul-sum c = omega arith
 
-array-read-sum : tie.Need-array-read-sum Inv-loop μ-loop
-array-read-sum c = omega arith
+element-copy-out-sum : tie.Need-element-copy-out-sum Inv-loop μ-loop
+element-copy-out-sum c = omega arith
 
 add-sum : tie.Need-add-sum Inv-loop μ-loop
-add-sum c = omega (arith, turn c)
+add-sum c = omega (arith, turn (c .before))
 
 sub-sum : tie.Need-sub-sum Inv-loop μ-loop
-sub-sum c = turn c .room
+sub-sum c = turn (c .before) .room
 
 mul-sum-2 : tie.Need-mul-sum-2 Inv-loop μ-loop
-mul-sum-2 c = omega (arith, turn c)
+mul-sum-2 c = omega (arith, turn (c .before))
 
 add-sum-2 : tie.Need-add-sum-2 Inv-loop μ-loop
-add-sum-2 c = omega (arith, turn c)
+add-sum-2 c = omega (arith, turn (c .before))
 
 add-k : tie.Need-add-k Inv-loop μ-loop
 add-k c = omega arith
@@ -83,7 +73,7 @@ loop-less : tie.Need-loop-less Inv-loop μ-loop
 loop-less c = omega arith
 
 loop-again : tie.Need-loop-again Inv-loop μ-loop
-loop-again c = (omega arith, rw add-one (turn c .number ∙ sym (row-next _ _ (omega arith))))
+loop-again c = (omega arith, rw add-one (turn (c .before) .number ∙ sym (row-next _ _ (omega arith))))
 
 size-requires-2 : tie.Need-size-requires-2 Inv-loop μ-loop
 size-requires-2 c κs = omega arith
@@ -91,29 +81,29 @@ size-requires-2 c κs = omega arith
 mul-result : tie.Need-mul-result Inv-loop μ-loop
 mul-result c = omega arith
 
-array-read-result : tie.Need-array-read-result Inv-loop μ-loop
-array-read-result c = omega arith
+element-copy-out-result : tie.Need-element-copy-out-result Inv-loop μ-loop
+element-copy-out-result c = omega arith
 
 mul-result-2 : tie.Need-mul-result-2 Inv-loop μ-loop
 mul-result-2 c = omega arith
 
-array-read-result-2 : tie.Need-array-read-result-2 Inv-loop μ-loop
-array-read-result-2 c = omega arith
+element-copy-out-result-2 : tie.Need-element-copy-out-result-2 Inv-loop μ-loop
+element-copy-out-result-2 c = omega arith
 
 add-result : tie.Need-add-result Inv-loop μ-loop
-add-result c = omega (arith, last c)
+add-result c = omega (arith, last (c .before .before))
 
 sub-result : tie.Need-sub-result Inv-loop μ-loop
-sub-result c = last c .room
+sub-result c = last (c .before .before) .room
 
 mul-result-3 : tie.Need-mul-result-3 Inv-loop μ-loop
-mul-result-3 c = omega (arith, last c)
+mul-result-3 c = omega (arith, last (c .before .before))
 
 add-result-2 : tie.Need-add-result-2 Inv-loop μ-loop
-add-result-2 c = omega (arith, last c)
+add-result-2 c = omega (arith, last (c .before .before))
 
 returns : tie.Need-returns Inv-loop μ-loop
-returns c = last c .number
+returns c = last (c .before .before) .number
 
 pub pair-start-spec : {M : Type 1} → statement M
 pair-start-spec =
@@ -121,12 +111,10 @@ pair-start-spec =
     (tie.spec
     Inv-loop
     μ-loop
-    starting-numbers-requires
-    atoms-requires
     loop-holds
     size-requires
     mul-sum
-    array-read-sum
+    element-copy-out-sum
     add-sum
     sub-sum
     mul-sum-2
@@ -136,9 +124,9 @@ pair-start-spec =
     loop-again
     size-requires-2
     mul-result
-    array-read-result
+    element-copy-out-result
     mul-result-2
-    array-read-result-2
+    element-copy-out-result-2
     add-result
     sub-result
     mul-result-3

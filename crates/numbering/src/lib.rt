@@ -64,16 +64,16 @@ pub fn single(sizes: &[u64], i: usize, x: usize) -> usize
     atoms_before(sizes, i) + x
 }
 
-// The number of each variable's first atom.
-fn starting_numbers(sizes: &[u64]) -> [usize; MOST_VARIABLES]
+// The number of each variable's first atom. Halves of words hold them, so that the table is filled quickly.
+fn starting_numbers(sizes: &[u64]) -> [u16; MOST_VARIABLES]
     requires { ⌜ SmallSizes (now sizes) ⌝ }
     ensures { λ r. ⌜ r ≡ startingNumbers (now (sizes .entry)) ⌝ }
 {
-    let mut starts = [0usize; MOST_VARIABLES];
+    let mut starts = [0u16; MOST_VARIABLES];
     let mut start = 0;
     let mut i = 0;
     while i < sizes.len() {
-        starts[i] = start;
+        starts[i] = start as u16;
         start += size(sizes, i);
         i += 1;
     }
@@ -83,7 +83,7 @@ fn starting_numbers(sizes: &[u64]) -> [usize; MOST_VARIABLES]
 // How many two-variable features stand before those of the variables i < j, by the starting numbers and the number of all atoms.
 fn pair_start(
     sizes: &[u64],
-    starts: &[usize; MOST_VARIABLES],
+    starts: &[u16; MOST_VARIABLES],
     all: usize,
     i: usize,
     j: usize,
@@ -95,11 +95,11 @@ fn pair_start(
     let mut k = 0;
     while k < i {
         let d = size(sizes, k);
-        sum += d * (all - (starts[k] + d));
+        sum += d * (all - (starts[k] as usize + d));
         k += 1;
     }
     let d = size(sizes, i);
-    sum + d * (starts[j] - (starts[i] + d))
+    sum + d * (starts[j] as usize - (starts[i] as usize + d))
 }
 
 // The number of the feature of value x of variable i and value y of variable j, i < j.
@@ -109,7 +109,7 @@ fn double(sizes: &[u64], i: usize, x: usize, j: usize, y: usize) -> usize
 {
     let starts = starting_numbers(sizes);
     let last = sizes.len() - 1;
-    let all = starts[last] + size(sizes, last);
+    let all = starts[last] as usize + size(sizes, last);
     all + (pair_start(sizes, &starts, all, i, j) + (x * size(sizes, j) + y))
 }
 

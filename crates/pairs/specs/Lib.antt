@@ -1,5 +1,6 @@
 pub mod Places
 pub mod Ready
 pub mod Judge
+pub mod None
 pub mod Fill
 pub mod Slices

@@ -1,7 +1,7 @@
 // Listed pairs: whether atoms are paired, which atoms an operator leaves possible, whether it is idle or the list closed under it, whether a state holds a pair.
 ghost use mathlib.Core.Path.{_≡_};
 ghost use mathlib.Core.Logic.{_≢_};
-ghost use mathlib.Core.Bool.{not, _&&_};
+ghost use mathlib.Core.Bool.{true, false, not, _&&_};
 ghost use mathlib.Core.List.{List};
 ghost use Prim.Native.Nat.{ℕ, _*_, _<_, _≤_};
 ghost use lib.ListN.{length};
@@ -16,6 +16,7 @@ ghost use Rattle.theory.specs.Slices.{entriesIn};
 ghost use Rattle.pairs.specs.Ready.{Listed, Atoms, Ready, Apart, Place, HoldsPossible};
 ghost use Rattle.pairs.specs.Judge.{pairedWithin, clashingIn, valued, unclosedAt};
 ghost use Rattle.pairs.specs.Fill.{freeAtoms, Added, Lacks};
+use words::WORD_BITS;
 
 // The first place of a variable; the number of places where it stands nowhere.
 fn place(variables: &[usize], u: usize) -> usize
@@ -46,8 +47,16 @@ pub fn is_paired(sizes: &[u64], pairs: &[u64], i: usize, x: usize, j: usize, y: 
     words::has(pairs, numbering::both(sizes, i, x, j, y))
 }
 
-// Whether one of the first n atoms is paired with the atom of value y of another variable u.
-fn is_paired_within(
+// Whether no pair is listed, in which case nothing need be looked up.
+fn is_empty(sizes: &[u64], pairs: &[u64]) -> bool
+    requires { ⌜ Listed (now sizes) (now pairs) ⌝ }
+    ensures { λ r. ⌜ (r ≡ true → (f : ℕ) → has (now (pairs .entry)) f ≡ false) ⌝ }
+{
+    words::next_member(pairs, 0) == WORD_BITS * pairs.len()
+}
+
+// Whether one of the first n atoms is paired with the atom of value y of another variable u: a look at each of them.
+fn is_paired_among(
     sizes: &[u64],
     pairs: &[u64],
     variables: &[usize],
@@ -68,6 +77,23 @@ fn is_paired_within(
         k += 1;
     }
     false
+}
+
+// The same, at once where no pair is listed.
+fn is_paired_within(
+    sizes: &[u64],
+    pairs: &[u64],
+    variables: &[usize],
+    values: &[usize],
+    n: usize,
+    u: usize,
+    y: usize,
+) -> bool
+    requires { ⌜ Listed (now sizes) (now pairs) × Atoms (now sizes) (now variables) (now values) × (n ≤ length (now variables)) × Apart (now variables) n u
+        × (u < length (now sizes)) × (y < size (now sizes) u) ⌝ }
+    ensures { λ r. ⌜ r ≡ pairedWithin (now (sizes .entry)) (has (now (pairs .entry))) (now (variables .entry)) (now (values .entry)) n u y ⌝ }
+{
+    !is_empty(sizes, pairs) && is_paired_among(sizes, pairs, variables, values, n, u, y)
 }
 
 // Puts in the atoms of an unnamed variable that are paired with no before atom.
@@ -278,8 +304,8 @@ fn holds_at(sizes: &[u64], pairs: &[u64], state: &[u64], j: usize) -> bool
     false
 }
 
-// Whether a state holds a listed pair.
-pub fn holds(sizes: &[u64], pairs: &[u64], state: &[u64]) -> bool
+// Whether a state holds a listed pair: a look at each two of its atoms.
+fn holds_among(sizes: &[u64], pairs: &[u64], state: &[u64]) -> bool
     requires { ⌜ Listed (now sizes) (now pairs) × State (now sizes) (now state) ⌝ }
     ensures { λ r. ⌜ r ≡ holds (now (sizes .entry)) (has (now (pairs .entry))) (now (state .entry)) ⌝ }
 {
@@ -291,4 +317,12 @@ pub fn holds(sizes: &[u64], pairs: &[u64], state: &[u64]) -> bool
         j += 1;
     }
     false
+}
+
+// The same, at once where no pair is listed.
+pub fn holds(sizes: &[u64], pairs: &[u64], state: &[u64]) -> bool
+    requires { ⌜ Listed (now sizes) (now pairs) × State (now sizes) (now state) ⌝ }
+    ensures { λ r. ⌜ r ≡ holds (now (sizes .entry)) (has (now (pairs .entry))) (now (state .entry)) ⌝ }
+{
+    !is_empty(sizes, pairs) && holds_among(sizes, pairs, state)
 }

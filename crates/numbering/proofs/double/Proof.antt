@@ -5,7 +5,8 @@ use native.Mathlib.Omega.{arith}
 use lib.ListN.{length, take, getD}
 use borrow.Author.Needs.{needs}
 use Rattle.meaning.specs.Feature.{sumOf, atoms, double}
-use Rattle.numbering.specs.Sizes.{mostAtoms, mostPairs}
+use Rattle.theory.specs.Numbering.{front-room}
+use Rattle.numbering.specs.Sizes.{mostAtoms, mostPairs, sum-small}
 use Rattle.numbering.specs.Blocks.{numbered}
 use Rattle.numbering.specs.Sums.{all-atoms, atoms-turn}
 use Rattle.numbering.specs.Starts.{starting-number}
@@ -46,6 +47,12 @@ mul-all c = search needs
 array-read-all : tie.Need-array-read-all
 array-read-all c = search needs
 
+cast-all : tie.Need-cast-all
+cast-all c =
+    let sizes = c .before .before .args .sizes .now in
+    let (small, _, l, _, _) = c .before .before .pre in
+    omega (arith, starting-number _ _ (length sizes - 1) small (c .starting-numbers .ensures) (omega arith), front-room sizes (length sizes - 1), sum-small sizes small)
+
 size-requires : tie.Need-size-requires
 size-requires c κs = search needs
 
@@ -83,6 +90,7 @@ double-spec =
     sub-last
     mul-all
     array-read-all
+    cast-all
     size-requires
     add-all
     pair-start-requires

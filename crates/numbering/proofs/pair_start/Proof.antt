@@ -54,6 +54,9 @@ mul-sum c = omega arith
 element-copy-out-sum : tie.Need-element-copy-out-sum Inv-loop μ-loop
 element-copy-out-sum c = omega arith
 
+cast-sum : tie.Need-cast-sum Inv-loop μ-loop
+cast-sum c = omega (arith, turn (c .before))
+
 add-sum : tie.Need-add-sum Inv-loop μ-loop
 add-sum c = omega (arith, turn (c .before))
 
@@ -84,11 +87,17 @@ mul-result c = omega arith
 element-copy-out-result : tie.Need-element-copy-out-result Inv-loop μ-loop
 element-copy-out-result c = omega arith
 
+cast-result : tie.Need-cast-result Inv-loop μ-loop
+cast-result c = omega (arith, last (c .before))
+
 mul-result-2 : tie.Need-mul-result-2 Inv-loop μ-loop
 mul-result-2 c = omega arith
 
 element-copy-out-result-2 : tie.Need-element-copy-out-result-2 Inv-loop μ-loop
 element-copy-out-result-2 c = omega arith
+
+cast-result-2 : tie.Need-cast-result-2 Inv-loop μ-loop
+cast-result-2 c = omega (arith, last (c .before .before))
 
 add-result : tie.Need-add-result Inv-loop μ-loop
 add-result c = omega (arith, last (c .before .before))
@@ -115,6 +124,7 @@ pair-start-spec =
     size-requires
     mul-sum
     element-copy-out-sum
+    cast-sum
     add-sum
     sub-sum
     mul-sum-2
@@ -125,8 +135,10 @@ pair-start-spec =
     size-requires-2
     mul-result
     element-copy-out-result
+    cast-result
     mul-result-2
     element-copy-out-result-2
+    cast-result-2
     add-result
     sub-result
     mul-result-3

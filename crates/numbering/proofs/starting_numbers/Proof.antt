@@ -4,6 +4,8 @@ use mathlib.Core.Path.{_≡_, refl}
 use native.Mathlib.Omega.{arith}
 use lib.ListN.{take, length}
 use Rattle.meaning.specs.Feature.{sumOf}
+use Rattle.theory.specs.Numbering.{front-room}
+use Rattle.numbering.specs.Sizes.{sum-small}
 use Rattle.numbering.specs.Starts.{startsTo, startingNumbers, starts-turn}
 use Rattle.numbering.specs.Sums.{atoms-turn}
 use Rattle.numbering.proofs.starting_numbers.Statement.{statement}
@@ -18,6 +20,11 @@ abbrev μ-loop : tie.MeasureT-loop
 loop-holds : tie.Need-loop-holds Inv-loop μ-loop
 unfolding sumOf startsTo
 loop-holds c = (omega arith, refl, refl)
+
+cast-starts : tie.Need-cast-starts Inv-loop μ-loop
+cast-starts c =
+    let s = c .before .before .before in
+    omega (arith, c .before .loop .inv .1, front-room (s .args .sizes .now) (c .before .loop .i), sum-small (s .args .sizes .now) (s .pre))
 
 mul-starts : tie.Need-mul-starts Inv-loop μ-loop
 mul-starts c = omega arith
@@ -53,6 +60,7 @@ starting-numbers-spec =
     Inv-loop
     μ-loop
     loop-holds
+    cast-starts
     mul-starts
     array-write-starts
     size-requires

@@ -1,57 +1,22 @@
--- `holds`: none of the first j variables has a value that is paired with that of an earlier one.
-use Prim.Native.Nat.{_≤_, _-_}
-use mathlib.Core.Path.{_≡_, sym, _∙_}
-use mathlib.Core.Bool.{false}
-use native.Mathlib.Omega.{arith}
-use lib.ListN.{length}
-use Rattle.meaning.specs.Sets.{some}
-use Rattle.meaning.specs.Task.{value}
-use Rattle.meaning.specs.Workspace.{has}
-use Rattle.meaning.specs.Pair.{paired, holds}
-use Rattle.theory.specs.Search.{some-at}
-use Rattle.pairs.specs.Places.{some-start, some-next, some-done}
+-- `holds`: nothing is held where no pair is listed.
+use borrow.Author.Needs.{needs}
+use mathlib.Core.Path.{sym, _∙_}
+use borrow.Author.Tests.{not-false}
+use Rattle.pairs.specs.None.{none-held}
 use Rattle.pairs.proofs.holds.Statement.{statement}
 use Rattle.pairs.proofs.holds.Tie as tie
 
-abbrev Inv-loop : tie.InvT-loop
-Inv-loop sizes pairs state j₀ j = (j ≤ length sizes) × (some j (λ l. some l (λ i. paired sizes (has pairs) i (value state i) l (value state l))) ≡ false)
+is-empty-requires : tie.Need-is-empty-requires
+is-empty-requires c κs = search needs
 
-abbrev μ-loop : tie.MeasureT-loop
-μ-loop sizes pairs state j₀ j = length sizes - j
+holds-among-requires : tie.Need-holds-among-requires
+holds-among-requires c κs = search needs
 
-loop-holds : tie.Need-loop-holds Inv-loop μ-loop
-loop-holds c = (omega arith, some-start _)
+returns : tie.Need-returns
+returns c = search needs
 
-holds-at-requires : tie.Need-holds-at-requires Inv-loop μ-loop
-holds-at-requires c κs = let (h, s) = c .before .before .before .before .before .pre in (h, s, c .loop-test .taken)
-
-returns : tie.Need-returns Inv-loop μ-loop
-unfolding holds
-returns c = sym (some-at _ _ _ (c .before .before .loop-test .taken) (sym (c .before .holds-at .ensures) ∙ c .if1 .taken))
-
-add-j : tie.Need-add-j Inv-loop μ-loop
-add-j c = omega arith
-
-loop-less : tie.Need-loop-less Inv-loop μ-loop
-loop-less c = omega arith
-
-loop-again : tie.Need-loop-again Inv-loop μ-loop
-loop-again c = (omega arith, some-next _ _ (c .before .before .before .loop .inv .1) (sym (c .before .holds-at .ensures) ∙ c .if1 .left))
-
-returns-2 : tie.Need-returns-2 Inv-loop μ-loop
-unfolding holds
-returns-2 c = some-done _ _ _ (omega arith) (omega arith) (c .before .loop .inv .1)
+returns-2 : tie.Need-returns-2
+returns-2 c = c .if1 .left ∙ sym (none-held _ _ (c .before .is-empty .ensures (not-false _ (c .if1 .left))) _)
 
 pub holds-spec : {M : Type 1} → statement M
-holds-spec =
-    tie.close
-    (tie.spec
-    Inv-loop
-    μ-loop
-    loop-holds
-    holds-at-requires
-    returns
-    add-j
-    loop-less
-    loop-again
-    returns-2)
+holds-spec = tie.close (tie.spec is-empty-requires holds-among-requires returns returns-2)

@@ -1,0 +1,34 @@
+-- Where no pair is listed: no atoms are paired, and no state holds a pair.
+use Prim.Native.Nat.{ℕ, _*_}
+use mathlib.Core.Path.{_≡_}
+use mathlib.Core.Bool.{false}
+use mathlib.Core.List.{List}
+use native.Mathlib.Omega.{arith}
+use lib.Dec.{ltb}
+use lib.ListN.{length}
+use borrow.Author.Tests.{ltb-true, ltb-false}
+use Rattle.meaning.specs.Limits.{wordBits}
+use Rattle.meaning.specs.Sets.{Set}
+use Rattle.meaning.specs.Workspace.{has}
+use Rattle.meaning.specs.Pair.{paired, holds}
+use Rattle.theory.specs.Truth.{Test, on, off, test}
+use Rattle.theory.specs.Search.{some-not}
+use Rattle.words.specs.Next.{Next}
+use Rattle.words.specs.Part.{has-past}
+use Rattle.pairs.specs.Judge.{pairedWithin}
+
+-- The next member from 0 on is none.
+pub none-has : (words : List ℕ) (r : ℕ) → Next (has words) (wordBits * length words) 0 r → r ≡ wordBits * length words → (f : ℕ) → has words f ≡ false
+none-has words r next e f = elim (test (ltb f (wordBits * length words))) [
+  | on l ↦ next .clear f (omega arith) (omega (arith, ltb-true f (wordBits * length words) l))
+  | off l ↦ has-past words f (ltb-false f (wordBits * length words) l)
+]
+
+module _ (sizes : List ℕ) (pairs : Set) (none : (f : ℕ) → pairs f ≡ false) where
+  pub none-paired : (variables values : List ℕ) (n u y : ℕ) → pairedWithin sizes pairs variables values n u y ≡ false
+  unfolding pairedWithin paired
+  none-paired variables values n u y = some-not n _ (λ k l. none _)
+
+  pub none-held : (state : List ℕ) → holds sizes pairs state ≡ false
+  unfolding holds paired
+  none-held state = some-not _ _ (λ j l. some-not _ _ (λ i k. none _))

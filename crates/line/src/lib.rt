@@ -30,7 +30,10 @@ const MOST_PROGRAM_FEATURES: usize = 640;
 const WEIGHT_WORDS: usize = MOST_PROGRAM_FEATURES / WORD_BITS;
 
 // As many words as a workspace with the most features and variables takes. With more features no workspace is as short.
-const WORKSPACE_WORDS: usize = 1 + 3 * MOST_VARIABLES + WEIGHT_WORDS + MOST_PROGRAM_FEATURES * WEIGHT_WORDS;
+const WORKSPACE_WORDS: usize = 1
+    + 3 * MOST_VARIABLES
+    + WEIGHT_WORDS
+    + MOST_PROGRAM_FEATURES * WEIGHT_WORDS;
 
 // The longest line: `separated`, the count and the most features, and the line's end.
 pub const LINE_BYTES: usize = 9 + WORD_WIDTH * (1 + MOST_PROGRAM_FEATURES) + 1;

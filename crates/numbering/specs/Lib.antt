@@ -2,3 +2,4 @@ pub mod Sizes
 pub mod Sums
 pub mod Starts
 pub mod Blocks
+pub mod Planes

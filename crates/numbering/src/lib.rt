@@ -1,13 +1,21 @@
 // The numbers of features: how many there are, and the number of each.
 ghost use mathlib.Core.Path.{_≡_};
 ghost use mathlib.Core.Logic.{_≢_};
-ghost use Prim.Native.Nat.{_<_, _≤_};
+ghost use Prim.Native.Nat.{_^_, _<_, _≤_};
 ghost use lib.ListN.{length, take};
 ghost use Rattle.meaning.specs.Task.{size};
 ghost use Rattle.meaning.specs.Feature.{sumOf, atoms, features, single, pairStart, double, both};
 ghost use Rattle.numbering.specs.Sizes.{SmallSizes};
 ghost use Rattle.numbering.specs.Starts.{startingNumbers};
+ghost use Rattle.numbering.specs.Planes.{numberIn, Spans};
 use limits::MOST_VARIABLES;
+
+// Where the features of two variables stand: the number of the one with both values 0, and how far a step of each value leads.
+pub struct Plane {
+    pub first: usize,
+    pub step: usize,
+    pub other: usize,
+}
 
 // The size of variable i.
 pub fn size(sizes: &[u64], i: usize) -> usize
@@ -102,25 +110,50 @@ fn pair_start(
     sum + d * (starts[j] as usize - (starts[i] as usize + d))
 }
 
-// The number of the feature of value x of variable i and value y of variable j, i < j.
-fn double(sizes: &[u64], i: usize, x: usize, j: usize, y: usize) -> usize
-    requires { ⌜ SmallSizes (now sizes) × (i < j) × (j < length (now sizes)) × (x < size (now sizes) i) × (y < size (now sizes) j) ⌝ }
-    ensures { λ r. ⌜ r ≡ double (now (sizes .entry)) i x j y ⌝ }
+// The features of variables i < j: a step of the first value passes all values of the second.
+fn ordered_plane(sizes: &[u64], i: usize, j: usize) -> Plane
+    requires { ⌜ SmallSizes (now sizes) × (i < j) × (j < length (now sizes)) ⌝ }
+    ensures { λ r. ⌜ Spans (now (sizes .entry)) i j (double (now (sizes .entry))) r ⌝ }
 {
     let starts = starting_numbers(sizes);
     let last = sizes.len() - 1;
     let all = starts[last] as usize + size(sizes, last);
-    all + (pair_start(sizes, &starts, all, i, j) + (x * size(sizes, j) + y))
+    Plane {
+        first: all + pair_start(sizes, &starts, all, i, j),
+        step: size(sizes, j),
+        other: 1,
+    }
 }
 
-// The number of that feature with its two atoms either way round.
+// The features of two variables, either way round.
+pub fn plane_of(sizes: &[u64], i: usize, j: usize) -> Plane
+    requires { ⌜ SmallSizes (now sizes) × (i ≢ j) × (i < length (now sizes)) × (j < length (now sizes)) ⌝ }
+    ensures { λ r. ⌜ Spans (now (sizes .entry)) i j (both (now (sizes .entry))) r ⌝ }
+{
+    if i < j {
+        ordered_plane(sizes, i, j)
+    } else {
+        let turned = ordered_plane(sizes, j, i);
+        Plane {
+            first: turned.first,
+            step: turned.other,
+            other: turned.step,
+        }
+    }
+}
+
+// The number of the feature with the values x and y.
+pub fn number(plane: Plane, x: usize, y: usize) -> usize
+    requires { ⌜ numberIn plane x y < 2 ^ 64 ⌝ }
+    ensures { λ r. ⌜ r ≡ numberIn plane x y ⌝ }
+{
+    plane.first + (x * plane.step + y * plane.other)
+}
+
+// The number of the feature of value x of variable i and value y of variable j.
 pub fn both(sizes: &[u64], i: usize, x: usize, j: usize, y: usize) -> usize
     requires { ⌜ SmallSizes (now sizes) × (i ≢ j) × (i < length (now sizes)) × (j < length (now sizes)) × (x < size (now sizes) i) × (y < size (now sizes) j) ⌝ }
     ensures { λ r. ⌜ r ≡ both (now (sizes .entry)) i x j y ⌝ }
 {
-    if i < j {
-        double(sizes, i, x, j, y)
-    } else {
-        double(sizes, j, y, i, x)
-    }
+    number(plane_of(sizes, i, j), x, y)
 }

@@ -7,7 +7,7 @@ ghost use lib.ListN.{length, getD, replicate};
 ghost use Rattle.meaning.specs.Sets.{listed, flat};
 ghost use Rattle.meaning.specs.Limits.{wordBits};
 ghost use Rattle.meaning.specs.Task.{State, applies, names, size};
-ghost use Rattle.meaning.specs.Feature.{atoms, features, single};
+ghost use Rattle.meaning.specs.Feature.{atoms, features, single, both};
 ghost use Rattle.meaning.specs.File.{InLimits};
 ghost use Rattle.meaning.specs.Grid.{place};
 ghost use Rattle.meaning.specs.Workspace.{wordsFor, has, packed};
@@ -15,12 +15,14 @@ ghost use Rattle.theory.specs.GridRule.{turns, kindsOf};
 ghost use Rattle.theory.specs.Slices.{entriesIn, Given};
 ghost use Rattle.theory.specs.Rows.{change};
 ghost use Rattle.theory.specs.Walk.{walk};
+ghost use Rattle.numbering.specs.Planes.{Spans};
 ghost use Rattle.words.specs.Next.{Next};
 ghost use Rattle.words.specs.Toggled.{toggledAll};
 ghost use Rattle.rows.specs.Moves.{kindOf, atomOf, entryOfMove, AtomIn, MoveIn, Room, byGrid};
 ghost use Rattle.rows.specs.Change.{movedBoth, besideFeatures, earlierFeatures, namedFeatures, unnamedFeatures, difference};
 ghost use Rattle.rows.specs.Base.{atomsAt, leastValues, withBefores, baseBy};
 ghost use Rattle.rows.specs.Apart.{wantedBy, wantedFrom, placesFrom};
+use numbering::Plane;
 
 // "kinds are absent, kept, made, used": whether an atom is true before and after.
 pub enum Kind {
@@ -68,25 +70,24 @@ fn turns(a: Kind, b: Kind) -> bool
     GRID[row][column] == 1
 }
 
-// Toggles the feature of two atoms where the grid has 1.
-fn toggle_pair(sizes: &[u64], a: Atom, b: Atom, row: &mut [u64])
-    requires { ⌜ Room (now sizes) (now row) × AtomIn (now sizes) a × AtomIn (now sizes) b × (a .variable ≢ b .variable) ⌝ }
+// Toggles the feature of two atoms where the grid has 1. The plane is that of their variables.
+fn toggle_pair(sizes: &[u64], plane: Plane, a: Atom, b: Atom, row: &mut [u64])
+    requires { ⌜ Room (now sizes) (now row) × AtomIn (now sizes) a × AtomIn (now sizes) b × (a .variable ≢ b .variable)
+        × Spans (now sizes) (a .variable) (b .variable) (both (now sizes)) plane ⌝ }
     ensures { λ r. ⌜ now (row .exit)
         ≡ toggledAll (now (row .entry)) (byGrid (now (sizes .entry)) (a .variable) (atomOf a) (b .variable) (atomOf b)) ⌝ }
 {
     let kind = a.kind;
     let other = b.kind;
     if turns(kind, other) {
-        words::toggle(
-            row,
-            numbering::both(sizes, a.variable, a.value, b.variable, b.value),
-        );
+        words::toggle(row, numbering::number(plane, a.value, b.value));
     }
 }
 
 // Toggles what an atom changes together with the atoms of another variable.
-fn toggle_atom(sizes: &[u64], a: Atom, to: Move, row: &mut [u64])
-    requires { ⌜ Room (now sizes) (now row) × AtomIn (now sizes) a × MoveIn (now sizes) to × (a .variable ≢ to .variable) ⌝ }
+fn toggle_atom(sizes: &[u64], plane: Plane, a: Atom, to: Move, row: &mut [u64])
+    requires { ⌜ Room (now sizes) (now row) × AtomIn (now sizes) a × MoveIn (now sizes) to × (a .variable ≢ to .variable)
+        × Spans (now sizes) (a .variable) (to .variable) (both (now sizes)) plane ⌝ }
     ensures { λ r. ⌜ now (row .exit)
         ≡ toggledAll (now (row .entry))
         (byGrid (now (sizes .entry)) (a .variable) (atomOf a) (to .variable) (kindsOf (to .before) (to .after))) ⌝ }
@@ -94,6 +95,7 @@ fn toggle_atom(sizes: &[u64], a: Atom, to: Move, row: &mut [u64])
     if to.before == to.after {
         toggle_pair(
             sizes,
+            plane,
             a,
             Atom {
                 variable: to.variable,
@@ -105,6 +107,7 @@ fn toggle_atom(sizes: &[u64], a: Atom, to: Move, row: &mut [u64])
     } else {
         toggle_pair(
             sizes,
+            plane,
             a,
             Atom {
                 variable: to.variable,
@@ -115,6 +118,7 @@ fn toggle_atom(sizes: &[u64], a: Atom, to: Move, row: &mut [u64])
         );
         toggle_pair(
             sizes,
+            plane,
             a,
             Atom {
                 variable: to.variable,
@@ -131,9 +135,11 @@ fn toggle_moves(sizes: &[u64], of: Move, to: Move, row: &mut [u64])
     requires { ⌜ Room (now sizes) (now row) × MoveIn (now sizes) of × MoveIn (now sizes) to × (of .variable ≢ to .variable) ⌝ }
     ensures { λ r. ⌜ now (row .exit) ≡ toggledAll (now (row .entry)) (movedBoth (now (sizes .entry)) (entryOfMove of) (entryOfMove to)) ⌝ }
 {
+    let plane = numbering::plane_of(sizes, of.variable, to.variable);
     if of.before == of.after {
         toggle_atom(
             sizes,
+            plane,
             Atom {
                 variable: of.variable,
                 value: of.before,
@@ -145,6 +151,7 @@ fn toggle_moves(sizes: &[u64], of: Move, to: Move, row: &mut [u64])
     } else {
         toggle_atom(
             sizes,
+            plane,
             Atom {
                 variable: of.variable,
                 value: of.before,
@@ -155,6 +162,7 @@ fn toggle_moves(sizes: &[u64], of: Move, to: Move, row: &mut [u64])
         );
         toggle_atom(
             sizes,
+            plane,
             Atom {
                 variable: of.variable,
                 value: of.after,

@@ -1,22 +1,18 @@
--- `both` meets its contract: each branch puts the smaller variable first.
-use mathlib.Core.Path.{sym, _∙_}
-use native.Mathlib.Omega.{arith}
+-- `both` meets its contract: the number stands in the plane of the two variables.
+use mathlib.Core.Path.{_∙_}
 use borrow.Author.Needs.{needs}
-use Rattle.theory.specs.Numbering.{both-less, both-more}
+use Rattle.numbering.specs.Planes.{plane-small}
 use Rattle.numbering.proofs.both.Statement.{statement}
 use Rattle.numbering.proofs.both.Tie as tie
 
-double-requires : tie.Need-double-requires
-double-requires c κs = search needs
+plane-of-requires : tie.Need-plane-of-requires
+plane-of-requires c κs = search needs
 
-double-requires-2 : tie.Need-double-requires-2
-double-requires-2 c κs = search needs
+number-requires : tie.Need-number-requires
+number-requires c κs = let (small, apart, _, _, h, k) = c .before .before .pre in plane-small _ _ _ _ _ _ small apart (c .plane-of .ensures) h k
 
 returns : tie.Need-returns
-returns c = c .double .ensures ∙ sym (both-less _ _ _ _ _ (c .before .if1 .taken))
-
-returns-2 : tie.Need-returns-2
-returns-2 c = c .double2 .ensures ∙ sym (both-more _ _ _ _ _ (omega arith))
+returns c = let (_, _, _, _, h, k) = c .before .before .before .pre in c .number .ensures ∙ c .before .plane-of .ensures _ _ h k
 
 pub both-spec : {M : Type 1} → statement M
-both-spec = tie.close (tie.spec double-requires double-requires-2 returns returns-2)
+both-spec = tie.close (tie.spec plane-of-requires number-requires returns)

@@ -14,7 +14,7 @@ toggle-pair-requires-2 c κs = search needs
 toggle-pair-requires-3 : tie.Need-toggle-pair-requires-3
 toggle-pair-requires-3 c κs =
     let start = c .before .before .before .before .before .before .before .before .before in
-    (room-toggled _ _ _ _ (start .pre .0) (c .before .before .before .toggle-pair2 .ensures), start .pre .1, (start .pre .2 .0, start .pre .2 .2), start .pre .3)
+    (room-toggled _ _ _ _ (start .pre .0) (c .before .before .before .toggle-pair2 .ensures), start .pre .1, (start .pre .2 .0, start .pre .2 .2), start .pre .3, start .pre .4)
 
 same-length : tie.Need-same-length
 same-length c = search needs

@@ -15,7 +15,7 @@ use Rattle.meaning.specs.Feature.{features, single, both}
 use Rattle.meaning.specs.Pair.{paired, possible}
 use Rattle.meaning.specs.Weight.{Considered}
 use Rattle.meaning.specs.Workspace.{wordsFor, packed}
-use Rattle.theory.specs.Truth.{on, off, test, clash, xors, xor-assoc, xor-self}
+use Rattle.theory.specs.Truth.{on, off, test, clash, xors, xor-comm, xor-assoc, xor-self}
 use Rattle.theory.specs.Search.{any-not}
 use Rattle.theory.specs.Parity.{par-cong, par-xor, par-one, dot, dot-xor}
 use Rattle.theory.specs.Numbering.{atoms-room, single-below, both-below}
@@ -36,6 +36,10 @@ module _ (sizes : List ℕ) where
   abbrev pub movedBoth : Entry → Entry → List ℕ
   movedBoth e e' = byGrid sizes (e .variable) (kindsOf (e .before) (e .after)) (e' .variable) (kindsOf (e' .before) (e' .after))
 
+  -- What two values of one variable, each kept, change together with another.
+  abbrev pub valuesBoth : ℕ → ℕ → ℕ → Entry → List ℕ
+  valuesBoth u x y e = movedBoth (stays u x) e ++ movedBoth (stays u y) e
+
   -- What an unnamed variable, which keeps its value, changes together with the entries.
   unfoldable pub besideFeatures : Operator → ℕ → ℕ → List ℕ
   besideFeatures o u y = flat (length o) (λ k. movedBoth (stays u y) (entryAt o k))
@@ -55,9 +59,9 @@ module _ (sizes : List ℕ) where
   unfoldable pub changeFeatures : Operator → List ℕ → List ℕ
   changeFeatures o s = walk (single sizes) o ++ (namedFeatures o ++ flat (length sizes) (unnamedFeatures o s))
 
-  -- What changes with the value y of an unnamed variable u in place of its value in a state.
-  unfoldable pub apartFeatures : Operator → List ℕ → ℕ → ℕ → List ℕ
-  apartFeatures o s u y = besideFeatures o u y ++ besideFeatures o u (value s u)
+  -- What changes with one value of an unnamed variable u in place of another.
+  unfoldable pub apartFeatures : Operator → ℕ → ℕ → ℕ → List ℕ
+  apartFeatures o u x y = flat (length o) (λ k. valuesBoth u x y (entryAt o k))
 
   -- The difference that the value y of the variable u makes to the change in a state.
   unfoldable pub difference : Operator → List ℕ → ℕ → ℕ → Set
@@ -75,6 +79,12 @@ module _ (sizes : List ℕ) (w : Set) where
   beside-sum : (o : Operator) (u y : ℕ) → xorOf w (besideFeatures sizes o u y) ≡ xorOf w (walk (both sizes u y) o)
   unfolding besideFeatures walk
   beside-sum o u y = flat-sum _ _ _ (λ k. grid-features w _ _ _ ∙ sym (side-grid sizes w u y (entryAt o k)))
+
+  -- Value by value or entry by entry.
+  values-sum : (o : Operator) (u x y : ℕ) → xorOf w (apartFeatures sizes o u x y) ≡ xorOf w (besideFeatures sizes o u x) ⊕ xorOf w (besideFeatures sizes o u y)
+  unfolding apartFeatures besideFeatures
+  values-sum o u x y = xor-flat w (length o) _ ∙ par-cong (length o) _ _ (λ k l. xor-join w (movedBoth sizes (stays u x) (entryAt o k)) _)
+      ∙ par-xor (length o) _ _ ∙ sym (ap₂ _⊕_ (xor-flat w (length o) _) (xor-flat w (length o) _))
 
   named-sum : (o : Operator) → xorOf w (namedFeatures sizes o) ≡ xorOf w (doublesOf sizes o)
   unfolding namedFeatures earlierFeatures doublesOf
@@ -160,29 +170,30 @@ module _ (sizes : List ℕ) (o : Operator) (h : Entries sizes 0 o) where
         any : (i x : ℕ) → possible sizes (λ f. false) o i x ≡ true
         any i x = rw (any-not (λ e. paired sizes (λ f. false) (e .variable) (e .before) i x) o (λ e m. refl))
 
-    apart-below : Below (features sizes) (apartFeatures sizes o s u y)
-    unfolding apartFeatures
-    apart-below = below-join _ (besideFeatures sizes o u y) _ (beside-below u y q k) (beside-below u _ q (t .values u l))
+    apart-below : Below (features sizes) (apartFeatures sizes o u (value s u) y)
+    unfolding apartFeatures Fits
+    apart-below = below-flat _ _ _ (λ i j. below-join _ (movedBoth sizes (stays u (value s u)) (entryAt o i)) _ (beside i (value s u) j (t .values u l)) (beside i y j k))
+      where
+        beside : (i x : ℕ) → i < length o → x < size sizes u → Below (features sizes) (movedBoth sizes (stays u x) (entryAt o i))
+        beside i x j m = moved-below (stays u x) (entryAt o i) (λ z. clash (names-in o _ (at-place sizes o h i j)) (ap (names o) (sym z) ∙ q)) (m, m) (entry-fits i j)
 
-    apart-sum : (w : Set) → dot (features sizes) w (difference sizes o s u y) ≡ xorOf w (apartFeatures sizes o s u y)
-    unfolding difference apartFeatures
+    apart-sum : (w : Set) → dot (features sizes) w (difference sizes o s u y) ≡ xorOf w (apartFeatures sizes o u (value s u) y)
+    unfolding difference
     apart-sum w = dot-xor _ w _ _
         ∙ ap₂ _⊕_ (change-splits sizes o h w _ (other .is-state) (other .has-before)) (change-splits sizes o h w s t a)
         ∙ cancel (fixedPart sizes o w) _ _ ∙ sym (par-xor (length sizes) _ _)
         ∙ par-one (length sizes) u _ l (λ i j d. rw (getD-set-other s u i y 0 d) (xor-self (unnamedPart sizes o w s i)))
         ∙ rw (q, getD-set-same s u y 0 (omega (arith, t .full))) (sym (ap₂ _⊕_ (side-sum sizes w o h u y) (side-sum sizes w o h u (value s u))))
-        ∙ sym (xor-join w (besideFeatures sizes o u y) _)
+        ∙ xor-comm (xorOf w (besideFeatures sizes o u y)) (xorOf w (besideFeatures sizes o u (value s u))) ∙ sym (values-sum sizes w o u (value s u) y)
       where
         cancel : (f a b : Bool) → (f ⊕ a) ⊕ (f ⊕ b) ≡ a ⊕ b
         cancel f a b = simp xors
 
-    pub apart-toggles : difference sizes o s u y ≡ toggles (apartFeatures sizes o s u y)
+    pub apart-toggles : difference sizes o s u y ≡ toggles (apartFeatures sizes o u (value s u) y)
     unfolding difference
     apart-toggles = toggled (features sizes) _ _ (λ f j. ap₂ _⊕_ (change-past sizes o _ f h (other .is-state) j) (change-past sizes o s f h t j)) apart-below apart-sum
 
-    pub apart-packed : (row one two : List ℕ) → row ≡ replicate (wordsFor (features sizes)) 0 → one ≡ toggledAll row (besideFeatures sizes o u y)
-        → two ≡ toggledAll one (besideFeatures sizes o u (value s u)) → two ≡ packed (features sizes) (difference sizes o s u y)
-    unfolding apartFeatures
-    apart-packed row one two e e₁ e₂ =
-        e₂ ∙ rw (e₁, e) (sym (toggled-join _ (besideFeatures sizes o u y) _))
-        ∙ toggled-packed (features sizes) (apartFeatures sizes o s u y) apart-below ∙ ap (packed (features sizes)) (sym apart-toggles)
+    pub apart-packed : (row next : List ℕ) → row ≡ replicate (wordsFor (features sizes)) 0 → next ≡ toggledAll row (apartFeatures sizes o u (value s u) y)
+        → next ≡ packed (features sizes) (difference sizes o s u y)
+    apart-packed row next e e₁ =
+        e₁ ∙ rw e (toggled-packed (features sizes) (apartFeatures sizes o u (value s u) y) apart-below) ∙ ap (packed (features sizes)) (sym apart-toggles)

@@ -19,7 +19,7 @@ ghost use Rattle.numbering.specs.Planes.{Spans};
 ghost use Rattle.words.specs.Next.{Next};
 ghost use Rattle.words.specs.Toggled.{toggledAll};
 ghost use Rattle.rows.specs.Moves.{kindOf, atomOf, entryOfMove, AtomIn, MoveIn, Room, byGrid};
-ghost use Rattle.rows.specs.Change.{movedBoth, besideFeatures, earlierFeatures, namedFeatures, unnamedFeatures, difference};
+ghost use Rattle.rows.specs.Change.{movedBoth, valuesBoth, besideFeatures, apartFeatures, earlierFeatures, namedFeatures, unnamedFeatures, difference};
 ghost use Rattle.rows.specs.Base.{atomsAt, leastValues, withBefores, baseBy};
 ghost use Rattle.rows.specs.Apart.{wantedBy, wantedFrom, placesFrom};
 use numbering::Plane;
@@ -130,12 +130,12 @@ fn toggle_atom(sizes: &[u64], plane: Plane, a: Atom, to: Move, row: &mut [u64])
     }
 }
 
-// Toggles what two variables change together.
-fn toggle_moves(sizes: &[u64], of: Move, to: Move, row: &mut [u64])
-    requires { ⌜ Room (now sizes) (now row) × MoveIn (now sizes) of × MoveIn (now sizes) to × (of .variable ≢ to .variable) ⌝ }
+// Toggles what two variables change together, in their plane.
+fn toggle_in_plane(sizes: &[u64], plane: Plane, of: Move, to: Move, row: &mut [u64])
+    requires { ⌜ Room (now sizes) (now row) × MoveIn (now sizes) of × MoveIn (now sizes) to × (of .variable ≢ to .variable)
+        × Spans (now sizes) (of .variable) (to .variable) (both (now sizes)) plane ⌝ }
     ensures { λ r. ⌜ now (row .exit) ≡ toggledAll (now (row .entry)) (movedBoth (now (sizes .entry)) (entryOfMove of) (entryOfMove to)) ⌝ }
 {
-    let plane = numbering::plane_of(sizes, of.variable, to.variable);
     if of.before == of.after {
         toggle_atom(
             sizes,
@@ -172,6 +172,46 @@ fn toggle_moves(sizes: &[u64], of: Move, to: Move, row: &mut [u64])
             row,
         );
     }
+}
+
+// Toggles what two variables change together.
+fn toggle_moves(sizes: &[u64], of: Move, to: Move, row: &mut [u64])
+    requires { ⌜ Room (now sizes) (now row) × MoveIn (now sizes) of × MoveIn (now sizes) to × (of .variable ≢ to .variable) ⌝ }
+    ensures { λ r. ⌜ now (row .exit) ≡ toggledAll (now (row .entry)) (movedBoth (now (sizes .entry)) (entryOfMove of) (entryOfMove to)) ⌝ }
+{
+    let plane = numbering::plane_of(sizes, of.variable, to.variable);
+    toggle_in_plane(sizes, plane, of, to, row);
+}
+
+// Toggles what two values of one variable, each kept, change together with another variable. Their features stand in one plane.
+fn toggle_values(sizes: &[u64], u: usize, x: usize, y: usize, to: Move, row: &mut [u64])
+    requires { ⌜ Room (now sizes) (now row) × MoveIn (now sizes) to × (u < length (now sizes)) × (x < size (now sizes) u) × (y < size (now sizes) u)
+        × (u ≢ to .variable) ⌝ }
+    ensures { λ r. ⌜ now (row .exit) ≡ toggledAll (now (row .entry)) (valuesBoth (now (sizes .entry)) u x y (entryOfMove to)) ⌝ }
+{
+    let plane = numbering::plane_of(sizes, u, to.variable);
+    toggle_in_plane(
+        sizes,
+        plane,
+        Move {
+            variable: u,
+            before: x,
+            after: x,
+        },
+        to,
+        row,
+    );
+    toggle_in_plane(
+        sizes,
+        plane,
+        Move {
+            variable: u,
+            before: y,
+            after: y,
+        },
+        to,
+        row,
+    );
 }
 
 // Toggles what an unnamed variable, which keeps its value, changes together with each entry.
@@ -365,7 +405,42 @@ pub fn base_row(
     toggle_unnamed(sizes, variables, befores, afters, base, row);
 }
 
-// The row of the difference that the value y of an unnamed variable u makes to that change: four features for each entry.
+// Toggles what two values of an unnamed variable change together with each entry: four features for each.
+fn toggle_apart(
+    sizes: &[u64],
+    variables: &[usize],
+    befores: &[usize],
+    afters: &[usize],
+    u: usize,
+    x: usize,
+    y: usize,
+    row: &mut [u64],
+)
+    requires { ⌜ Given (now sizes) (now variables) (now befores) (now afters) × Room (now sizes) (now row)
+        × (u < length (now sizes)) × (x < size (now sizes) u) × (y < size (now sizes) u) × (listed (now variables) u ≡ false) ⌝ }
+    ensures { λ r. ⌜ now (row .exit)
+        ≡ toggledAll (now (row .entry))
+        (apartFeatures (now (sizes .entry)) (entriesIn (now (variables .entry)) (now (befores .entry)) (now (afters .entry))) u x y) ⌝ }
+{
+    let mut k = 0;
+    while k < variables.len() {
+        toggle_values(
+            sizes,
+            u,
+            x,
+            y,
+            Move {
+                variable: variables[k],
+                before: befores[k],
+                after: afters[k],
+            },
+            row,
+        );
+        k += 1;
+    }
+}
+
+// The row of the difference that the value y of an unnamed variable u makes to that change.
 pub fn apart_row(
     sizes: &[u64],
     variables: &[usize],
@@ -384,8 +459,7 @@ pub fn apart_row(
         ≡ packed (features (now (sizes .entry)))
         (difference (now (sizes .entry)) (entriesIn (now (variables .entry)) (now (befores .entry)) (now (afters .entry))) (now (base .entry)) u y) ⌝ }
 {
-    toggle_beside(sizes, variables, befores, afters, u, y, row);
-    toggle_beside(sizes, variables, befores, afters, u, base[u], row);
+    toggle_apart(sizes, variables, befores, afters, u, base[u], y, row);
 }
 
 // The least possible value of a variable at y or above it; its size where there is none.

@@ -1,9 +1,10 @@
 //! Runs each call once and holds the answers and words against each other; a difference ends the run.
 
+use crate::answer;
+use crate::calls::{self, Calls};
 use crate::m4ri::{self, Echelon};
-use crate::plain::{self, Task, WORD_BITS};
+use crate::plain::{self, Tables, Task, WORD_BITS};
 use crate::tasks::Case;
-use crate::{answer, library};
 
 /// What a case is like, once all its answers agree.
 pub struct Checked {
@@ -45,7 +46,8 @@ fn room(words: usize) -> Vec<u64> {
 }
 
 pub fn check(case: &Case) -> Result<Checked, String> {
-    let task = Task::read(&case.file).map_err(|refusal| format!("refused: {refusal:?}"))?;
+    let task =
+        Task::<Tables>::read(&case.file).map_err(|refusal| format!("refused: {refusal:?}"))?;
     let features = task.features.count();
     let mut checked = Checked {
         features,
@@ -62,32 +64,40 @@ pub fn check(case: &Case) -> Result<Checked, String> {
     Ok(checked)
 }
 
-/// The workspace that both openings make.
-fn opened(file: &[u8], features: usize) -> Result<Vec<u64>, String> {
-    let words = MORE_THAN_HEADER + features * features.div_ceil(WORD_BITS);
-    let (mut of_library, mut of_plain) = (room(words), room(words));
-    let answer = library::open(file, &mut of_library);
-    if answer != answer::opened(plain::open(file, &mut of_plain)) {
-        return Err("the openings answer differently".into());
+/// The answer and the words that a call gives, the same ones from all.
+fn agreed(
+    name: &str,
+    words: usize,
+    call: impl Fn(&Calls, &mut [u64]) -> u64,
+) -> Result<(u64, Vec<u64>), String> {
+    let [of_library, of_plain @ ..] = calls::ALL.map(|calls| {
+        let mut room = room(words);
+        (call(&calls, &mut room), room)
+    });
+    for (answer, room) in &of_plain {
+        if *answer != of_library.0 {
+            return Err(format!("the calls to {name} answer differently"));
+        }
+        if *room != of_library.1 {
+            return Err(format!("the calls to {name} leave different words"));
+        }
     }
-    if of_library != of_plain {
-        return Err("the openings leave different words".into());
-    }
-    of_library.truncate(answer::value(answer).ok_or("the opening is refused")?);
     Ok(of_library)
 }
 
-/// Whether both finders find weights, the same ones.
+fn opened(file: &[u8], features: usize) -> Result<Vec<u64>, String> {
+    let words = MORE_THAN_HEADER + features * features.div_ceil(WORD_BITS);
+    let (answer, mut room) = agreed("open", words, |calls, room| (calls.open)(file, room))?;
+    room.truncate(answer::value(answer).ok_or("the opening is refused")?);
+    Ok(room)
+}
+
+/// Whether weights are found.
 fn separated(checked: &Checked) -> Result<bool, String> {
     let words = checked.width() + 1;
-    let (mut of_library, mut of_plain) = (room(words), room(words));
-    let answer = library::find(&checked.workspace, &mut of_library);
-    if answer != answer::found(plain::find(&checked.workspace, &mut of_plain)) {
-        return Err("the finders answer differently".into());
-    }
-    if of_library != of_plain {
-        return Err("the finders leave different words".into());
-    }
+    let (answer, _) = agreed("find", words, |calls, room| {
+        (calls.find)(&checked.workspace, room)
+    })?;
     Ok(answer == 0)
 }
 

@@ -1,6 +1,7 @@
-//! Measures opening and finding: the proved library beside plain Rust of the same algorithm, and libm4ri on the same rows.
+//! Measures opening and finding: the proved library beside plain Rust of the same algorithm in two variants, and libm4ri on the same rows.
 
 mod answer;
+mod calls;
 mod check;
 mod clock;
 mod library;
@@ -18,22 +19,26 @@ use std::process::ExitCode;
 use table::Line;
 use tasks::Case;
 
-/// Opening by the library, by the plain Rust, and libm4ri's fastest way to reduce the same rows.
+/// Opening by the library and by the plain Rust, and libm4ri's fastest way to reduce the same rows.
 fn measure_opening(case: &Case, checked: &Checked) -> Line {
-    let mut of_library = checked.workspace.clone();
-    let mut of_plain = checked.workspace.clone();
-    let mut contestants: Vec<Contestant> = vec![
-        Box::new(|repeats| timed_warm(repeats, || library::open(&case.file, &mut of_library))),
-        Box::new(|repeats| timed_warm(repeats, || plain::open(&case.file, &mut of_plain))),
-    ];
+    let mut contestants: Vec<Contestant> = calls::ALL
+        .map(|calls| {
+            let mut room = checked.workspace.clone();
+            contestant(move || (calls.open)(&case.file, &mut room))
+        })
+        .into();
     let way = fastest_way(checked);
     contestants.extend(way.map(|way| reduction(checked, way)));
     let times = in_turn(&FIGURE, contestants);
     let line = Line::new(case, "open", checked, &times);
     match way {
-        Some(way) => line.with_echelon(m4ri::WAYS[way], &times[2], &times[0]),
+        Some(way) => line.with_echelon(m4ri::WAYS[way], &times[calls::ALL.len()], &times[0]),
         None => line,
     }
+}
+
+fn contestant<'a>(mut call: impl FnMut() -> u64 + 'a) -> Contestant<'a> {
+    Box::new(move |repeats| timed_warm(repeats, &mut call))
 }
 
 fn fastest_way(checked: &Checked) -> Option<usize> {
@@ -49,17 +54,11 @@ fn reduction(checked: &Checked, way: usize) -> Contestant<'_> {
 }
 
 fn measure_finding(case: &Case, checked: &Checked) -> Line {
-    let mut of_library = vec![0; checked.width()];
-    let mut of_plain = vec![0; checked.width()];
-    let contestants: Vec<Contestant> = vec![
-        Box::new(|repeats| {
-            timed_warm(repeats, || {
-                library::find(&checked.workspace, &mut of_library)
-            })
-        }),
-        Box::new(|repeats| timed_warm(repeats, || plain::find(&checked.workspace, &mut of_plain))),
-    ];
-    let times = in_turn(&FIGURE, contestants);
+    let contestants = calls::ALL.map(|calls| {
+        let mut room = vec![0; checked.width()];
+        contestant(move || (calls.find)(&checked.workspace, &mut room))
+    });
+    let times = in_turn(&FIGURE, contestants.into());
     Line::new(case, finding(checked), checked, &times)
 }
 

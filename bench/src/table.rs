@@ -16,10 +16,25 @@ pub struct Line {
     call: &'static str,
     size: String,
     library: f64,
-    plain: f64,
-    over_plain: f64,
+    plain: Plain,
+    tables: Plain,
     echelon: Option<Echelon>,
     is_target: bool,
+}
+
+/// One variant of the plain Rust.
+struct Plain {
+    seconds: f64,
+    under_library: f64,
+}
+
+impl Plain {
+    fn new(plain: &Times, library: &Times) -> Plain {
+        Plain {
+            seconds: plain.median(),
+            under_library: library.over(plain),
+        }
+    }
 }
 
 /// libm4ri's fastest way.
@@ -30,15 +45,15 @@ struct Echelon {
 }
 
 impl Line {
-    /// A line from the times of the library and of the plain Rust, which come first.
+    /// A line from the times of the library and of both variants of the plain Rust, which come first.
     pub fn new(case: &Case, call: &'static str, checked: &Checked, times: &[Times]) -> Line {
         Line {
             case: case.name.clone(),
             call,
             size: size(checked),
             library: times[0].median(),
-            plain: times[1].median(),
-            over_plain: times[0].over(&times[1]),
+            plain: Plain::new(&times[1], &times[0]),
+            tables: Plain::new(&times[2], &times[0]),
             echelon: None,
             is_target: case.is_large_bay,
         }
@@ -74,14 +89,19 @@ fn shown(seconds: f64) -> String {
     }
 }
 
+fn shown_plain(plain: &Plain) -> String {
+    format!("{} | {:.2}", shown(plain.seconds), plain.under_library)
+}
+
 pub fn print(lines: &[Line]) {
-    println!("| case | features | operators | rows | slots filled | call | library | plain Rust | library / plain | libm4ri | libm4ri / library |");
-    println!("|---|---|---|---|---|---|---|---|---|---|---|");
+    println!("| case | features | operators | rows | slots filled | call | library | plain Rust | library / plain | tables kept | library / tables kept | libm4ri | libm4ri / library |");
+    println!("|---|---|---|---|---|---|---|---|---|---|---|---|---|");
     for line in lines {
         print_line(line);
     }
     println!();
     print_plain_target(lines);
+    print_tables(lines);
     print_echelon_target(lines);
 }
 
@@ -96,13 +116,13 @@ fn print_line(line: &Line) {
         None => "- | -".to_string(),
     };
     println!(
-        "| {} | {} | {} | {} | {} | {:.2} | {echelon} |",
+        "| {} | {} | {} | {} | {} | {} | {echelon} |",
         line.case,
         line.size,
         line.call,
         shown(line.library),
-        shown(line.plain),
-        line.over_plain,
+        shown_plain(&line.plain),
+        shown_plain(&line.tables),
     );
 }
 
@@ -114,18 +134,28 @@ fn verdict(is_met: bool) -> &'static str {
     }
 }
 
-fn print_plain_target(lines: &[Line]) {
-    let worst = lines
+/// The largest ratio of the library's time to that of one variant, with its call and its case.
+fn largest(lines: &[Line], variant: fn(&Line) -> &Plain) -> Option<(f64, String)> {
+    let ratio = |line: &Line| variant(line).under_library;
+    let line = lines
         .iter()
-        .max_by(|one, other| one.over_plain.total_cmp(&other.over_plain));
-    if let Some(line) = worst {
+        .max_by(|one, other| ratio(one).total_cmp(&ratio(other)))?;
+    let place = format!("{} of {}", line.call, line.case);
+    Some((ratio(line), place))
+}
+
+fn print_plain_target(lines: &[Line]) {
+    if let Some((ratio, place)) = largest(lines, |line| &line.plain) {
         println!(
-            "target {PLAIN_TARGET} (library over plain Rust, at most): {}; the largest is {:.2}, {} of {}",
-            verdict(line.over_plain <= PLAIN_TARGET),
-            line.over_plain,
-            line.call,
-            line.case
+            "target {PLAIN_TARGET} (library over plain Rust, at most): {}; the largest is {ratio:.2}, {place}",
+            verdict(ratio <= PLAIN_TARGET),
         );
+    }
+}
+
+fn print_tables(lines: &[Line]) {
+    if let Some((ratio, place)) = largest(lines, |line| &line.tables) {
+        println!("beside tables that are kept for the whole call: at most {ratio:.2}, {place}");
     }
 }
 

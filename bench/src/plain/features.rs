@@ -1,5 +1,6 @@
-//! The numbers of features: how many there are, and the number of each.
+//! Features: how many there are, and the number of each.
 
+use super::numbering::Numbering;
 use super::set::WORD_BITS;
 
 pub const MOST_FEATURES: usize = 4096;
@@ -11,34 +12,39 @@ pub struct Atom {
     pub value: usize,
 }
 
-/// The sizes of the variables, with tables from which a feature's number is read off.
-pub struct Features {
-    sizes: Vec<usize>,
-    /// The number of each variable's first atom, and of atoms in all.
-    first_atoms: Vec<usize>,
-    /// The number of each variable's first feature with a later variable.
-    first_pairs: Vec<usize>,
-    count: usize,
+/// Where the features of two variables stand: the first number, and how far a step of each value leads.
+pub struct Plane {
+    first: usize,
+    step: usize,
+    other_step: usize,
 }
 
-impl Features {
-    pub fn new(sizes: Vec<usize>) -> Features {
-        let mut first_atoms = vec![0];
+impl Plane {
+    pub fn number(&self, value: usize, other: usize) -> usize {
+        self.first + value * self.step + other * self.other_step
+    }
+}
+
+/// The sizes of the variables, with a way to the numbers of their features.
+pub struct Features<N> {
+    sizes: Vec<usize>,
+    atoms: usize,
+    count: usize,
+    numbering: N,
+}
+
+impl<N: Numbering> Features<N> {
+    pub fn new(sizes: Vec<usize>) -> Features<N> {
+        let (mut atoms, mut pairs) = (0, 0);
         for size in &sizes {
-            first_atoms.push(first_atoms.last().unwrap() + size);
-        }
-        let atoms = first_atoms[sizes.len()];
-        let mut first_pairs = Vec::with_capacity(sizes.len());
-        let mut count = atoms;
-        for (variable, size) in sizes.iter().enumerate() {
-            first_pairs.push(count);
-            count += size * (atoms - first_atoms[variable + 1]);
+            pairs += atoms * size;
+            atoms += size;
         }
         Features {
+            numbering: N::new(&sizes),
             sizes,
-            first_atoms,
-            first_pairs,
-            count,
+            atoms,
+            count: atoms + pairs,
         }
     }
 
@@ -55,7 +61,7 @@ impl Features {
     }
 
     pub fn atoms(&self) -> usize {
-        self.first_atoms[self.sizes.len()]
+        self.atoms
     }
 
     pub fn count(&self) -> usize {
@@ -68,20 +74,35 @@ impl Features {
     }
 
     pub fn single(&self, atom: Atom) -> usize {
-        self.first_atoms[atom.variable] + atom.value
+        self.numbering.first_atom(&self.sizes, atom.variable) + atom.value
     }
 
-    /// The feature of two atoms, either way round.
-    pub fn pair(&self, one: Atom, other: Atom) -> usize {
-        let (low, high) = if one.variable < other.variable {
-            (one, other)
+    /// The atoms of a variable with their numbers.
+    pub fn atoms_of(&self, variable: usize) -> impl Iterator<Item = (Atom, usize)> {
+        let first = self.numbering.first_atom(&self.sizes, variable);
+        (0..self.size(variable)).map(move |value| (Atom { variable, value }, first + value))
+    }
+
+    /// The features of two variables, either way round.
+    pub fn plane(&self, one: usize, other: usize) -> Plane {
+        let first = |low, high| self.numbering.first_pair(&self.sizes, low, high);
+        if one < other {
+            Plane {
+                first: first(one, other),
+                step: self.size(other),
+                other_step: 1,
+            }
         } else {
-            (other, one)
-        };
-        let between = self.first_atoms[high.variable] - self.first_atoms[low.variable + 1];
-        self.first_pairs[low.variable]
-            + self.sizes[low.variable] * between
-            + low.value * self.sizes[high.variable]
-            + high.value
+            Plane {
+                first: first(other, one),
+                step: 1,
+                other_step: self.size(one),
+            }
+        }
+    }
+
+    pub fn pair(&self, one: Atom, other: Atom) -> usize {
+        self.plane(one.variable, other.variable)
+            .number(one.value, other.value)
     }
 }

@@ -1,7 +1,8 @@
-//! Plain Rust of the library's algorithm, as one would write it without proofs.
+//! Plain Rust of the library's algorithm, as one would write it without proofs, for either way of numbering.
 
 mod features;
 mod file;
+mod numbering;
 mod pairs;
 mod rows;
 mod set;
@@ -10,6 +11,7 @@ mod task;
 mod workspace;
 
 pub use file::Refusal;
+pub use numbering::{Anew, Numbering, Tables};
 pub use set::WORD_BITS;
 pub use task::Task;
 pub use workspace::{find, open, rows_of};

@@ -1,17 +1,24 @@
 //! Listed pairs: what an operator leaves possible, whether it is idle, whether the list is closed under it.
 
 use super::features::{Atom, Features};
+use super::numbering::Numbering;
 use super::set;
 use super::task::{Entry, Operator};
 
-pub struct Pairs<'a> {
-    features: &'a Features,
+pub struct Pairs<'a, N> {
+    features: &'a Features<N>,
     listed: &'a [u64],
+    /// Where no pair is listed, none is looked up.
+    is_empty: bool,
 }
 
-impl<'a> Pairs<'a> {
-    pub fn new(features: &'a Features, listed: &'a [u64]) -> Pairs<'a> {
-        Pairs { features, listed }
+impl<'a, N: Numbering> Pairs<'a, N> {
+    pub fn new(features: &'a Features<N>, listed: &'a [u64]) -> Pairs<'a, N> {
+        Pairs {
+            features,
+            listed,
+            is_empty: set::least(listed).is_none(),
+        }
     }
 
     fn are_paired(&self, one: Atom, other: Atom) -> bool {
@@ -19,40 +26,30 @@ impl<'a> Pairs<'a> {
     }
 
     fn is_paired_before(&self, entries: &[Entry], atom: Atom) -> bool {
-        entries
-            .iter()
-            .any(|entry| self.are_paired(entry.atom_before(), atom))
+        let is_paired = |entry: &Entry| self.are_paired(entry.atom_before(), atom);
+        !self.is_empty && entries.iter().any(is_paired)
     }
 
     fn is_paired_after(&self, entries: &[Entry], atom: Atom) -> bool {
-        entries
-            .iter()
-            .any(|entry| self.are_paired(entry.atom_after(), atom))
+        let is_paired = |entry: &Entry| self.are_paired(entry.atom_after(), atom);
+        !self.is_empty && entries.iter().any(is_paired)
     }
 
     fn unnamed<'b>(&'b self, operator: &'b Operator) -> impl Iterator<Item = usize> + 'b {
         (0..self.features.variables()).filter(|&variable| !operator.names(variable))
     }
 
-    fn atoms_of(&self, variable: usize) -> impl Iterator<Item = Atom> {
-        (0..self.features.size(variable)).map(move |value| Atom { variable, value })
-    }
-
     /// The atoms of unnamed variables that are paired with no before atom.
     pub fn possible(&self, operator: &Operator) -> Vec<u64> {
         let mut possible = vec![0; self.features.words()];
         for variable in self.unnamed(operator) {
-            for atom in self.atoms_of(variable) {
+            for (atom, number) in self.features.atoms_of(variable) {
                 if !self.is_paired_before(&operator.entries, atom) {
-                    set::toggle(&mut possible, self.features.single(atom));
+                    set::toggle(&mut possible, number);
                 }
             }
         }
         possible
-    }
-
-    fn is_possible(&self, possible: &[u64], atom: Atom) -> bool {
-        set::has(possible, self.features.single(atom))
     }
 
     pub fn is_idle(&self, operator: &Operator, possible: &[u64]) -> bool {
@@ -64,8 +61,9 @@ impl<'a> Pairs<'a> {
         clashes
             || self.unnamed(operator).any(|variable| {
                 !self
+                    .features
                     .atoms_of(variable)
-                    .any(|atom| self.is_possible(possible, atom))
+                    .any(|(_, number)| set::has(possible, number))
             })
     }
 
@@ -81,8 +79,8 @@ impl<'a> Pairs<'a> {
             .any(|(place, entry)| self.is_paired_after(&entries[..place], entry.atom_after()));
         !afters_clash
             && self.unnamed(operator).all(|variable| {
-                self.atoms_of(variable).all(|atom| {
-                    !(self.is_possible(&possible, atom) && self.is_paired_after(entries, atom))
+                self.features.atoms_of(variable).all(|(atom, number)| {
+                    !(set::has(&possible, number) && self.is_paired_after(entries, atom))
                 })
             })
     }
@@ -92,6 +90,7 @@ impl<'a> Pairs<'a> {
             variable,
             value: state[variable],
         };
-        (0..state.len()).any(|high| (0..high).any(|low| self.are_paired(atom(low), atom(high))))
+        let is_held = |high| (0..high).any(|low| self.are_paired(atom(low), atom(high)));
+        !self.is_empty && (0..state.len()).any(is_held)
     }
 }

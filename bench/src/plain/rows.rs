@@ -1,6 +1,7 @@
 //! The rows of one operator that is not idle: the change at its base state, and the difference that each other possible value makes.
 
-use super::features::{Atom, Features};
+use super::features::{Features, Plane};
+use super::numbering::Numbering;
 use super::set;
 use super::task::{Entry, Operator};
 
@@ -20,28 +21,28 @@ const GRID: [[bool; 4]; 4] = [
     [false, true, false, true],
 ];
 
-/// The atoms of a variable that goes from one value to another, with their kinds.
-fn kinds(entry: &Entry) -> impl Iterator<Item = (Atom, Kind)> + Clone {
+/// The values of a variable that goes from one to another, with the kinds of their atoms.
+fn kinds(entry: &Entry) -> impl Iterator<Item = (usize, Kind)> {
     let (first, second) = if entry.before == entry.after {
-        ((entry.atom_before(), Kind::Kept), None)
+        ((entry.before, Kind::Kept), None)
     } else {
-        let made = (entry.atom_after(), Kind::Made);
-        ((entry.atom_before(), Kind::Used), Some(made))
+        let made = (entry.after, Kind::Made);
+        ((entry.before, Kind::Used), Some(made))
     };
     std::iter::once(first).chain(second)
 }
 
 /// What makes the rows of one operator.
-pub struct Rows<'a> {
-    features: &'a Features,
+pub struct Rows<'a, N> {
+    features: &'a Features<N>,
     operator: &'a Operator,
     possible: &'a [u64],
     base: Vec<usize>,
     row: Vec<u64>,
 }
 
-impl<'a> Rows<'a> {
-    pub fn new(features: &'a Features, operator: &'a Operator, possible: &'a [u64]) -> Rows<'a> {
+impl<'a, N: Numbering> Rows<'a, N> {
+    pub fn new(features: &'a Features<N>, operator: &'a Operator, possible: &'a [u64]) -> Self {
         Rows {
             features,
             operator,
@@ -56,18 +57,13 @@ impl<'a> Rows<'a> {
         self.fill_change();
         visit(&mut self.row);
         for variable in 0..self.features.variables() {
-            for value in 0..self.features.size(variable) {
-                if self.is_apart(variable, value) {
-                    self.fill_difference(variable, value);
+            for (atom, number) in self.features.atoms_of(variable) {
+                if set::has(self.possible, number) && atom.value != self.base[variable] {
+                    self.fill_difference(variable, atom.value);
                     visit(&mut self.row);
                 }
             }
         }
-    }
-
-    fn is_apart(&self, variable: usize, value: usize) -> bool {
-        let atom = Atom { variable, value };
-        set::has(self.possible, self.features.single(atom)) && value != self.base[variable]
     }
 
     /// The change at the base state.
@@ -78,12 +74,13 @@ impl<'a> Rows<'a> {
             set::toggle(&mut self.row, self.features.single(entry.atom_before()));
             set::toggle(&mut self.row, self.features.single(entry.atom_after()));
             for earlier in &entries[..place] {
-                self.toggle_together(earlier, entry);
+                let plane = self.features.plane(earlier.variable, entry.variable);
+                self.toggle_together(&plane, earlier, entry);
             }
         }
         for variable in 0..self.features.variables() {
             if !self.operator.names(variable) {
-                self.toggle_beside(variable, self.base[variable]);
+                self.toggle_beside(variable, [self.base[variable]]);
             }
         }
     }
@@ -91,28 +88,30 @@ impl<'a> Rows<'a> {
     /// The difference that a value of an unnamed variable makes to the change at the base state.
     fn fill_difference(&mut self, variable: usize, value: usize) {
         self.row.fill(0);
-        self.toggle_beside(variable, value);
-        self.toggle_beside(variable, self.base[variable]);
+        self.toggle_beside(variable, [self.base[variable], value]);
     }
 
-    /// Toggles what an unnamed variable, which keeps its value, changes together with each entry.
-    fn toggle_beside(&mut self, variable: usize, value: usize) {
-        let still = Entry {
-            variable,
-            before: value,
-            after: value,
-        };
+    /// Toggles what an unnamed variable, which keeps its value, changes together with each entry, for each of some values.
+    fn toggle_beside<const V: usize>(&mut self, variable: usize, values: [usize; V]) {
         for entry in &self.operator.entries {
-            self.toggle_together(&still, entry);
+            let plane = self.features.plane(variable, entry.variable);
+            for value in values {
+                let still = Entry {
+                    variable,
+                    before: value,
+                    after: value,
+                };
+                self.toggle_together(&plane, &still, entry);
+            }
         }
     }
 
-    /// Toggles what two variables change together.
-    fn toggle_together(&mut self, one: &Entry, other: &Entry) {
-        for (first, kind) in kinds(one) {
-            for (second, other_kind) in kinds(other) {
+    /// Toggles what two variables change together, in their plane.
+    fn toggle_together(&mut self, plane: &Plane, one: &Entry, other: &Entry) {
+        for (value, kind) in kinds(one) {
+            for (other_value, other_kind) in kinds(other) {
                 if GRID[kind as usize][other_kind as usize] {
-                    set::toggle(&mut self.row, self.features.pair(first, second));
+                    set::toggle(&mut self.row, plane.number(value, other_value));
                 }
             }
         }
@@ -120,7 +119,11 @@ impl<'a> Rows<'a> {
 }
 
 /// The before values, and the least possible values elsewhere.
-fn base_state(features: &Features, operator: &Operator, possible: &[u64]) -> Vec<usize> {
+fn base_state<N: Numbering>(
+    features: &Features<N>,
+    operator: &Operator,
+    possible: &[u64],
+) -> Vec<usize> {
     let mut base: Vec<usize> = (0..features.variables())
         .map(|variable| least_possible(features, possible, variable))
         .collect();
@@ -131,9 +134,13 @@ fn base_state(features: &Features, operator: &Operator, possible: &[u64]) -> Vec
 }
 
 /// The least possible value of a variable; its size where there is none.
-fn least_possible(features: &Features, possible: &[u64], variable: usize) -> usize {
-    let size = features.size(variable);
-    (0..size)
-        .find(|&value| set::has(possible, features.single(Atom { variable, value })))
-        .unwrap_or(size)
+fn least_possible<N: Numbering>(
+    features: &Features<N>,
+    possible: &[u64],
+    variable: usize,
+) -> usize {
+    features
+        .atoms_of(variable)
+        .find(|&(_, number)| set::has(possible, number))
+        .map_or(features.size(variable), |(atom, _)| atom.value)
 }

@@ -82,6 +82,8 @@ fn shares_above(words: &[u64], others: &[u64], index: usize) -> bool {
 }
 
 /// Inserts a row: what is left of it, if anything, becomes the slot of its least member. The row is used up.
+/// It is not inlined, so that its loops have the registers for themselves.
+#[inline(never)]
 pub fn insert(words: &mut [u64], row: &mut [u64]) {
     let width = row.len();
     Slots::new(words, width).reduce(row);

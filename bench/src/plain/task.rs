@@ -2,10 +2,10 @@
 
 use super::features::{Atom, Features, MOST_FEATURES};
 use super::file::{Reader, Refusal};
+use super::numbering::{Numbering, MOST_VARIABLES};
 use super::pairs::Pairs;
 use super::set;
 
-pub const MOST_VARIABLES: usize = 64;
 pub const MOST_SIZE: usize = 64;
 
 #[derive(Clone, Copy)]
@@ -41,8 +41,8 @@ impl Operator {
     }
 }
 
-pub struct Task {
-    pub features: Features,
+pub struct Task<N> {
+    pub features: Features<N>,
     pub start: Vec<usize>,
     pub goal: Vec<usize>,
     /// The listed pairs as a set of features.
@@ -50,9 +50,9 @@ pub struct Task {
     pub operators: Vec<Operator>,
 }
 
-impl Task {
+impl<N: Numbering> Task<N> {
     /// Reads a task file and judges it: refusals 1 to 7.
-    pub fn read(bytes: &[u8]) -> Result<Task, Refusal> {
+    pub fn read(bytes: &[u8]) -> Result<Task<N>, Refusal> {
         let mut reader = Reader::new(bytes);
         let features = read_features(&mut reader)?;
         let start = read_state(&mut reader, &features)?;
@@ -71,7 +71,7 @@ impl Task {
         Ok(task)
     }
 
-    pub fn pairs(&self) -> Pairs<'_> {
+    pub fn pairs(&self) -> Pairs<'_, N> {
         Pairs::new(&self.features, &self.listed)
     }
 
@@ -91,7 +91,7 @@ impl Task {
     }
 }
 
-fn read_features(reader: &mut Reader) -> Result<Features, Refusal> {
+fn read_features<N: Numbering>(reader: &mut Reader) -> Result<Features<N>, Refusal> {
     let variables = reader.item(1..MOST_VARIABLES + 1, Refusal::Limit)?;
     let sizes = (0..variables)
         .map(|_| reader.item(1..MOST_SIZE + 1, Refusal::Limit))
@@ -103,7 +103,10 @@ fn read_features(reader: &mut Reader) -> Result<Features, Refusal> {
     Ok(features)
 }
 
-fn read_state(reader: &mut Reader, features: &Features) -> Result<Vec<usize>, Refusal> {
+fn read_state<N: Numbering>(
+    reader: &mut Reader,
+    features: &Features<N>,
+) -> Result<Vec<usize>, Refusal> {
     features
         .sizes()
         .iter()
@@ -111,7 +114,10 @@ fn read_state(reader: &mut Reader, features: &Features) -> Result<Vec<usize>, Re
         .collect()
 }
 
-fn read_listed(reader: &mut Reader, features: &Features) -> Result<Vec<u64>, Refusal> {
+fn read_listed<N: Numbering>(
+    reader: &mut Reader,
+    features: &Features<N>,
+) -> Result<Vec<u64>, Refusal> {
     let mut listed = vec![0; features.words()];
     let mut least = 0;
     for _ in 0..reader.number()? {
@@ -122,14 +128,20 @@ fn read_listed(reader: &mut Reader, features: &Features) -> Result<Vec<u64>, Ref
     Ok(listed)
 }
 
-fn read_operators(reader: &mut Reader, features: &Features) -> Result<Vec<Operator>, Refusal> {
+fn read_operators<N: Numbering>(
+    reader: &mut Reader,
+    features: &Features<N>,
+) -> Result<Vec<Operator>, Refusal> {
     let count = reader.number()?;
     (0..count)
         .map(|_| read_operator(reader, features))
         .collect()
 }
 
-fn read_operator(reader: &mut Reader, features: &Features) -> Result<Operator, Refusal> {
+fn read_operator<N: Numbering>(
+    reader: &mut Reader,
+    features: &Features<N>,
+) -> Result<Operator, Refusal> {
     let variables = features.variables();
     let count = reader.item(1..variables + 1, Refusal::Range)?;
     let mut entries = Vec::with_capacity(count);

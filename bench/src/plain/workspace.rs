@@ -2,11 +2,12 @@
 
 use super::features::{Atom, Features, MOST_FEATURES};
 use super::file::Refusal;
+use super::numbering::{Numbering, MOST_VARIABLES};
 use super::pairs::Pairs;
 use super::rows::Rows;
 use super::set;
 use super::slots::{self, Slots};
-use super::task::{Task, MOST_SIZE, MOST_VARIABLES};
+use super::task::{Task, MOST_SIZE};
 
 /// Where the parts of a workspace begin; the sizes begin behind the first word.
 struct Layout {
@@ -18,7 +19,7 @@ struct Layout {
 }
 
 impl Layout {
-    fn new(features: &Features) -> Layout {
+    fn new<N: Numbering>(features: &Features<N>) -> Layout {
         let variables = features.variables();
         let start = 1 + variables;
         let goal = start + variables;
@@ -36,8 +37,8 @@ impl Layout {
 }
 
 /// Opens a workspace, and answers how many words are due.
-pub fn open(file: &[u8], room: &mut [u64]) -> Result<usize, Refusal> {
-    let task = Task::read(file)?;
+pub fn open<N: Numbering>(file: &[u8], room: &mut [u64]) -> Result<usize, Refusal> {
+    let task = Task::<N>::read(file)?;
     let layout = Layout::new(&task.features);
     let workspace = room.get_mut(..layout.end).ok_or(Refusal::Small)?;
     let (header, slots) = workspace.split_at_mut(layout.slots);
@@ -47,7 +48,7 @@ pub fn open(file: &[u8], room: &mut [u64]) -> Result<usize, Refusal> {
     Ok(layout.end)
 }
 
-fn fill_header(task: &Task, header: &mut [u64]) {
+fn fill_header<N: Numbering>(task: &Task<N>, header: &mut [u64]) {
     let numbers = [task.features.variables()]
         .into_iter()
         .chain(task.features.sizes().iter().copied())
@@ -61,7 +62,7 @@ fn fill_header(task: &Task, header: &mut [u64]) {
 }
 
 /// Hands over the rows of each operator that is not idle.
-fn visit_rows(task: &Task, mut visit: impl FnMut(&mut [u64])) {
+fn visit_rows<N: Numbering>(task: &Task<N>, mut visit: impl FnMut(&mut [u64])) {
     let pairs = task.pairs();
     for operator in &task.operators {
         let possible = pairs.possible(operator);
@@ -72,22 +73,22 @@ fn visit_rows(task: &Task, mut visit: impl FnMut(&mut [u64])) {
 }
 
 /// The rows of a task one after the other, each of as many words as its features take.
-pub fn rows_of(task: &Task) -> Vec<u64> {
+pub fn rows_of<N: Numbering>(task: &Task<N>) -> Vec<u64> {
     let mut rows = Vec::new();
     visit_rows(task, |row| rows.extend_from_slice(row));
     rows
 }
 
 /// A well formed workspace, cut into its parts.
-struct Parts<'a> {
-    features: Features,
+struct Parts<'a, N> {
+    features: Features<N>,
     start: Vec<usize>,
     goal: Vec<usize>,
     slots: Slots<'a>,
 }
 
-impl Parts<'_> {
-    fn of(workspace: &[u64]) -> Option<Parts<'_>> {
+impl<'a, N: Numbering> Parts<'a, N> {
+    fn of(workspace: &'a [u64]) -> Option<Parts<'a, N>> {
         let features = features_of(workspace)?;
         let layout = Layout::new(&features);
         let workspace = workspace.get(..layout.end)?;
@@ -108,7 +109,7 @@ impl Parts<'_> {
     }
 }
 
-fn features_of(workspace: &[u64]) -> Option<Features> {
+fn features_of<N: Numbering>(workspace: &[u64]) -> Option<Features<N>> {
     let variables = number_within(*workspace.first()?, MOST_VARIABLES)?;
     let sizes = workspace
         .get(1..1 + variables)?
@@ -124,7 +125,7 @@ fn number_within(word: u64, most: usize) -> Option<usize> {
     (1..=most).contains(&number).then_some(number)
 }
 
-fn state_of(features: &Features, words: &[u64]) -> Option<Vec<usize>> {
+fn state_of<N: Numbering>(features: &Features<N>, words: &[u64]) -> Option<Vec<usize>> {
     features
         .sizes()
         .iter()
@@ -134,8 +135,8 @@ fn state_of(features: &Features, words: &[u64]) -> Option<Vec<usize>> {
 }
 
 /// Whether weights separate; the least that do go to the first words of the room.
-pub fn find(workspace: &[u64], room: &mut [u64]) -> Result<bool, Refusal> {
-    let parts = Parts::of(workspace).ok_or(Refusal::Malformed)?;
+pub fn find<N: Numbering>(workspace: &[u64], room: &mut [u64]) -> Result<bool, Refusal> {
+    let parts = Parts::<N>::of(workspace).ok_or(Refusal::Malformed)?;
     let width = parts.features.words();
     let weights = room.get_mut(..width).ok_or(Refusal::Small)?;
     let mut difference = vec![0; width];
@@ -150,7 +151,7 @@ pub fn find(workspace: &[u64], room: &mut [u64]) -> Result<bool, Refusal> {
 }
 
 /// Toggles the features that are true in a state.
-fn toggle_true(features: &Features, state: &[usize], row: &mut [u64]) {
+fn toggle_true<N: Numbering>(features: &Features<N>, state: &[usize], row: &mut [u64]) {
     let atom = |variable: usize| Atom {
         variable,
         value: state[variable],

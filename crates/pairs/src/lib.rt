@@ -15,6 +15,7 @@ ghost use Rattle.meaning.specs.Pair.{paired, idle, closed, holds};
 ghost use Rattle.theory.specs.Slices.{entriesIn};
 ghost use Rattle.pairs.specs.Ready.{Listed, Atoms, Ready, Apart, Place, HoldsPossible};
 ghost use Rattle.pairs.specs.Judge.{pairedWithin, clashingIn, valued, unclosedAt};
+ghost use Rattle.pairs.specs.None.{Suffices};
 ghost use Rattle.pairs.specs.Fill.{freeAtoms, Added, Lacks};
 use words::WORD_BITS;
 
@@ -96,6 +97,17 @@ fn is_paired_within(
     !is_empty(sizes, pairs) && is_paired_among(sizes, pairs, variables, values, n, u, y)
 }
 
+// How many atoms have to be looked at: none where no pair is listed.
+fn looks(sizes: &[u64], pairs: &[u64], variables: &[usize]) -> usize
+    requires { ⌜ Listed (now sizes) (now pairs) ⌝ }
+    ensures { λ r. ⌜ Suffices (now (sizes .entry)) (has (now (pairs .entry))) (now (variables .entry)) r ⌝ }
+{
+    if is_empty(sizes, pairs) {
+        return 0;
+    }
+    variables.len()
+}
+
 // Puts in the atoms of an unnamed variable that are paired with no before atom.
 fn fill_variable(
     sizes: &[u64],
@@ -111,11 +123,12 @@ fn fill_variable(
         (freeAtoms (now (sizes .entry)) (has (now (pairs .entry))) (now (variables .entry)) (now (befores .entry)) u (size (now (sizes .entry)) u))
         (now (possible .exit)) ⌝ }
 {
+    let n = looks(sizes, pairs, variables);
     let start = numbering::single(sizes, u, 0);
     let d = numbering::size(sizes, u);
     let mut y = 0;
     while y < d {
-        if !is_paired_within(sizes, pairs, variables, befores, variables.len(), u, y) {
+        if !is_paired_among(sizes, pairs, variables, befores, n, u, y) {
             words::toggle(possible, start + y);
         }
         y += 1;
@@ -227,12 +240,13 @@ fn is_uncovered_at(
     ensures { λ r. ⌜ r ≡ some (size (now (sizes .entry)) u) (λ y. has (now (possible .entry)) (single (now (sizes .entry)) u y)
         && pairedWithin (now (sizes .entry)) (has (now (pairs .entry))) (now (variables .entry)) (now (afters .entry)) (length (now (variables .entry))) u y) ⌝ }
 {
+    let n = looks(sizes, pairs, variables);
     let start = numbering::single(sizes, u, 0);
     let d = numbering::size(sizes, u);
     let mut y = 0;
     while y < d {
         if words::has(possible, start + y)
-            && is_paired_within(sizes, pairs, variables, afters, variables.len(), u, y)
+            && is_paired_among(sizes, pairs, variables, afters, n, u, y)
         {
             return true;
         }

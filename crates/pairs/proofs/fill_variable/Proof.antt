@@ -13,19 +13,22 @@ use Rattle.pairs.proofs.fill_variable.Statement.{statement}
 use Rattle.pairs.proofs.fill_variable.Tie as tie
 
 abbrev Inv-loop : tie.InvT-loop
-Inv-loop sizes pairs variables befores u possible₀ start d y₀ possible y = (y ≤ d) × Added possible₀ (freeAtoms sizes (has pairs) variables befores u y) possible
+Inv-loop sizes pairs variables befores u possible₀ n start d y₀ possible y = (y ≤ d) × Added possible₀ (freeAtoms sizes (has pairs) variables befores u y) possible
 
 abbrev μ-loop : tie.MeasureT-loop
-μ-loop sizes pairs variables befores u possible₀ start d y₀ possible y = d - y
+μ-loop sizes pairs variables befores u possible₀ n start d y₀ possible y = d - y
 
 -- Where the atom of the value y stands.
-atom : (c : tie.In-loop Inv-loop μ-loop) → let a = c .before .before .before .before .before .before .before .before .before .args in
+atom : (c : tie.In-loop Inv-loop μ-loop) → let a = c .before .before .before .before .before .before .before .before .before .before .args in
     ValueAt (a .sizes .now) (a .possible .now) (a .u) (c .before .loop .y) (c .before .before .before .single .result + c .before .loop .y)
-atom c = let (h, a, d, l, r, k) = c .before .before .before .before .before .before .before .before .before .pre in
+atom c = let (h, a, d, l, r, k) = c .before .before .before .before .before .before .before .before .before .before .pre in
     value-at _ _ _ _ _ _ (h .limits) r (c .before .before .before .single .ensures) (c .before .before .size .ensures) (c .loop-test .taken)
 
+looks-requires : tie.Need-looks-requires Inv-loop μ-loop
+looks-requires c κs = c .before .before .before .before .before .pre .0
+
 single-requires : tie.Need-single-requires Inv-loop μ-loop
-single-requires c κs = let (h, a, d, l, r, k) = c .before .before .before .before .before .pre in (limits-small _ (h .limits), l, h .limits .each _ l .0)
+single-requires c κs = let (h, a, d, l, r, k) = c .before .before .before .before .before .before .pre in (limits-small _ (h .limits), l, h .limits .each _ l .0)
 
 size-requires : tie.Need-size-requires Inv-loop μ-loop
 size-requires c κs = omega arith
@@ -33,9 +36,9 @@ size-requires c κs = omega arith
 loop-holds : tie.Need-loop-holds Inv-loop μ-loop
 loop-holds c = (omega arith, free-start _ _ _ _ _ _)
 
-is-paired-within-requires : tie.Need-is-paired-within-requires Inv-loop μ-loop
-is-paired-within-requires c κs = let (h, a, d, l, r, k) = c .before .before .before .before .before .before .before .before .before .pre in
-    (h, a, omega arith, d, l, omega (arith, c .before .before .size .ensures))
+is-paired-among-requires : tie.Need-is-paired-among-requires Inv-loop μ-loop
+is-paired-among-requires c κs = let (h, a, d, l, r, k) = c .before .before .before .before .before .before .before .before .before .before .pre in
+    (h, a, c .before .before .before .before .looks .ensures .few, (λ i j. d i (omega (arith, c .before .before .before .before .looks .ensures .few))), l, omega (arith, c .before .before .size .ensures))
 
 add-toggle : tie.Need-add-toggle Inv-loop μ-loop
 add-toggle c = omega (arith, atom (c .before .before .before) .small)
@@ -50,12 +53,12 @@ loop-less : tie.Need-loop-less Inv-loop μ-loop
 loop-less c = omega arith
 
 loop-again : tie.Need-loop-again Inv-loop μ-loop
-loop-again c = let (h, a, d, l, r, k) = c .before .before .before .before .before .before .before .before .before .before .before .pre in (
+loop-again c = let (h, a, d, l, r, k) = c .before .before .before .before .before .before .before .before .before .before .before .before .pre in (
   omega arith,
   ⊎-elim
       (λ x. free-put _ _ _ _ _ _ _ _ (c .before .before .before .loop .inv .1) _ _ r k (omega (arith, c .before .before .before .before .size .ensures))
-      (sym (c .before .is-paired-within .ensures) ∙ not-true _ (x .0 .taken)) (atom (c .before .before) .number) (x .5 ∙ x .2 .ensures))
-      (λ x. free-skip _ _ _ _ _ _ _ _ (c .before .before .before .loop .inv .1) _ (sym (c .before .is-paired-within .ensures) ∙ not-false _ (x .0 .left)) (x .1))
+      (sym (c .before .is-paired-among .ensures ∙ c .before .before .before .before .before .before .looks .ensures .same _ _ _) ∙ not-true _ (x .0 .taken)) (atom (c .before .before) .number) (x .5 ∙ x .2 .ensures))
+      (λ x. free-skip _ _ _ _ _ _ _ _ (c .before .before .before .loop .inv .1) _ (sym (c .before .is-paired-among .ensures ∙ c .before .before .before .before .before .before .looks .ensures .same _ _ _) ∙ not-false _ (x .0 .left)) (x .1))
       (c .if1 .came),
 )
 
@@ -63,7 +66,7 @@ same-length : tie.Need-same-length Inv-loop μ-loop
 same-length c = c .before .loop .inv .1 .0
 
 returns : tie.Need-returns Inv-loop μ-loop
-returns c = let a = c .before .before .before .before .before .before .before .before .before .args in
+returns c = let a = c .before .before .before .before .before .before .before .before .before .before .args in
     let e : size (a .sizes .now) (a .u) ≡ c .before .loop .y = omega (arith, c .before .before .size .ensures) in rw e (c .before .loop .inv .1)
 
 pub fill-variable-spec : {M : Type 1} → statement M
@@ -72,10 +75,11 @@ fill-variable-spec =
     (tie.spec
     Inv-loop
     μ-loop
+    looks-requires
     single-requires
     size-requires
     loop-holds
-    is-paired-within-requires
+    is-paired-among-requires
     add-toggle
     toggle-requires
     add-y

@@ -1,15 +1,16 @@
 -- Small facts that pin the definitions down where document 01 says that it is easy to get them wrong. Nothing builds on them.
-use Prim.Native.Nat.{ℕ}
-use mathlib.Core.Path.{_≡_, refl, sym, _∙_}
-use mathlib.Core.Bool.{true, false, true≢false}
+use Prim.Native.Nat.{ℕ, zero, suc, _<_}
+use mathlib.Core.Path.{_≡_, refl, ap, sym, _∙_}
+use mathlib.Core.Bool.{true, false, not, _||_, true≢false}
 use mathlib.Core.List.{List, [], _∷_}
 use native.Mathlib.Omega.{arith}
-use Rattle.meaning.specs.Sets.{_⊕_, Set, Slots, listed, anyOf, twoOf, some, count, shared, wholeNumber}
-use Rattle.meaning.specs.Task.{Operator, names, applied}
+use lib.ListN.{length}
+use Rattle.meaning.specs.Sets.{_⊕_, Set, Slots, listed, anyOf, allOf, twoOf, some, every, count, shared, wholeNumber}
+use Rattle.meaning.specs.Task.{Operator, State, names, applies, applied, value, size}
 use Rattle.meaning.specs.Feature.{sumOf, pairsOf, atoms, features, single, pairStart, double, both, trueIn, parity}
-use Rattle.meaning.specs.Pair.{paired, possible, clashing, stuck, idle, clashingAfter, uncovered, closed}
+use Rattle.meaning.specs.Pair.{paired, possible, clashing, stuck, idle, clashingAfter, uncovered, closed, holds}
 use Rattle.meaning.specs.Slot.{Reduced}
-use Rattle.meaning.specs.Weight.{Allows}
+use Rattle.meaning.specs.Weight.{Considered, Keeps, Allows}
 use Rattle.meaning.specs.Grid.{made, used, kept, effect}
 use Rattle.meaning.specs.Number.{Padded, Endless, Range, LeftOver}
 use Rattle.meaning.specs.Number.{got, fault, groups, number}
@@ -18,8 +19,19 @@ use Rattle.meaning.specs.Workspace.{has}
 use Rattle.meaning.specs.Answer.{fine, faulty, entriesJudged}
 use Rattle.meaning.specs.Bay.{neighbours}
 
+-- States, value by value.
+pub state-none : State [] []
+state-none = record { full = refl; values = λ i l. absurd (omega arith) }
+
+pub state-more : (d x : ℕ) (ds xs : List ℕ) → x < d → State ds xs → State (d ∷ ds) (x ∷ xs)
+state-more d x ds xs l h = record { full = ap suc (h .full); values = at }
+  where
+    at : (i : ℕ) → i < length (d ∷ ds) → value (x ∷ xs) i < size (d ∷ ds) i
+    at zero k = l
+    at (suc i) k = h .values i (omega arith)
+
 -- Two variables of size 2, and the operator (0: 0 to 1) alone.
-abbrev pairOfTwo : List ℕ
+abbrev pub pairOfTwo : List ℕ
 pairOfTwo = 2 ∷ 2 ∷ []
 
 abbrev lift : Operator
@@ -44,13 +56,83 @@ impossible-beside-before : possible pairOfTwo (listed (5 ∷ [])) lift 1 1 ≡ f
 unfolding possible paired both double pairStart atoms sumOf listed anyOf
 impossible-beside-before = refl
 
--- With both values of variable 1 so paired lift is idle, and an idle operator has no condition.
+-- With both values of variable 1 so paired lift is idle.
 lift-idle : idle pairOfTwo (listed (4 ∷ 5 ∷ [])) lift ≡ true
 unfolding idle clashing stuck possible paired both double pairStart atoms sumOf listed anyOf twoOf some names
 lift-idle = refl
 
-idle-allows : (weights : Set) → Allows pairOfTwo (listed (4 ∷ 5 ∷ [])) weights lift
-idle-allows weights busy = absurd (true≢false (sym lift-idle ∙ busy))
+-- Three variables of size 2; the listed pairs 15 and 16 allow the variables 1 and 2 equal values only, and the weights are {7, 11}.
+abbrev threeOfTwo : List ℕ
+threeOfTwo = 2 ∷ 2 ∷ 2 ∷ []
+
+abbrev unlike : Set
+unlike = listed (15 ∷ 16 ∷ [])
+
+abbrev besideOnes : Set
+besideOnes = listed (7 ∷ 11 ∷ [])
+
+-- The list is closed under lift, which is not idle, and 000 holds no listed pair.
+unlike-fine : (closed threeOfTwo unlike lift ≡ true) × (idle threeOfTwo unlike lift ≡ false) × (holds threeOfTwo unlike (0 ∷ 0 ∷ 0 ∷ []) ≡ false)
+unfolding closed idle clashing stuck clashingAfter uncovered possible paired both double pairStart atoms sumOf listed anyOf twoOf some names holds
+unlike-fine = (refl, refl, refl)
+
+-- "Two unnamed values may be paired with each other there": 001 holds a listed pair and counts.
+unlike-held : holds threeOfTwo unlike (0 ∷ 0 ∷ 1 ∷ []) ≡ true
+unfolding holds some paired both double pairStart atoms sumOf listed anyOf
+unlike-held = refl
+
+unlike-considered : Considered threeOfTwo unlike lift (0 ∷ 0 ∷ 1 ∷ [])
+unfolding applies allOf names holds some possible paired both double pairStart atoms sumOf listed anyOf
+unlike-considered = record {
+  is-state = state-more 2 0 _ _ (omega arith) (state-more 2 0 _ _ (omega arith) (state-more 2 1 _ _ (omega arith) state-none));
+  has-before = refl;
+  elsewhere = possible-there;
+}
+  where
+    possible-there : (u : ℕ) → u < 3 → names lift u ≡ false → possible threeOfTwo unlike lift u (value (0 ∷ 0 ∷ 1 ∷ []) u) ≡ true
+    possible-there zero l e = absurd (true≢false e)
+    possible-there (suc zero) l e = refl
+    possible-there (suc (suc zero)) l e = refl
+    possible-there (suc (suc (suc u))) l e = absurd (omega arith)
+
+-- From each state that holds no listed pair these weights keep parity under lift; still they do not keep it.
+unlike-kept-elsewhere : every 2 (λ x. every 2 (λ y. holds threeOfTwo unlike (0 ∷ x ∷ y ∷ [])
+    || not (parity threeOfTwo besideOnes (applied lift (0 ∷ x ∷ y ∷ [])) ⊕ parity threeOfTwo besideOnes (0 ∷ x ∷ y ∷ [])))) ≡ true
+unfolding every holds paired both parity shared count trueIn some features atoms pairsOf sumOf single double pairStart listed anyOf applied
+unlike-kept-elsewhere = refl
+
+unlike-breaks : Keeps threeOfTwo unlike besideOnes lift → ⊥
+unfolding parity shared count trueIn some features atoms pairsOf sumOf single double pairStart listed anyOf applied
+unlike-breaks keeps = true≢false (sym (keeps (0 ∷ 0 ∷ 1 ∷ []) unlike-considered))
+
+-- The operator (0: 0 to 1; 1: 0 to 0) is idle where its two before atoms are paired, by feature 4; and an idle operator has no condition.
+abbrev liftBeside : Operator
+liftBeside = record { variable = 0; before = 0; after = 1 } ∷ record { variable = 1; before = 0; after = 0 } ∷ []
+
+clash-idle : idle pairOfTwo (listed (4 ∷ [])) liftBeside ≡ true
+unfolding idle clashing paired both double pairStart atoms sumOf listed anyOf twoOf
+clash-idle = refl
+
+clash-allows : (weights : Set) → Allows pairOfTwo (listed (4 ∷ [])) weights liftBeside
+clash-allows weights busy = absurd (true≢false (sym clash-idle ∙ busy))
+
+-- That says something: its condition would speak of 00, and {0} does not keep parity from there.
+clash-considered : Considered pairOfTwo (listed (4 ∷ [])) liftBeside (0 ∷ 0 ∷ [])
+unfolding applies allOf names anyOf
+clash-considered = record {
+  is-state = state-more 2 0 _ _ (omega arith) (state-more 2 0 _ _ (omega arith) state-none);
+  has-before = refl;
+  elsewhere = all-named;
+}
+  where
+    all-named : (u : ℕ) → u < 2 → names liftBeside u ≡ false → possible pairOfTwo (listed (4 ∷ [])) liftBeside u (value (0 ∷ 0 ∷ []) u) ≡ true
+    all-named zero l e = absurd (true≢false e)
+    all-named (suc zero) l e = absurd (true≢false e)
+    all-named (suc (suc u)) l e = absurd (omega arith)
+
+clash-breaks : Keeps pairOfTwo (listed (4 ∷ [])) (listed (0 ∷ [])) liftBeside → ⊥
+unfolding parity shared count trueIn some features atoms pairsOf sumOf single double pairStart listed anyOf applied
+clash-breaks keeps = true≢false (sym (keeps (0 ∷ 0 ∷ []) clash-considered))
 
 -- Slots 1 and 2 of two rows of two are one apart and no neighbours; 0 and 1 are, and 0 and 2.
 row-end : neighbours 2 1 2 ≡ false
@@ -91,10 +173,15 @@ x-slower : (double pairOfTwo 0 0 1 1 ≡ 5) × (double pairOfTwo 0 1 1 0 ≡ 6)
 unfolding double pairStart atoms sumOf
 x-slower = (refl, refl)
 
--- A range before an order, in a file and in a record: the variable 2 of two is out of range, and does not increase either.
+-- A range before an order. In a record: the variable 2 of two is out of range, and does not increase either.
 range-first : entriesJudged pairOfTwo 3 (record { variable = 2; before = 0; after = 0 } ∷ []) fine ≡ faulty Range
 unfolding entriesJudged
 range-first = refl
+
+-- In a file: after the pair feature 5, at place 9, comes 3, which is no pair feature and does not increase either.
+range-first-in-files : judgedTask (2 ∷ 2 ∷ 2 ∷ 0 ∷ 0 ∷ 0 ∷ 1 ∷ 2 ∷ 5 ∷ 3 ∷ 0 ∷ []) ≡ fault Range 9
+unfolding judgedTask taskOf header sizesOf valuesOf featureList featuresOf item judge rising number groups features atoms pairsOf sumOf
+range-first-in-files = refl
 
 -- 5 before 6: a start that holds a listed pair, and a byte left over.
 left-over-first : judgedTask (2 ∷ 2 ∷ 2 ∷ 1 ∷ 1 ∷ 0 ∷ 0 ∷ 1 ∷ 7 ∷ 0 ∷ 0 ∷ []) ≡ fault LeftOver 10

@@ -14,3 +14,4 @@ pub mod Bay
 pub mod Line
 pub mod History
 pub mod Facts
+pub mod FactsOfA

@@ -8,7 +8,7 @@ use native.Mathlib.Omega.{arith}
 use lib.Dec.{eqb, ltb}
 use borrow.Author.Tests.{ltb-true, ltb-false, ne-eqb}
 use Rattle.meaning.specs.Sets.{_⊕_, Set, flat}
-use Rattle.theory.specs.Truth.{on, off, test, xor-assoc, xor-false}
+use Rattle.theory.specs.Truth.{on, off, test, xors, xor-assoc, xor-false}
 use Rattle.theory.specs.Flat.{in-two, flat-in}
 use Rattle.theory.specs.Parity.{par, dot, dot-xor, dot-one, dot-none, dot-comm}
 
@@ -16,6 +16,9 @@ use Rattle.theory.specs.Parity.{par, dot, dot-xor, dot-one, dot-none, do
 unfoldable pub xorOf : {A : Type 0} → (A → Bool) → List A → Bool
 xorOf p [] = false
 xorOf p (a ∷ l) = p a ⊕ xorOf p l
+
+xor-swap : (a b c d : Bool) → (a ⊕ b) ⊕ (c ⊕ d) ≡ (a ⊕ c) ⊕ (b ⊕ d)
+xor-swap a b c d = simp xors
 
 -- A number is in the set if the list has it an odd number of times.
 unfoldable pub toggles : List ℕ → Set
@@ -31,6 +34,11 @@ module _ {A : Type 0} where
   unfolding xorOf
   xor-none p [] h = refl
   xor-none p (x ∷ xs) h = ap₂ _⊕_ (h x (here refl)) (xor-none p xs (λ a m. h a (there m)))
+
+  pub xor-plus : (p q : A → Bool) (l : List A) → xorOf (λ a. p a ⊕ q a) l ≡ xorOf p l ⊕ xorOf q l
+  unfolding xorOf
+  xor-plus p q [] = refl
+  xor-plus p q (x ∷ xs) = ap (_⊕_ (p x ⊕ q x)) (xor-plus p q xs) ∙ xor-swap (p x) (q x) (xorOf p xs) (xorOf q xs)
 
   pub xor-two : (p : A → Bool) (a b : A) → xorOf p (a ∷ b ∷ []) ≡ p a ⊕ p b
   unfolding xorOf

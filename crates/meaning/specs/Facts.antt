@@ -1,4 +1,4 @@
--- Small facts that pin the definitions down where document 01 says that it is easy to get them wrong. Nothing builds on them.
+-- Small facts that pin the definitions down where document 01 says that it is easy to get them wrong. Nothing else builds on them.
 use Prim.Native.Nat.{ℕ, zero, suc, _<_}
 use mathlib.Core.Path.{_≡_, refl, ap, sym, _∙_}
 use mathlib.Core.Bool.{true, false, not, _||_, true≢false}

@@ -17,9 +17,6 @@ unfoldable pub xorOf : {A : Type 0} → (A → Bool) → List A → Bool
 xorOf p [] = false
 xorOf p (a ∷ l) = p a ⊕ xorOf p l
 
-xor-swap : (a b c d : Bool) → (a ⊕ b) ⊕ (c ⊕ d) ≡ (a ⊕ c) ⊕ (b ⊕ d)
-xor-swap a b c d = simp xors
-
 -- A number is in the set if the list has it an odd number of times.
 unfoldable pub toggles : List ℕ → Set
 toggles l f = xorOf (eqb f) l
@@ -38,7 +35,7 @@ module _ {A : Type 0} where
   pub xor-plus : (p q : A → Bool) (l : List A) → xorOf (λ a. p a ⊕ q a) l ≡ xorOf p l ⊕ xorOf q l
   unfolding xorOf
   xor-plus p q [] = refl
-  xor-plus p q (x ∷ xs) = ap (_⊕_ (p x ⊕ q x)) (xor-plus p q xs) ∙ xor-swap (p x) (q x) (xorOf p xs) (xorOf q xs)
+  xor-plus p q (x ∷ xs) = rw (xor-plus p q xs) (simp xors)
 
   pub xor-two : (p : A → Bool) (a b : A) → xorOf p (a ∷ b ∷ []) ≡ p a ⊕ p b
   unfolding xorOf

@@ -5,4 +5,3 @@ pub mod Labels
 pub mod Sides
 pub mod Files
 pub mod Outcomes
-pub mod Built

@@ -1,5 +1,5 @@
 -- The words of a content: how many there are, where each part is read back, that they fix the content, when a workspace is well formed,
--- what a changed part leaves as it was, and that opening and accepted edits leave a proper content.
+-- what a changed part is written over, and that opening and accepted edits leave a proper content.
 use Prim.Native.Nat.{ℕ, zero, suc, _+_, _-_, _*_, _<_, _≤_, min}
 use mathlib.Core.Path.{_≡_, refl, ap, ap₂, sym, _∙_, subst}
 use mathlib.Core.Logic.{_⊎_, inl, inr}
@@ -94,6 +94,9 @@ pub length-words : (c : Content) → length (c .start) ≡ variablesIn c → len
 unfolding wordsOf
 length-words c s g = rw (length-append (c .sizes) _, length-append (c .start) _, length-append (c .goal) _, length-append (packed (featuresIn c) (c .pairs)) _)
     (omega (arith, length-packed (featuresIn c) (c .pairs), length-slots (featuresIn c) (c .slots)))
+
+pub words-long : (c : Content) (further : List ℕ) → Proper c → length (wordsOf c ++ further) ≡ wordsDue (variablesIn c) (featuresIn c) + length further
+words-long c further p = length-append (wordsOf c) further ∙ rw (length-words c (p .start .full) (p .goal .full))
 
 module _ (c : Content) (further : List ℕ) where
   -- What stands from each part on.
@@ -278,17 +281,14 @@ module _ (ws : List ℕ) where
     pub formed-proper : Proper (contentIn ws)
     formed-proper = subst Proper (sym formed-content) (formed .proper)
 
+    pub formed-sizes : sizesIn ws ≡ formed .content .sizes
+    formed-sizes = ap (λ d. d .sizes) formed-content
+
+    pub formed-count : getD ws 0 0 ≡ variablesIn (formed .content)
+    formed-count = ap (λ l. getD l 0 0) (formed .words) ∙ read-count (formed .content) (formed .further)
+
     pub formed-due : wordsDue (getD ws 0 0) (features (sizesIn ws)) ≤ length ws
-    formed-due = rw (count, sizes) (omega (arith, ap length (formed .words), length-append (wordsOf c) (formed .further), length-words c (formed .proper .start .full) (formed .proper .goal .full)))
-      where
-        c : Content
-        c = formed .content
-
-        count : getD ws 0 0 ≡ variablesIn c
-        count = ap (λ l. getD l 0 0) (formed .words) ∙ read-count c (formed .further)
-
-        sizes : sizesIn ws ≡ c .sizes
-        sizes = ap (λ d. d .sizes) formed-content
+    formed-due = rw (formed-count, formed-sizes) (omega (arith, ap length (formed .words), words-long (formed .content) (formed .further) (formed .proper)))
 
 -- ---- a changed part
 
@@ -325,23 +325,6 @@ module _ (c : Content) (further : List ℕ) (s : length (c .start) ≡ variables
 
         long : length front ≡ slotsAt (variablesIn c) (featuresIn c)
         long = rw (length-append (c .sizes) _, length-append (c .start) _, length-append (c .goal) _) (omega (arith, length-packed (featuresIn c) (c .pairs)))
-
-    words-long : length (wordsOf c ++ further) ≡ wordsDue (variablesIn c) (featuresIn c) + length further
-    words-long = length-append (wordsOf c) further ∙ rw (length-words c s g)
-
-    -- Every word outside the changed part is as it was.
-    pub start-outside : (values : List ℕ) (k : ℕ) → length values ≡ variablesIn c → (k < startAt (variablesIn c)) ⊎ (goalAt (variablesIn c) ≤ k)
-        → getD (wordsOf (withStart c values) ++ further) k 0 ≡ getD (wordsOf c ++ further) k 0
-    start-outside values k e o = rw (start-changed values) (written-outside (wordsOf c ++ further) values (startAt (variablesIn c)) (variablesIn c) k 0 e (omega (arith, words-long)) o)
-
-    pub goal-outside : (values : List ℕ) (k : ℕ) → length values ≡ variablesIn c → (k < goalAt (variablesIn c)) ⊎ (pairsAt (variablesIn c) ≤ k)
-        → getD (wordsOf (withGoal c values) ++ further) k 0 ≡ getD (wordsOf c ++ further) k 0
-    goal-outside values k e o = rw (goal-changed values) (written-outside (wordsOf c ++ further) values (goalAt (variablesIn c)) (variablesIn c) k 0 e (omega (arith, words-long)) o)
-
-    pub slots-outside : (slots : Slots) (k : ℕ) → (k < slotsAt (variablesIn c) (featuresIn c)) ⊎ (wordsDue (variablesIn c) (featuresIn c) ≤ k)
-        → getD (wordsOf (withSlots c slots) ++ further) k 0 ≡ getD (wordsOf c ++ further) k 0
-    slots-outside slots k o = rw (slots-changed slots) (written-outside (wordsOf c ++ further) (slotWords (featuresIn c) slots) (slotsAt (variablesIn c) (featuresIn c))
-        (featuresIn c * wordsFor (featuresIn c)) k 0 (length-slots (featuresIn c) slots) (omega (arith, words-long)) o)
 
 -- ---- an opened task, and an accepted edit
 

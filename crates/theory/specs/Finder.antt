@@ -1,12 +1,13 @@
 -- The finder: the least weights from reduced slots, and when there are none; for a task's workspace these are the task's own.
-use Prim.Native.Nat.{ℕ, _<_}
-use mathlib.Core.Path.{_≡_, refl, ap, ap₂, sym, _∙_, subst}
+use Prim.Native.Nat.{ℕ, _<_, _≤_}
+use mathlib.Core.Path.{_≡_, refl, ap, ap₂, sym, _∙_}
 use mathlib.Core.Logic.{_↔_, inl, inr}
 use mathlib.Core.Bool.{true, false}
 use mathlib.Core.List.{List, _++_}
 use native.Mathlib.Omega.{arith}
 use lib.Dec.{ltb}
 use lib.ListN.{length, drop}
+use borrow.Author.Tests.{ltb-false, le-ltb}
 use Rattle.meaning.specs.Sets.{_⊕_, Set, listed}
 use Rattle.meaning.specs.Task.{Task, value}
 use Rattle.meaning.specs.Feature.{features, trueIn, parity}
@@ -21,7 +22,7 @@ use Rattle.theory.specs.Slots.{wit}
 use Rattle.theory.specs.Reduce.{red, no-weights, weights-in, weights-odd}
 use Rattle.theory.specs.Whole.{weights-least}
 use Rattle.theory.specs.Conditions.{stored-meets}
-use Rattle.theory.specs.Histories.{StandsFor, stands-content}
+use Rattle.theory.specs.Histories.{StandsFor, stands-ranged, stands-finds}
 
 -- The features that are true in one of two states and not in the other.
 unfoldable pub difference : List ℕ → List ℕ → List ℕ → Set
@@ -62,30 +63,43 @@ module _ (c : Content) (R : Reduced (features (c .sizes)) (c .slots)) where
 module _ (T : Task) (workspace : List ℕ) (S : StandsFor T workspace) where
   pub separates-in : (w : Set) → SeparatesIn (contentOf T (S .slots)) w ↔ Separates T w
   separates-in w =
-      let meets = stored-meets (T .sizes) (listed (T .pairs)) (T .operators) (S .slots) (S .ranged) (S .are) w in
+      let meets = stored-meets (T .sizes) (listed (T .pairs)) (T .operators) (S .slots) (stands-ranged T workspace S) (S .are) w in
       (λ s. record { ends = s .ends; keeps = meets .0 (s .keeps) }, λ s. record { ends = s .ends; keeps = meets .1 (s .keeps) })
 
-  found : (room : List ℕ) (outcome : Outcome Finding) (result : Finding) → outcome .answer ≡ done result → Finds workspace room outcome → FindsIn (contentOf T (S .slots)) room outcome
-  found room outcome result done-so (inl h) = absurd (let z : _≡_ {A = ℕ} 0 1 = cc (done-so, ap (λ o. o .answer) (h .1)) in omega arith)
-  found room outcome result done-so (inr (formed, h)) = elim (test (ltb (length room) (wordsFor (features (T .sizes))))) [
+  -- Where the finder does not refuse, it was lent W words or more.
+  found : (room : List ℕ) (outcome : Outcome Finding) (result : Finding) → outcome .answer ≡ done result → Finds workspace room outcome
+      → (wordsFor (features (T .sizes)) ≤ length room) × FindsIn (contentOf T (S .slots)) room outcome
+  found room outcome result done-so h = elim (test (ltb (length room) (wordsFor (features (T .sizes))))) [
     | on p ↦ let q : outcome ≡ refuses Small room = rw p at there in absurd (let z : _≡_ {A = ℕ} 0 1 = cc (done-so, ap (λ (o : Outcome Finding). o .answer) q) in omega arith)
-    | off p ↦ rw p at there
+    | off p ↦ (ltb-false _ _ p, rw p at there)
   ]
     where
       there : FindsBy (contentOf T (S .slots)) room outcome
-      there = subst (λ c. FindsBy c room outcome) (stands-content T workspace S formed) h
+      there = stands-finds T workspace S room outcome .0 h
 
-  -- Demand 2. The finder says "none" only when no weights separate,
-  pub none-right : (room lent : List ℕ) → Finds workspace room (record { answer = done none; lent = lent }) → (w : Set) → Separates T w → ⊥
-  none-right room lent h w s = elim (found room (record { answer = done none; lent = lent }) none refl h) [
-    | inl k ↦ k .0 w (separates-in w .1 s)
-    | inr k ↦ let z : _≡_ {A = ℕ} 0 1 = cc (ap (λ (o : Outcome Finding). o .answer) (k .2)) in omega arith
-  ]
+  -- The finder says "none" exactly when no weights separate, and then leaves the room as it was,
+  pub none-right : (room lent : List ℕ) → Finds workspace room (record { answer = done none; lent = lent })
+      ↔ ((wordsFor (features (T .sizes)) ≤ length room) × ((w : Set) → Separates T w → ⊥) × (lent ≡ room))
+  none-right room lent = (
+    λ h. let (long, k) = found room (record { answer = done none; lent = lent }) none refl h in elim k [
+      | inl j ↦ (long, λ w s. j .0 w (separates-in w .1 s), ap (λ (o : Outcome Finding). o .lent) (j .1))
+      | inr j ↦ absurd (let z : _≡_ {A = ℕ} 0 1 = cc (ap (λ (o : Outcome Finding). o .answer) (j .2)) in omega arith)
+    ],
+    λ h. stands-finds T workspace S room (record { answer = done none; lent = lent }) .1
+        (rw (le-ltb (length room) (wordsFor (features (T .sizes))) (h .0)) (inl (λ w s. h .1 w (separates-in w .0 s), ap (λ l. record { answer = done none; lent = l }) (h .2)))),
+  )
 
-  -- and otherwise gives the least that do.
+  -- finds some where some do,
+  pub some-right : (room : List ℕ) (outcome : Outcome Finding) (w : Set) → Separates T w → wordsFor (features (T .sizes)) ≤ length room
+      → Finds workspace room outcome → outcome .answer ≡ done separated
+  some-right room outcome w s long h =
+      let k : FindsIn (contentOf T (S .slots)) room outcome = rw (le-ltb (length room) (wordsFor (features (T .sizes))) long) at (stands-finds T workspace S room outcome .0 h) in
+      elim k [ inl j ↦ absurd (j .0 w (separates-in w .1 s)) | inr j ↦ ap (λ (o : Outcome Finding). o .answer) (j .2) ]
+
+  -- and gives the least that do.
   pub found-right : (room lent : List ℕ) → Finds workspace room (record { answer = done separated; lent = lent })
       → (w : Set) × LeastOf (features (T .sizes)) (Separates T) w × (lent ≡ packed (features (T .sizes)) w ++ drop (length (packed (features (T .sizes)) w)) room)
-  found-right room lent h = elim (found room (record { answer = done separated; lent = lent }) separated refl h) [
+  found-right room lent h = elim (found room (record { answer = done separated; lent = lent }) separated refl h .1) [
     | inl k ↦ absurd (let z : _≡_ {A = ℕ} 0 1 = cc (ap (λ (o : Outcome Finding). o .answer) (k .1)) in omega arith)
     | inr k ↦ (k .0, record { good = separates-in (k .0) .0 (k .1 .good); least = λ w s. k .1 .least w (separates-in w .1 s) }, ap (λ (o : Outcome Finding). o .lent) (k .2))
   ]

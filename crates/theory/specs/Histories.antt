@@ -1,39 +1,97 @@
--- Demand 3: a workspace opened from a task and changed by edits holds the words that a fresh opening would, and gives its answers.
-use Prim.Native.Nat.{ℕ}
-use mathlib.Core.Path.{_≡_, refl, ap, _∙_, subst}
-use mathlib.Core.Logic.{inl, inr}
-use mathlib.Core.Bool.{false, cond}
-use mathlib.Core.List.{List, [], _∷_, _++_, List·Memᴰ·append-cases as append-cases, List·Memᴰ·eq-of-singleton as eq-of-singleton}
+-- Demand 3: a workspace opened from a task and changed by edits stands for the task after these edits, and so for every task alike; such workspaces
+-- have the words that a fresh opening would leave, and its answers.
+use Prim.Native.Nat.{ℕ, _≤_}
+use mathlib.Core.Path.{_≡_, refl, ap, sym, _∙_, subst}
+use mathlib.Core.Logic.{_↔_, inl, inr, Iff·rfl}
+use mathlib.Core.Bool.{true, false, cond}
+use mathlib.Core.List.{List, [], _∷_, _++_, List·Memᴰ as In, List·Memᴰ·append-cases as append-cases, List·Memᴰ·eq-of-singleton as eq-of-singleton}
 use native.Mathlib.Omega.{arith}
 use lib.Dec.{ltb}
-use lib.ListN.{length, take, drop}
+use lib.ListN.{length, take, drop, take-append-drop}
 use lib.Seq.{take-at}
+use borrow.Author.Tests.{le-ltb}
 use Rattle.meaning.specs.Sets.{Slots, listed}
-use Rattle.meaning.specs.Task.{Operator, Task, State, Entries}
+use Rattle.meaning.specs.Task.{Operator, Task, State, IsOperator}
 use Rattle.meaning.specs.Feature.{features}
-use Rattle.meaning.specs.Pair.{holds}
-use Rattle.meaning.specs.Slot.{SlotsOf, Stored}
-use Rattle.meaning.specs.Weight.{Allows, Meets}
+use Rattle.meaning.specs.Pair.{closed, holds}
+use Rattle.meaning.specs.Slot.{SlotsOf}
+use Rattle.meaning.specs.Weight.{Meets}
 use Rattle.meaning.specs.Number.{Small, refusal, got}
-use Rattle.meaning.specs.File.{judgedTask}
+use Rattle.meaning.specs.File.{judgedTask, Acceptable}
 use Rattle.meaning.specs.Workspace.{wordsOf, wordsDue, Proper, WellFormed, contentOf}
 use Rattle.meaning.specs.Answer.{Answer, done, refused, Outcome, refuses, writes, Edit, addOperator, replaceStart, replaceGoal, operatorIn, Judged, fine, faulty, editJudged, EditsIn, Edits, Opens, Finding, FindsBy, Finds}
 use Rattle.meaning.specs.History.{Event, Edited, startAfter, goalAfter, movesAfter, taskAfter, SameTask}
 use Rattle.theory.specs.Truth.{on, off, test}
-use Rattle.theory.specs.SlotsOf.{slots-only}
+use Rattle.theory.specs.SlotsOf.{slots-along, slots-only}
 use Rattle.theory.specs.Conditions.{Ranged, meets-same, slots-more}
 use Rattle.theory.specs.Contents.{formed-only, length-words, opened-proper}
 use Rattle.theory.specs.Accepted.{accepted}
-use Rattle.theory.specs.Operands.{add-fine, start-fine, goal-fine}
+use Rattle.theory.specs.Operands.{add-fine, add-operator, start-fine, goal-fine}
 
--- A workspace stands for a task: it begins with the words of the task's content, and its slots are those of the task's operators.
+-- ---- tasks that keep every rule, changed by an edit or listed in another order
+
+-- One more operator, another start, another goal.
+abbrev withOperator : Task → Operator → Task
+withOperator T o = record { sizes = T .sizes; start = T .start; goal = T .goal; pairs = T .pairs; operators = T .operators ++ (o ∷ []) }
+
+abbrev withStart : Task → List ℕ → Task
+withStart T values = record { sizes = T .sizes; start = values; goal = T .goal; pairs = T .pairs; operators = T .operators }
+
+abbrev withGoal : Task → List ℕ → Task
+withGoal T values = record { sizes = T .sizes; start = T .start; goal = values; pairs = T .pairs; operators = T .operators }
+
+module _ (T : Task) (a : Acceptable T) where
+  -- What holds of every operator and of one more.
+  one-more : (P : Operator → Type 0) (o : Operator) → ((p : Operator) → In p (T .operators) → P p) → P o → (p : Operator) → In p (T .operators ++ (o ∷ [])) → P p
+  one-more P o each own p m = elim (append-cases (T .operators) m) [ inl k ↦ each p k | inr k ↦ rw (eq-of-singleton k) own ]
+
+  operator-acceptable : (o : Operator) → IsOperator (T .sizes) o → closed (T .sizes) (listed (T .pairs)) o ≡ true → Acceptable (withOperator T o)
+  operator-acceptable o good shut = record {
+    limits = a .limits;
+    start = a .start;
+    goal = a .goal;
+    pairs = a .pairs;
+    operators = one-more (IsOperator (T .sizes)) o (a .operators) good;
+    free = a .free;
+    closed-under = one-more (λ p. closed (T .sizes) (listed (T .pairs)) p ≡ true) o (a .closed-under) shut;
+  }
+
+  start-acceptable : (values : List ℕ) → State (T .sizes) values → holds (T .sizes) (listed (T .pairs)) values ≡ false → Acceptable (withStart T values)
+  start-acceptable values state free = record {
+    limits = a .limits;
+    start = state;
+    goal = a .goal;
+    pairs = a .pairs;
+    operators = a .operators;
+    free = free;
+    closed-under = a .closed-under;
+  }
+
+  goal-acceptable : (values : List ℕ) → State (T .sizes) values → Acceptable (withGoal T values)
+  goal-acceptable values state = record {
+    limits = a .limits;
+    start = a .start;
+    goal = state;
+    pairs = a .pairs;
+    operators = a .operators;
+    free = a .free;
+    closed-under = a .closed-under;
+  }
+
+-- ---- what a workspace stands for
+
+-- A workspace stands for a task that keeps every rule: it begins with the words of the task's content, and its slots are those of the task's
+-- operators.
 pub record StandsFor (T : Task) (workspace : List ℕ) : Type 0 where
   pub slots : Slots
   pub further : List ℕ
   pub words : workspace ≡ wordsOf (contentOf T slots) ++ further
-  pub proper : Proper (contentOf T slots)
-  pub ranged : Ranged (T .sizes) (listed (T .pairs)) (T .operators)
+  pub acceptable : Acceptable T
   pub are : SlotsOf (features (T .sizes)) (Meets (T .sizes) (listed (T .pairs)) (T .operators)) slots
+
+-- How many words are due for a task.
+abbrev pub dueFor : Task → ℕ
+dueFor T = wordsDue (length (T .sizes)) (features (T .sizes))
 
 -- The task after one edit.
 abbrev pub oneAfter : Task → Edit → Answer (Unit {0}) → Task
@@ -52,66 +110,47 @@ refused-after T (replaceStart values) k = refl
 refused-after T (replaceGoal values) k = refl
 
 module _ (T : Task) (workspace : List ℕ) (S : StandsFor T workspace) where
-  -- An accepted edit, by what it makes of the content.
-  add-stands : (o : Operator) (slots : Slots) (next : List ℕ) (further : List ℕ) → Entries (T .sizes) 0 o
-      → SlotsOf (features (T .sizes))
-      (λ w. Stored (features (T .sizes)) (S .slots) w × Allows (T .sizes) (listed (T .pairs)) w o)
-      slots
-      → next ≡ wordsOf (contentOf T slots) ++ further
-      → StandsFor (record { sizes = T .sizes; start = T .start; goal = T .goal; pairs = T .pairs; operators = T .operators ++ (o ∷ []) }) next
-  add-stands o slots next further entries D q = record {
-    slots = slots;
-    further = further;
-    words = q;
-    proper = record {
-      limits = S .proper .limits;
-      start = S .proper .start;
-      goal = S .proper .goal;
-      pairs = S .proper .pairs;
-      free = S .proper .free;
-      slots = D .shape;
-    };
-    ranged = λ p m. elim (append-cases (T .operators) m) [ inl k ↦ S .ranged p k | inr k ↦ rw (eq-of-singleton k) entries ];
-    are = slots-more (T .sizes) (listed (T .pairs)) (T .operators) o (S .slots) slots (S .ranged) (S .are) D;
-  }
+  pub stands-ranged : Ranged (T .sizes) (listed (T .pairs)) (T .operators)
+  stands-ranged o m = S .acceptable .operators o m .entries
 
-  start-stands : (values next further : List ℕ) → State (T .sizes) values → holds (T .sizes) (listed (T .pairs)) values ≡ false
-      → next ≡ wordsOf (record { sizes = T .sizes; start = values; goal = T .goal; pairs = listed (T .pairs); slots = S .slots }) ++ further
-      → StandsFor (record { sizes = T .sizes; start = values; goal = T .goal; pairs = T .pairs; operators = T .operators }) next
-  start-stands values next further state free q = record {
+  pub stands-proper : Proper (contentOf T (S .slots))
+  stands-proper = opened-proper T (S .slots) (S .acceptable) (S .are .shape)
+
+  unfoldable pub stands-formed : WellFormed workspace
+  stands-formed = record { content = contentOf T (S .slots); further = S .further; words = S .words; proper = stands-proper }
+
+  -- A workspace that stands for a task has that task's content.
+  pub stands-content : (formed : WellFormed workspace) → formed .content ≡ contentOf T (S .slots)
+  unfolding stands-formed
+  stands-content formed = formed-only formed stands-formed
+
+  -- It begins with the words of that content.
+  pub stands-words : take (dueFor T) workspace ≡ wordsOf (contentOf T (S .slots))
+  stands-words = rw (S .words) (take-at (wordsOf (contentOf T (S .slots))) (S .further) _ (length-words (contentOf T (S .slots)) (S .acceptable .start .full) (S .acceptable .goal .full)))
+
+  -- So do all words that begin with those that are due.
+  pub begins-stands : (other : List ℕ) → take (dueFor T) other ≡ take (dueFor T) workspace → StandsFor T other
+  begins-stands other same = record {
     slots = S .slots;
-    further = further;
-    words = q;
-    proper = record {
-      limits = S .proper .limits;
-      start = state;
-      goal = S .proper .goal;
-      pairs = S .proper .pairs;
-      free = free;
-      slots = S .proper .slots;
-    };
-    ranged = S .ranged;
+    further = drop (dueFor T) other;
+    words = sym (take-append-drop (dueFor T) other) ∙ ap (λ l. l ++ drop (dueFor T) other) (same ∙ stands-words);
+    acceptable = S .acceptable;
     are = S .are;
   }
 
-  goal-stands : (values next further : List ℕ) → State (T .sizes) values
-      → next ≡ wordsOf (record { sizes = T .sizes; start = T .start; goal = values; pairs = listed (T .pairs); slots = S .slots }) ++ further
-      → StandsFor (record { sizes = T .sizes; start = T .start; goal = values; pairs = T .pairs; operators = T .operators }) next
-  goal-stands values next further state q = record {
-    slots = S .slots;
-    further = further;
-    words = q;
-    proper = record {
-      limits = S .proper .limits;
-      start = S .proper .start;
-      goal = state;
-      pairs = S .proper .pairs;
-      free = S .proper .free;
-      slots = S .proper .slots;
-    };
-    ranged = S .ranged;
-    are = S .are;
-  }
+  -- The finder goes by that content.
+  pub stands-finds : (room : List ℕ) (outcome : Outcome Finding) → Finds workspace room outcome ↔ FindsBy (contentOf T (S .slots)) room outcome
+  unfolding stands-formed
+  stands-finds room outcome = (
+    λ h. elim h [ inl k ↦ absurd (k .0 stands-formed) | inr (formed, k) ↦ subst (λ c. FindsBy c room outcome) (stands-content formed) k ],
+    λ h. inr (stands-formed, h),
+  )
+
+  -- A fresh opening of a file of that task leaves the same words.
+  pub stands-opens : (file : List ℕ) (next : ℕ) → judgedTask file ≡ got T next → (room : List ℕ) → dueFor T ≤ length room
+      → Opens file room (writes (dueFor T) (take (dueFor T) workspace) room)
+  stands-opens file next judged room long = rw (judged, le-ltb (length room) (dueFor T) long)
+      (S .slots, S .are, ap (λ words. writes (dueFor T) words room) stands-words)
 
   -- By the judgement of the operand.
   by-judgement : (edit : Edit) (answer : Answer (Unit {0})) (next : List ℕ) (judged : Judged) → editJudged (contentOf T (S .slots)) edit ≡ judged
@@ -119,24 +158,33 @@ module _ (T : Task) (workspace : List ℕ) (S : StandsFor T workspace) where
   by-judgement edit answer next (faulty reason) e q = rw (ap (λ o. o .answer) q, refused-after T edit (refusal reason), ap (λ o. o .lent) q) S
   by-judgement (addOperator r) answer next fine e h =
       let (c', (slots, D, q'), q) = h in
-      rw (ap (λ o. o .answer) q)
-      (add-stands (operatorIn r) slots next _ (add-fine (contentOf T (S .slots)) r e .1) D (ap (λ o. o .lent) q ∙ ap (λ c. wordsOf c ++ drop (length (wordsOf c')) workspace) q'))
+      rw (ap (λ o. o .answer) q) (record {
+        slots = slots;
+        further = drop (length (wordsOf c')) workspace;
+        words = ap (λ o. o .lent) q ∙ ap (λ c. wordsOf c ++ drop (length (wordsOf c')) workspace) q';
+        acceptable = operator-acceptable T (S .acceptable) (operatorIn r) (add-operator (contentOf T (S .slots)) r e) (add-fine (contentOf T (S .slots)) r e .2);
+        are = slots-more (T .sizes) (listed (T .pairs)) (T .operators) (operatorIn r) (S .slots) slots stands-ranged (S .are) D;
+      })
   by-judgement (replaceStart values) answer next fine e h =
       let (c', q', q) = h in
       let (state, free) = start-fine (contentOf T (S .slots)) values e in
-      rw (ap (λ o. o .answer) q) (start-stands values next _ state free (ap (λ o. o .lent) q ∙ ap (λ c. wordsOf c ++ drop (length (wordsOf c')) workspace) q'))
+      rw (ap (λ o. o .answer) q) (record {
+        slots = S .slots;
+        further = drop (length (wordsOf c')) workspace;
+        words = ap (λ o. o .lent) q ∙ ap (λ c. wordsOf c ++ drop (length (wordsOf c')) workspace) q';
+        acceptable = start-acceptable T (S .acceptable) values state free;
+        are = S .are;
+      })
   by-judgement (replaceGoal values) answer next fine e h =
       let (c', q', q) = h in
       let (state, _) = goal-fine (contentOf T (S .slots)) values fine e in
-      rw (ap (λ o. o .answer) q) (goal-stands values next _ state (ap (λ o. o .lent) q ∙ ap (λ c. wordsOf c ++ drop (length (wordsOf c')) workspace) q'))
-
-  unfoldable pub stands-formed : WellFormed workspace
-  stands-formed = record { content = contentOf T (S .slots); further = S .further; words = S .words; proper = S .proper }
-
-  -- A workspace that stands for a task has that task's content.
-  pub stands-content : (formed : WellFormed workspace) → formed .content ≡ contentOf T (S .slots)
-  unfolding stands-formed
-  stands-content formed = formed-only formed stands-formed
+      rw (ap (λ o. o .answer) q) (record {
+        slots = S .slots;
+        further = drop (length (wordsOf c')) workspace;
+        words = ap (λ o. o .lent) q ∙ ap (λ c. wordsOf c ++ drop (length (wordsOf c')) workspace) q';
+        acceptable = goal-acceptable T (S .acceptable) values state;
+        are = S .are;
+      })
 
   -- One edit, accepted or refused.
   pub edit-stands : (edit : Edit) (answer : Answer (Unit {0})) (next : List ℕ) → Edits workspace edit (record { answer = answer; lent = next })
@@ -153,61 +201,78 @@ edited-stands [] T workspace end S h = rw h at S
 edited-stands (e ∷ es) T workspace end S (next, h, rest) =
     edited-stands es (oneAfter T (e .edit) (e .answer)) next end (edit-stands T workspace S (e .edit) (e .answer) next h) rest
 
--- An opened workspace stands for its task.
-pub opened-stands : (T : Task) (bytes room workspace : List ℕ) (next k : ℕ) → judgedTask bytes ≡ got T next
-    → Opens bytes room (record { answer = done k; lent = workspace }) → StandsFor T workspace
-opened-stands T bytes room workspace next k judged opens =
-    elim (test (ltb (length room) (wordsDue (length (T .sizes)) (features (T .sizes))))) [
+-- Edits leave the variables, and so the number of words that are due.
+pub after-due : (T : Task) (events : List Event) → dueFor (taskAfter T events) ≡ dueFor T
+unfolding taskAfter
+after-due T [] = refl
+after-due T (e ∷ es) = after-due (oneAfter T (e .edit) (e .answer)) es
+
+-- An opened workspace stands for its task, and the answer is the number of words that are due.
+pub opened-due : (T : Task) (bytes room workspace : List ℕ) (next k : ℕ) → judgedTask bytes ≡ got T next
+    → Opens bytes room (record { answer = done k; lent = workspace }) → StandsFor T workspace × (k ≡ dueFor T)
+opened-due T bytes room workspace next k judged opens =
+    elim (test (ltb (length room) (dueFor T))) [
       | on p ↦ let q : record { answer = done k; lent = workspace } ≡ refuses Small room = rw p at read in absurd (let z : _≡_ {A = ℕ} 0 1 = cc (ap (λ (o : Outcome ℕ). o .answer) q) in omega arith)
       | off p ↦ stands (rw p at read)
     ]
   where
-    due : ℕ
-    due = wordsDue (length (T .sizes)) (features (T .sizes))
-
     Written : Type 0
     Written = (slots : Slots) × SlotsOf (features (T .sizes)) (Meets (T .sizes) (listed (T .pairs)) (T .operators)) slots
-        × (record { answer = done k; lent = workspace } ≡ writes due (wordsOf (contentOf T slots)) room)
+        × (record { answer = done k; lent = workspace } ≡ writes (dueFor T) (wordsOf (contentOf T slots)) room)
 
-    read : cond (ltb (length room) due) (record { answer = done k; lent = workspace } ≡ refuses Small room) Written
+    read : cond (ltb (length room) (dueFor T)) (record { answer = done k; lent = workspace } ≡ refuses Small room) Written
     read = rw judged at opens
 
-    stands : Written → StandsFor T workspace
-    stands (slots, D, q) = record {
-      slots = slots;
-      further = drop (length (wordsOf (contentOf T slots))) room;
-      words = ap (λ (o : Outcome ℕ). o .lent) q;
-      proper = opened-proper T slots (accepted bytes T next judged .acceptable) (D .shape);
-      ranged = λ o m. accepted bytes T next judged .acceptable .operators o m .entries;
-      are = D;
-    }
+    stands : Written → StandsFor T workspace × (k ≡ dueFor T)
+    stands (slots, D, q) = (
+      record {
+        slots = slots;
+        further = drop (length (wordsOf (contentOf T slots))) room;
+        words = ap (λ (o : Outcome ℕ). o .lent) q;
+        acceptable = accepted bytes T next judged .acceptable;
+        are = D;
+      },
+      cc (ap (λ (o : Outcome ℕ). o .answer) q),
+    )
 
--- Workspaces that stand for tasks alike but for the order of their operators and repeats have one content.
-pub same-content : (T U : Task) (ws us : List ℕ) (S : StandsFor T ws) (R : StandsFor U us) → SameTask T U → contentOf T (S .slots) ≡ contentOf U (R .slots)
-same-content T U ws us S R q = λ i. record {
-  sizes = q .sizes i;
-  start = q .start i;
-  goal = q .goal i;
-  pairs = listed (q .pairs i);
-  slots = slots i;
-}
+pub opened-stands : (T : Task) (bytes room workspace : List ℕ) (next k : ℕ) → judgedTask bytes ≡ got T next
+    → Opens bytes room (record { answer = done k; lent = workspace }) → StandsFor T workspace
+opened-stands T bytes room workspace next k judged opens = opened-due T bytes room workspace next k judged opens .0
+
+-- A workspace stands for every task alike but for the order of its operators and repeats.
+pub same-stands : (T U : Task) (workspace : List ℕ) → SameTask T U → StandsFor T workspace → StandsFor U workspace
+same-stands T U workspace q S = subst (λ task. StandsFor task workspace) alike (record {
+  slots = S .slots;
+  further = S .further;
+  words = S .words;
+  acceptable = record {
+    limits = S .acceptable .limits;
+    start = S .acceptable .start;
+    goal = S .acceptable .goal;
+    pairs = S .acceptable .pairs;
+    operators = λ o m. S .acceptable .operators o (q .operators o .1 m);
+    free = S .acceptable .free;
+    closed-under = λ o m. S .acceptable .closed-under o (q .operators o .1 m);
+  };
+  are = slots-along (features (T .sizes)) (Meets (T .sizes) (listed (T .pairs)) (T .operators)) (Meets (T .sizes) (listed (T .pairs)) (U .operators)) (S .slots)
+      (meets-same (T .sizes) (listed (T .pairs)) (T .operators) (U .operators) (q .operators)) (S .are);
+})
   where
-    theirs : SlotsOf (features (T .sizes)) (Meets (T .sizes) (listed (T .pairs)) (U .operators)) (R .slots)
-    theirs = rw (q .sizes, q .pairs) (R .are)
+    alike : record { sizes = T .sizes; start = T .start; goal = T .goal; pairs = T .pairs; operators = U .operators } ≡ U
+    alike i = record { sizes = q .sizes i; start = q .start i; goal = q .goal i; pairs = q .pairs i; operators = U .operators }
 
-    slots : S .slots ≡ R .slots
-    slots =
-        slots-only (features (T .sizes)) (Meets (T .sizes) (listed (T .pairs)) (T .operators)) (Meets (T .sizes) (listed (T .pairs)) (U .operators)) (S .slots) (R .slots)
-        (meets-same (T .sizes) (listed (T .pairs)) (T .operators) (U .operators) (q .operators)) (S .are) theirs
+-- Two workspaces that stand for one task.
+module _ (T : Task) (ws us : List ℕ) (S : StandsFor T ws) (R : StandsFor T us) where
+  one-content : contentOf T (S .slots) ≡ contentOf T (R .slots)
+  one-content = ap (contentOf T) (slots-only _ _ _ (S .slots) (R .slots) (λ w. Iff·rfl) (S .are) (R .are))
 
--- A workspace that stands for a task begins with the words of its content.
-pub stands-words : (T : Task) (ws : List ℕ) (S : StandsFor T ws) → take (wordsDue (length (T .sizes)) (features (T .sizes))) ws ≡ wordsOf (contentOf T (S .slots))
-stands-words T ws S = rw (S .words) (take-at (wordsOf (contentOf T (S .slots))) (S .further) _ (length-words (contentOf T (S .slots)) (S .proper .start .full) (S .proper .goal .full)))
+  -- They begin with the same words,
+  pub same-words : take (dueFor T) ws ≡ take (dueFor T) us
+  same-words = stands-words T ws S ∙ ap wordsOf one-content ∙ sym (stands-words T us R)
 
--- Whatever the finder may answer for the one workspace it may for the other.
-pub same-finds : (T U : Task) (ws us room : List ℕ) (outcome : Outcome Finding) → StandsFor T ws → StandsFor U us → SameTask T U
-    → Finds ws room outcome → Finds us room outcome
-unfolding stands-formed
-same-finds T U ws us room outcome S R same (inl h) = absurd (h .0 (stands-formed T ws S))
-same-finds T U ws us room outcome S R same (inr (formed, h)) =
-    inr (stands-formed U us R, subst (λ c. FindsBy c room outcome) (stands-content T ws S formed ∙ same-content T U ws us S R same) h)
+  -- and whatever the finder may answer for the one it may for the other.
+  pub same-finds : (room : List ℕ) (outcome : Outcome Finding) → Finds ws room outcome ↔ Finds us room outcome
+  same-finds room outcome = (
+    λ h. stands-finds T us R room outcome .1 (subst (λ c. FindsBy c room outcome) one-content (stands-finds T ws S room outcome .0 h)),
+    λ h. stands-finds T ws S room outcome .1 (subst (λ c. FindsBy c room outcome) (sym one-content) (stands-finds T us R room outcome .0 h)),
+  )

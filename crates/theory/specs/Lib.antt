@@ -28,6 +28,7 @@ pub mod Sound
 pub mod Conditions
 pub mod Words
 pub mod Contents
+pub mod Untouched
 pub mod Parts
 pub mod Reading
 pub mod Spent
@@ -38,6 +39,7 @@ pub mod Operands
 pub mod Histories
 pub mod Finder
 pub mod Determined
+pub mod Refusals
 pub mod BayMoves
 pub mod BayPairs
 pub mod BayTask

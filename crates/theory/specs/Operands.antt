@@ -1,18 +1,20 @@
 -- What an accepted operand of an edit is: an operator with its entries in range, or a state.
-use Prim.Native.Nat.{ℕ, zero, suc, _<_}
+use Prim.Native.Nat.{ℕ, zero, suc, _<_, _≤_}
 use mathlib.Core.Path.{_≡_, refl}
 use mathlib.Core.Bool.{Bool, true, false, not}
 use mathlib.Core.List.{List, [], _∷_}
 use native.Mathlib.Omega.{arith}
-use lib.Dec.{eqb}
+use lib.Dec.{eqb, leb, ltb}
 use lib.ListN.{length}
 use borrow.Author.Tests.{eqb-true, ltb-true, leb-true, not-true}
-use Rattle.meaning.specs.Task.{Operator, State, Entries, value, size}
+use Rattle.meaning.specs.Task.{Operator, State, Entries, IsOperator, value, size}
 use Rattle.meaning.specs.Pair.{closed, holds}
 use Rattle.meaning.specs.Number.{Reason, Range, Held, Unclosed}
 use Rattle.meaning.specs.File.{inside}
 use Rattle.meaning.specs.Workspace.{Content}
 use Rattle.meaning.specs.Answer.{OperatorRecord, operatorIn, addOperator, replaceStart, Judged, fine, need, entriesJudged, valuesJudged, editJudged}
+use Rattle.theory.specs.Search.{and-left}
+use Rattle.theory.specs.Flat.{length-table}
 
 -- What is found fine has passed the test, and what comes after it is fine.
 pub need-fine : (b : Bool) (reason : Reason) (rest : Judged) → need b reason rest ≡ fine → (b ≡ true) × (rest ≡ fine)
@@ -48,6 +50,13 @@ add-fine c r e =
     let (counted, e₁) = need-fine (inside 1 (suc (length (c .sizes))) (r .count)) Range (entriesJudged (c .sizes) 0 (operatorIn r) (need (closed (c .sizes) (c .pairs) (operatorIn r)) Unclosed fine)) e in
     let (entries, e₂) = entries-fine (c .sizes) 0 (operatorIn r) (need (closed (c .sizes) (c .pairs) (operatorIn r)) Unclosed fine) e₁ in
     (counted, entries, need-fine (closed (c .sizes) (c .pairs) (operatorIn r)) Unclosed fine e₂ .0)
+
+pub add-operator : (c : Content) (r : OperatorRecord) → editJudged c (addOperator r) ≡ fine → IsOperator (c .sizes) (operatorIn r)
+unfolding operatorIn
+add-operator c r e =
+    let (counted, entries, _) = add-fine c r e in
+    let least : 1 ≤ r .count = leb-true 1 (r .count) (and-left (leb 1 (r .count)) (ltb (r .count) (suc (length (c .sizes)))) counted) in
+    record { filled = rw length-table least; entries = entries }
 
 -- New values that are found fine are a state; as a start they hold no listed pair.
 pub goal-fine : (c : Content) (values : List ℕ) (rest : Judged)

@@ -7,6 +7,7 @@ use native.Mathlib.Nat.{add-zero, add-assoc}
 use lib.ListN.{length, length-append}
 use Rattle.meaning.specs.Number.{Reason, Read, got, fault, onRead}
 use Rattle.meaning.specs.File.{Parser, give, then, judge}
+use Rattle.meaning.specs.Answer.{byRead}
 
 -- ---- the outcome of a read
 
@@ -30,6 +31,12 @@ pub on-got : {A B : Type 0} (r : Read A) (rest : A → ℕ → Read B) (b : B) (
     → onRead r rest ≡ got b next → (a : A) × (middle : ℕ) × (r ≡ got a middle) × (rest a middle ≡ got b next)
 on-got (got a middle) rest b next e = (a, middle, refl, e)
 on-got (fault reason place) rest b next e = absurd (not-got e)
+
+-- Where a fault is shut out, a value was read.
+pub by-got : {A : Type 0} (r : Read A) (Good : A → Type 0) (Bad : Reason → Type 0) → ((reason : Reason) → Bad reason → ⊥) → byRead r Good Bad
+    → (a : A) × (next : ℕ) × (r ≡ got a next) × Good a
+by-got (got a next) Good Bad shut h = (a, next, refl, h)
+by-got (fault reason place) Good Bad shut h = absurd (shut reason h)
 
 -- Reading on after reading on.
 pub on-on : {A B C : Type 0} (r : Read A) (first : A → ℕ → Read B) (rest : B → ℕ → Read C)

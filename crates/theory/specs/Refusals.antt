@@ -1,0 +1,170 @@
+-- When each call refuses: what is judged first, and that a refusal with a number is the outcome exactly where the first fault has that number, and
+-- hands back all that was lent as it came.
+use Prim.Native.Nat.{ℕ}
+use mathlib.Core.Path.{_≡_, refl, ap, _∙_, subst}
+use mathlib.Core.Logic.{_⊎_, _↔_, inl, inr}
+use mathlib.Core.Bool.{cond}
+use mathlib.Core.List.{List}
+use native.Mathlib.Omega.{arith}
+use lib.Dec.{leb, ltb}
+use lib.ListN.{length}
+use borrow.Author.Tests.{ltb-true, ltb-false, le-leb, lt-leb}
+use Rattle.meaning.specs.Feature.{features}
+use Rattle.meaning.specs.Number.{Reason, Small, Malformed, refusal, Read, got, fault}
+use Rattle.meaning.specs.File.{judgedTask, judgedWeights, taskBytes}
+use Rattle.meaning.specs.Workspace.{Content, wordsFor, wordsDue, WellFormed}
+use Rattle.meaning.specs.Answer.{Answer, done, refused, Outcome, refuses, writes, delivered, byRead, Verdict, Checks, Opens, FindsIn, FindsBy, Finds, Judged, fine, faulty, need, Edit, editJudged, EditsIn, Edits}
+use Rattle.meaning.specs.Bay.{Builds, judgedBay, bayTask}
+use Rattle.theory.specs.Truth.{on, off, test}
+use Rattle.theory.specs.Determined.{AtMostOne}
+
+-- ---- what is judged, in order
+
+-- A file first, then what comes after it.
+abbrev pub fileJudged : {A : Type 0} → Read A → (A → Judged) → Judged
+fileJudged (got a next) rest = rest a
+fileJudged (fault reason place) rest = faulty reason
+
+-- "Room is too small when it is shorter than what is due."
+abbrev pub roomJudged : ℕ → List ℕ → Judged
+roomJudged due room = need (leb due (length room)) Small fine
+
+-- "Then come 5, 6, 7 by operator, 8": the whole workspace is due.
+abbrev pub openJudged : List ℕ → List ℕ → Judged
+openJudged task room = fileJudged (judgedTask task) (λ T. roomJudged (wordsDue (length (T .sizes)) (features (T .sizes))) room)
+
+-- "Weights are read after a fully accepted task."
+abbrev pub checkJudged : List ℕ → List ℕ → Judged
+checkJudged task weights = fileJudged (judgedTask task) (λ T. fileJudged (judgedWeights (features (T .sizes)) weights) (λ _. fine))
+
+-- The bay file, then the room: "all bytes of the file" are due.
+abbrev pub buildJudged : List ℕ → List ℕ → Judged
+buildJudged bay room = fileJudged (judgedBay bay) (λ b. roomJudged (length (taskBytes (bayTask b))) room)
+
+-- "W words for a finder's answer even where that is 'none'".
+abbrev pub findJudged : List ℕ → Content → Judged
+findJudged room c = roomJudged (wordsFor (features (c .sizes))) room
+
+-- What is found faulty has a number.
+abbrev pub Faulty : Judged → ℕ → Type 0
+Faulty fine n = ⊥
+Faulty (faulty reason) n = n ≡ refusal reason
+
+-- "A workspace call judges 9, then its operand, then 8."
+abbrev pub FaultyIn : List ℕ → (Content → Judged) → ℕ → Type 0
+FaultyIn workspace judged n =
+    ((WellFormed workspace → ⊥) × (n ≡ refusal Malformed))
+    ⊎ ((formed : WellFormed workspace) × Faulty (judged (formed .content)) n)
+
+-- ---- when a call refuses
+
+-- A call that is lent memory refuses with a number exactly where a fault has it; the refusal changes nothing that was lent.
+pub record RefusesExactly {A : Type 0} (Allowed : Outcome A → Type 0) (lent : List ℕ) (Fault : ℕ → Type 0) : Type 0 where
+  pub exactly : (outcome : Outcome A) → Allowed outcome → (n : ℕ) → (outcome .answer ≡ refused n) ↔ Fault n
+  pub unchanged : (outcome : Outcome A) → Allowed outcome → (n : ℕ) → outcome .answer ≡ refused n → outcome .lent ≡ lent
+  pub allowed : (n : ℕ) → Fault n → Allowed (record { answer = refused n; lent = lent })
+
+-- From which refusals are allowed, where one outcome is.
+pub refuses-exactly : {A : Type 0} {Allowed : Outcome A → Type 0} {lent : List ℕ} {Fault : ℕ → Type 0} → AtMostOne Allowed
+    → ((n : ℕ) (left : List ℕ) → Allowed (record { answer = refused n; lent = left }) ↔ (Fault n × (left ≡ lent))) → RefusesExactly Allowed lent Fault
+refuses-exactly {A = A} {Allowed = Allowed} {lent = lent} {Fault = Fault} only h = record {
+  exactly = λ outcome a n. (λ e. as-refused outcome a n e .0, λ f. ap (λ o. o .answer) (only outcome _ a (h n lent .1 (f, refl))));
+  unchanged = λ outcome a n e. as-refused outcome a n e .1;
+  allowed = λ n f. h n lent .1 (f, refl);
+}
+  where
+    as-refused : (outcome : Outcome A) → Allowed outcome → (n : ℕ) → outcome .answer ≡ refused n → Fault n × (outcome .lent ≡ lent)
+    as-refused outcome a n e = h n (outcome .lent) .0 (subst (λ answer. Allowed (record { answer = answer; lent = outcome .lent })) e a)
+
+-- ---- one refusal
+
+module _ {A : Type 0} (n : ℕ) (left : List ℕ) where
+  refusal-alike : (lent : List ℕ) (reason : Reason) → (_≡_ {A = Outcome A} (record { answer = refused n; lent = left }) (refuses reason lent)) ↔ ((n ≡ refusal reason) × (left ≡ lent))
+  refusal-alike lent reason = (
+    λ e. let q : _≡_ {A = Answer A} (refused n) (refused (refusal reason)) = ap (λ o. o .answer) e in (cc, ap (λ o. o .lent) e),
+    λ h. λ i. record { answer = refused (h .0 i); lent = h .1 i },
+  )
+
+  -- A refusal is no other result.
+  not-done : (outcome : Outcome A) (result : A) → outcome .answer ≡ done result → record { answer = refused n; lent = left } ≡ outcome → ⊥
+  not-done outcome result d e = let q : _≡_ {A = Answer A} (refused n) (done result) = ap (λ o. o .answer) e ∙ d in let z : _≡_ {A = ℕ} 0 1 = cc in omega arith
+
+-- Room is judged: too small, or a call that is done.
+room-refused : (n : ℕ) (left lent : List ℕ) (due : ℕ) (Bad Done : Type 0) → Bad ↔ ((n ≡ refusal Small) × (left ≡ lent)) → (Done → ⊥)
+    → cond (ltb (length lent) due) Bad Done ↔ (Faulty (roomJudged due lent) n × (left ≡ lent))
+room-refused n left lent due Bad Done bad undone = elim (test (ltb (length lent) due)) [
+  | on p ↦ rw (p, lt-leb due (length lent) (ltb-true _ _ p)) bad
+  | off p ↦ rw (p, le-leb due (length lent) (ltb-false _ _ p)) (λ h. absurd (undone h), λ h. absurd (h .0))
+]
+
+-- What is read decides, or what is judged after it.
+read-refused : {A : Type 0} (read : Read A) (Good : A → Type 0) (Bad : Reason → Type 0) (rest : A → Judged) (Refused : Judged → Type 0)
+    → ((a : A) → Good a ↔ Refused (rest a)) → ((reason : Reason) → Bad reason ↔ Refused (faulty reason)) → byRead read Good Bad ↔ Refused (fileJudged read rest)
+read-refused (got a next) Good Bad rest Refused good bad = good a
+read-refused (fault reason place) Good Bad rest Refused good bad = bad reason
+
+-- ---- which refusals each call's relation allows
+
+module _ (n : ℕ) (left : List ℕ) where
+  pub opens-refused : (task room : List ℕ) → Opens task room (record { answer = refused n; lent = left }) ↔ (Faulty (openJudged task room) n × (left ≡ room))
+  opens-refused task room = read-refused (judgedTask task) _ _ _ (λ judged. Faulty judged n × (left ≡ room))
+      (λ T. room-refused n left room (wordsDue (length (T .sizes)) (features (T .sizes))) _ _ (refusal-alike n left room Small) (λ h. not-done n left _ _ refl (h .2)))
+      (refusal-alike n left room)
+
+  -- A call that writes a file.
+  pub delivered-refused : (file room : List ℕ) → (record { answer = refused n; lent = left } ≡ delivered file room) ↔ (Faulty (roomJudged (length file) room) n × (left ≡ room))
+  delivered-refused file room = elim (test (ltb (length room) (length file))) [
+    | on p ↦ rw (p, lt-leb (length file) (length room) (ltb-true _ _ p)) (refusal-alike n left room Small)
+    | off p ↦ rw (p, le-leb (length file) (length room) (ltb-false _ _ p)) (λ h. absurd (not-done n left (writes (length file) file room) (length file) refl h), λ h. absurd (h .0))
+  ]
+
+  pub builds-refused : (bay room : List ℕ) → Builds bay room (record { answer = refused n; lent = left }) ↔ (Faulty (buildJudged bay room) n × (left ≡ room))
+  builds-refused bay room = read-refused (judgedBay bay) _ _ _ (λ judged. Faulty judged n × (left ≡ room))
+      (λ b. delivered-refused (taskBytes (bayTask b)) room) (refusal-alike n left room)
+
+  -- A workspace that is not well formed, or what its content decides.
+  formed-refused : {A : Type 0} (workspace lent : List ℕ) (By : Content → Outcome A → Type 0) (judged : Content → Judged)
+      → ((c : Content) → By c (record { answer = refused n; lent = left }) ↔ (Faulty (judged c) n × (left ≡ lent)))
+      → (((WellFormed workspace → ⊥) × (_≡_ {A = Outcome A} (record { answer = refused n; lent = left }) (refuses Malformed lent)))
+      ⊎ ((formed : WellFormed workspace) × By (formed .content) (record { answer = refused n; lent = left })))
+      ↔ (FaultyIn workspace judged n × (left ≡ lent))
+  formed-refused workspace lent By judged by = (
+    λ h. elim h [
+      | inl k ↦ let (e, q) = refusal-alike n left lent Malformed .0 (k .1) in (inl (k .0, e), q)
+      | inr k ↦ let (f, q) = by (k .0 .content) .0 (k .1) in (inr (k .0, f), q)
+    ],
+    λ h. elim (h .0) [
+      | inl k ↦ inl (k .0, refusal-alike n left lent Malformed .1 (k .1, h .1))
+      | inr k ↦ inr (k .0, by (k .0 .content) .1 (k .1, h .1))
+    ],
+  )
+
+  not-found : (c : Content) (room : List ℕ) → FindsIn c room (record { answer = refused n; lent = left }) → ⊥
+  not-found c room (inl h) = not-done n left _ _ refl (h .1)
+  not-found c room (inr h) = not-done n left _ _ refl (h .2)
+
+  pub finds-refused : (workspace room : List ℕ) → Finds workspace room (record { answer = refused n; lent = left }) ↔ (FaultyIn workspace (findJudged room) n × (left ≡ room))
+  finds-refused workspace room = formed-refused workspace room (λ c. FindsBy c room) (findJudged room)
+      (λ c. room-refused n left room (wordsFor (features (c .sizes))) _ _ (refusal-alike n left room Small) (not-found c room))
+
+  operand-refused : (workspace : List ℕ) (edit : Edit) (c : Content) (judged : Judged)
+      → EditsIn judged workspace c edit (record { answer = refused n; lent = left }) ↔ (Faulty judged n × (left ≡ workspace))
+  operand-refused workspace edit c fine = (λ h. absurd (not-done n left _ _ refl (h .2)), λ h. absurd (h .0))
+  operand-refused workspace edit c (faulty reason) = refusal-alike n left workspace reason
+
+  pub edits-refused : (workspace : List ℕ) (edit : Edit)
+      → Edits workspace edit (record { answer = refused n; lent = left }) ↔ (FaultyIn workspace (λ c. editJudged c edit) n × (left ≡ workspace))
+  edits-refused workspace edit = formed-refused workspace workspace (λ c. EditsIn (editJudged c edit) workspace c edit) (λ c. editJudged c edit)
+      (λ c. operand-refused workspace edit c (editJudged c edit))
+
+-- The checker is lent nothing to write.
+pub checks-refused : (n : ℕ) (task weights : List ℕ) → Checks task weights (refused n) ↔ Faulty (checkJudged task weights) n
+checks-refused n task weights = read-refused (judgedTask task) _ _ _ (λ judged. Faulty judged n)
+    (λ T. read-refused (judgedWeights (features (T .sizes)) weights) _ _ _ (λ judged. Faulty judged n) (λ ws. (λ h. absurd (no-verdict (h .0) (h .1)), λ h. absurd h)) number-alike)
+    number-alike
+  where
+    number-alike : (reason : Reason) → (_≡_ {A = Answer Verdict} (refused n) (refused (refusal reason))) ↔ (n ≡ refusal reason)
+    number-alike reason = (λ e. cc, λ e. ap refused e)
+
+    no-verdict : (v : Verdict) → _≡_ {A = Answer Verdict} (refused n) (done v) → ⊥
+    no-verdict v e = let z : _≡_ {A = ℕ} 0 1 = cc in omega arith

@@ -17,6 +17,7 @@ use Rattle.meaning.specs.File.{judgedTask, judgedWeights, weightBytes, taskByte
 use Rattle.meaning.specs.Workspace.{wordsFor, wordsDue, has, packed}
 use Rattle.meaning.specs.Answer.{Answer, done, refused, Outcome, writes, Verdict, accepted, Judges, Checks, Opens, Finding, none, separated, Finds, Edit, editJudged, Edits}
 use Rattle.meaning.specs.Bay.{Bay, Move, Step, SameLabels, slotCount, judgedBay, neighbours, bayTask, Builds}
+use Rattle.meaning.specs.Line.{Found, Prints}
 use Rattle.meaning.specs.History.{Event, Edited, taskAfter, SameTask}
 use Rattle.theory.specs.Truth.{on, off, test}
 use Rattle.theory.specs.Words.{packed-front}
@@ -29,27 +30,20 @@ use Rattle.theory.specs.Accepted as Files
 use Rattle.theory.specs.Untouched.{Untouched, edit-untouched}
 use Rattle.theory.specs.Histories.{StandsFor, dueFor, opened-due, opened-stands, begins-stands, edited-stands, after-due, same-stands, stands-opens, same-words, same-finds}
 use Rattle.theory.specs.Finder.{none-right, some-right, found-right}
-use Rattle.theory.specs.Determined.{checks-only, opens-only, finds-only, edits-only, builds-only}
-use Rattle.theory.specs.Refusals.{Faulty, FaultyIn, openJudged, checkJudged, findJudged, buildJudged, RefusesExactly, refuses-exactly, checks-refused, opens-refused, finds-refused, edits-refused, builds-refused}
+use Rattle.theory.specs.Determined.{checks-only, opens-only, finds-only, edits-only, builds-only, prints-only}
+use Rattle.theory.specs.Refusals.{Faulty, FaultyIn, openJudged, checkJudged, findJudged, buildJudged, printJudged, RefusesExactly, refuses-exactly, answers-exactly, checks-refused, prints-refused, opens-refused, finds-refused, edits-refused, builds-refused}
 use Rattle.theory.specs.BayMoves.{Moves}
 use Rattle.theory.specs.BayTask.{builds-done, bay-read, bay-moves, bay-unsolvable}
 
 -- ---- demand 1
 
 -- "Every entry takes every input: task, weights, workspace, edit, lent room. It always ends." No contract has a premise, each is a relation of
--- meaning/specs/Answer.antt or Bay.antt that allows one outcome (Determined.antt), and no code is admitted that is not shown to end.
+-- meaning/specs/Answer.antt, Bay.antt or Line.antt that allows one outcome (Determined.antt), and a check refuses code that is not shown to end.
 -- "Each refusal is given exactly when document 01's table says, and a refused call changes nothing it was lent."
 
 -- The task's first fault; then 8.
 pub open-refuses : (task room : List ℕ) → RefusesExactly (Opens task room) room (Faulty (openJudged task room))
 open-refuses task room = refuses-exactly (opens-only task room) (λ n left. opens-refused n left task room)
-
--- The task's first fault; then that of the weights.
-pub check-refuses : (task weights : List ℕ) (answer : Answer Verdict) → Checks task weights answer → (n : ℕ) → (answer ≡ refused n) ↔ Faulty (checkJudged task weights) n
-check-refuses task weights answer checks n = (
-  λ e. checks-refused n task weights .0 (rw e at checks),
-  λ f. checks-only task weights answer (refused n) checks (checks-refused n task weights .1 f),
-)
 
 -- 9, then 8.
 pub find-refuses : (workspace room : List ℕ) → RefusesExactly (Finds workspace room) room (FaultyIn workspace (findJudged room))
@@ -62,6 +56,14 @@ edit-refuses workspace edit = refuses-exactly (edits-only workspace edit) (λ n 
 -- The bay file's first fault; then 8.
 pub build-refuses : (bay room : List ℕ) → RefusesExactly (Builds bay room) room (Faulty (buildJudged bay room))
 build-refuses bay room = refuses-exactly (builds-only bay room) (λ n left. builds-refused n left bay room)
+
+-- The task's first fault; then that of the weights. The checker is lent nothing to write.
+pub check-refuses : (task weights : List ℕ) (answer : Answer Verdict) → Checks task weights answer → (n : ℕ) → (answer ≡ refused n) ↔ Faulty (checkJudged task weights) n
+check-refuses task weights = answers-exactly (checks-only task weights) (λ n. checks-refused n task weights)
+
+-- The finder program: 8 for too many bytes; the task's first fault; then 8 for too many features.
+pub print-refuses : (input : List ℕ) (answer : Answer Found) → Prints input answer → (n : ℕ) → (answer ≡ refused n) ↔ Faulty (printJudged input) n
+print-refuses input = answers-exactly (prints-only input) (λ n. prints-refused n input)
 
 -- ---- demand 2: the checker
 
@@ -77,8 +79,8 @@ module _ (file : List ℕ) (T : Task) (next : ℕ) (judged : judgedTask file ≡
       judged-as : (verdict : Verdict) → ((v : Verdict) × (_≡_ {A = Answer Verdict} (done verdict) (done v)) × Judges T (listed fs) v) → Judges T (listed fs) verdict
       judged-as verdict (v, q, h) = let e : verdict ≡ v = cc in rw e h
 
--- "once it accepts, no sequence of that task's moves leads from the start to the goal": whatever the two files are, what it accepts is a task and
--- weights that separate, and that task is unsolvable.
+-- "once it accepts, no sequence of that task's moves leads from the start to the goal": whatever the two files are, the first then is an accepted
+-- task, and that task is unsolvable.
 pub accepted-unsolvable : (file weights : List ℕ) → Checks file weights (done accepted) → (T : Task) × (next : ℕ) × (judgedTask file ≡ got T next) × Unsolvable T
 accepted-unsolvable file weights checks =
     let (T, next, judged, given) = by-got (judgedTask file) _ _ (λ reason. not-refused) checks in
@@ -211,6 +213,15 @@ module _ (T U : Task) (file room workspace lent edited : List ℕ) (next k : ℕ
   -- So with that proviso alone, of the file that is written for that task.
   pub written-afresh : length (U .operators) < numberEnd → Afresh (taskBytes U) edited k
   written-afresh few = edited-afresh (taskBytes U) (length (taskBytes U)) (edited-writable .1 few)
+
+  -- And with no proviso, in the words of demand 2: none exactly when no weights separate that task, or else the least that do.
+  pub edited-none : (lent lent' : List ℕ) → Finds edited lent (record { answer = done none; lent = lent' })
+      ↔ ((wordsFor (features (U .sizes)) ≤ length lent) × ((w : Set) → Separates U w → ⊥) × (lent' ≡ lent))
+  edited-none = none-right U edited stands
+
+  pub edited-least : (lent lent' : List ℕ) → Finds edited lent (record { answer = done separated; lent = lent' })
+      → (w : Set) × LeastOf (features (U .sizes)) (Separates U) w × (lent' ≡ packed (features (U .sizes)) w ++ drop (length (packed (features (U .sizes)) w)) lent)
+  edited-least = found-right U edited stands
 
 -- "Replacing a start or goal touches only its own words", and adding a move only those of the slots: accepted or refused, and of any workspace.
 pub own-words : (workspace : List ℕ) (edit : Edit) (outcome : Outcome (Unit {0})) → Edits workspace edit outcome → Untouched workspace edit (outcome .lent)

@@ -3,7 +3,7 @@
 use Prim.Native.Nat.{ℕ, _≤_}
 use mathlib.Core.Path.{_≡_, refl, ap, sym, _∙_, subst}
 use mathlib.Core.Logic.{_↔_, inl, inr, Iff·rfl}
-use mathlib.Core.Bool.{true, false, cond}
+use mathlib.Core.Bool.{true, cond}
 use mathlib.Core.List.{List, [], _∷_, _++_, List·Memᴰ as In, List·Memᴰ·append-cases as append-cases, List·Memᴰ·eq-of-singleton as eq-of-singleton}
 use native.Mathlib.Omega.{arith}
 use lib.Dec.{ltb}
@@ -11,15 +11,15 @@ use lib.ListN.{length, take, drop, take-append-drop}
 use lib.Seq.{take-at}
 use borrow.Author.Tests.{le-ltb}
 use Rattle.meaning.specs.Sets.{Slots, listed}
-use Rattle.meaning.specs.Task.{Operator, Task, State, IsOperator}
+use Rattle.meaning.specs.Task.{Operator, Task, IsOperator}
 use Rattle.meaning.specs.Feature.{features}
-use Rattle.meaning.specs.Pair.{closed, holds}
+use Rattle.meaning.specs.Pair.{closed}
 use Rattle.meaning.specs.Slot.{SlotsOf}
 use Rattle.meaning.specs.Weight.{Meets}
 use Rattle.meaning.specs.Number.{Small, refusal, got}
 use Rattle.meaning.specs.File.{judgedTask, Acceptable}
-use Rattle.meaning.specs.Workspace.{wordsOf, wordsDue, Proper, WellFormed, contentOf}
-use Rattle.meaning.specs.Answer.{Answer, done, refused, Outcome, refuses, writes, Edit, addOperator, replaceStart, replaceGoal, operatorIn, Judged, fine, faulty, editJudged, EditsIn, Edits, Opens, Finding, FindsBy, Finds}
+use Rattle.meaning.specs.Workspace.{Content, wordsOf, wordsDue, Proper, WellFormed, contentOf}
+use Rattle.meaning.specs.Answer.{Answer, done, refused, Outcome, refuses, writes, Edit, addOperator, replaceStart, replaceGoal, operatorIn, Judged, fine, faulty, editJudged, Changes, EditsIn, Edits, Opens, Finding, FindsBy, Finds}
 use Rattle.meaning.specs.History.{Event, Edited, startAfter, goalAfter, movesAfter, taskAfter, SameTask}
 use Rattle.theory.specs.Truth.{on, off, test}
 use Rattle.theory.specs.SlotsOf.{slots-along, slots-only}
@@ -28,55 +28,45 @@ use Rattle.theory.specs.Contents.{formed-only, length-words, opened-prop
 use Rattle.theory.specs.Accepted.{accepted}
 use Rattle.theory.specs.Operands.{add-fine, add-operator, start-fine, goal-fine}
 
--- ---- tasks that keep every rule, changed by an edit or listed in another order
+-- ---- the task after one edit
 
--- One more operator, another start, another goal.
-abbrev withOperator : Task → Operator → Task
-withOperator T o = record { sizes = T .sizes; start = T .start; goal = T .goal; pairs = T .pairs; operators = T .operators ++ (o ∷ []) }
+abbrev pub oneAfter : Task → Edit → Answer (Unit {0}) → Task
+oneAfter T edit answer = record {
+  sizes = T .sizes;
+  start = startAfter (T .start) edit answer;
+  goal = goalAfter (T .goal) edit answer;
+  pairs = T .pairs;
+  operators = movesAfter (T .operators) edit answer;
+}
 
-abbrev withStart : Task → List ℕ → Task
-withStart T values = record { sizes = T .sizes; start = values; goal = T .goal; pairs = T .pairs; operators = T .operators }
+-- A refused edit leaves the task as it was.
+refused-after : (T : Task) (edit : Edit) (k : ℕ) → oneAfter T edit (refused k) ≡ T
+refused-after T (addOperator r) k = refl
+refused-after T (replaceStart values) k = refl
+refused-after T (replaceGoal values) k = refl
 
-abbrev withGoal : Task → List ℕ → Task
-withGoal T values = record { sizes = T .sizes; start = T .start; goal = values; pairs = T .pairs; operators = T .operators }
+-- What holds of each operator holds of each with one more of which it holds.
+one-more : (P : Operator → Type 0) (os : List Operator) (o : Operator) → ((p : Operator) → In p os → P p) → P o → (p : Operator) → In p (os ++ (o ∷ [])) → P p
+one-more P os o each own p m = elim (append-cases os m) [ inl k ↦ each p k | inr k ↦ rw (eq-of-singleton k) own ]
 
-module _ (T : Task) (a : Acceptable T) where
-  -- What holds of every operator and of one more.
-  one-more : (P : Operator → Type 0) (o : Operator) → ((p : Operator) → In p (T .operators) → P p) → P o → (p : Operator) → In p (T .operators ++ (o ∷ [])) → P p
-  one-more P o each own p m = elim (append-cases (T .operators) m) [ inl k ↦ each p k | inr k ↦ rw (eq-of-singleton k) own ]
-
-  operator-acceptable : (o : Operator) → IsOperator (T .sizes) o → closed (T .sizes) (listed (T .pairs)) o ≡ true → Acceptable (withOperator T o)
-  operator-acceptable o good shut = record {
+module _ (T : Task) (slots : Slots) where
+  -- An accepted edit leaves a task that keeps every rule.
+  after-acceptable : Acceptable T → (edit : Edit) → editJudged (contentOf T slots) edit ≡ fine → Acceptable (oneAfter T edit (done tt))
+  after-acceptable a (addOperator r) e = record {
     limits = a .limits;
     start = a .start;
     goal = a .goal;
     pairs = a .pairs;
-    operators = one-more (IsOperator (T .sizes)) o (a .operators) good;
+    operators = one-more (IsOperator (T .sizes)) (T .operators) (operatorIn r) (a .operators) (add-operator (contentOf T slots) r e);
     free = a .free;
-    closed-under = one-more (λ p. closed (T .sizes) (listed (T .pairs)) p ≡ true) o (a .closed-under) shut;
+    closed-under = one-more (λ o. closed (T .sizes) (listed (T .pairs)) o ≡ true) (T .operators) (operatorIn r) (a .closed-under) (add-fine (contentOf T slots) r e .2);
   }
-
-  start-acceptable : (values : List ℕ) → State (T .sizes) values → holds (T .sizes) (listed (T .pairs)) values ≡ false → Acceptable (withStart T values)
-  start-acceptable values state free = record {
-    limits = a .limits;
-    start = state;
-    goal = a .goal;
-    pairs = a .pairs;
-    operators = a .operators;
-    free = free;
-    closed-under = a .closed-under;
-  }
-
-  goal-acceptable : (values : List ℕ) → State (T .sizes) values → Acceptable (withGoal T values)
-  goal-acceptable values state = record {
-    limits = a .limits;
-    start = a .start;
-    goal = state;
-    pairs = a .pairs;
-    operators = a .operators;
-    free = a .free;
-    closed-under = a .closed-under;
-  }
+  after-acceptable a (replaceStart values) e =
+      let (state, free) = start-fine (contentOf T slots) values e in
+      record { limits = a .limits; start = state; goal = a .goal; pairs = a .pairs; operators = a .operators; free = free; closed-under = a .closed-under }
+  after-acceptable a (replaceGoal values) e =
+      let (state, _) = goal-fine (contentOf T slots) values fine e in
+      record { limits = a .limits; start = a .start; goal = state; pairs = a .pairs; operators = a .operators; free = a .free; closed-under = a .closed-under }
 
 -- ---- what a workspace stands for
 
@@ -92,22 +82,6 @@ pub record StandsFor (T : Task) (workspace : List ℕ) : Type 0 where
 -- How many words are due for a task.
 abbrev pub dueFor : Task → ℕ
 dueFor T = wordsDue (length (T .sizes)) (features (T .sizes))
-
--- The task after one edit.
-abbrev pub oneAfter : Task → Edit → Answer (Unit {0}) → Task
-oneAfter T edit answer = record {
-  sizes = T .sizes;
-  start = startAfter (T .start) edit answer;
-  goal = goalAfter (T .goal) edit answer;
-  pairs = T .pairs;
-  operators = movesAfter (T .operators) edit answer;
-}
-
--- A refused edit leaves the task as it was.
-refused-after : (T : Task) (edit : Edit) (k : ℕ) → oneAfter T edit (refused k) ≡ T
-refused-after T (addOperator r) k = refl
-refused-after T (replaceStart values) k = refl
-refused-after T (replaceGoal values) k = refl
 
 module _ (T : Task) (workspace : List ℕ) (S : StandsFor T workspace) where
   pub stands-ranged : Ranged (T .sizes) (listed (T .pairs)) (T .operators)
@@ -152,38 +126,26 @@ module _ (T : Task) (workspace : List ℕ) (S : StandsFor T workspace) where
   stands-opens file next judged room long = rw (judged, le-ltb (length room) (dueFor T) long)
       (S .slots, S .are, ap (λ words. writes (dueFor T) words room) stands-words)
 
+  -- What an accepted edit makes of the content is a content of the task after it, with that task's slots.
+  changed : (edit : Edit) (c' : Content) → Changes (contentOf T (S .slots)) edit c'
+      → (slots : Slots) × SlotsOf (features (T .sizes)) (Meets (T .sizes) (listed (T .pairs)) (movesAfter (T .operators) edit (done tt))) slots
+      × (c' ≡ contentOf (oneAfter T edit (done tt)) slots)
+  changed (addOperator r) c' (slots, D, q) = (slots, slots-more (T .sizes) (listed (T .pairs)) (T .operators) (operatorIn r) (S .slots) slots stands-ranged (S .are) D, q)
+  changed (replaceStart values) c' q = (S .slots, S .are, q)
+  changed (replaceGoal values) c' q = (S .slots, S .are, q)
+
   -- By the judgement of the operand.
   by-judgement : (edit : Edit) (answer : Answer (Unit {0})) (next : List ℕ) (judged : Judged) → editJudged (contentOf T (S .slots)) edit ≡ judged
       → EditsIn judged workspace (contentOf T (S .slots)) edit (record { answer = answer; lent = next }) → StandsFor (oneAfter T edit answer) next
   by-judgement edit answer next (faulty reason) e q = rw (ap (λ o. o .answer) q, refused-after T edit (refusal reason), ap (λ o. o .lent) q) S
-  by-judgement (addOperator r) answer next fine e h =
-      let (c', (slots, D, q'), q) = h in
+  by-judgement edit answer next fine e (c', h, q) =
+      let (slots, D, q') = changed edit c' h in
       rw (ap (λ o. o .answer) q) (record {
         slots = slots;
         further = drop (length (wordsOf c')) workspace;
         words = ap (λ o. o .lent) q ∙ ap (λ c. wordsOf c ++ drop (length (wordsOf c')) workspace) q';
-        acceptable = operator-acceptable T (S .acceptable) (operatorIn r) (add-operator (contentOf T (S .slots)) r e) (add-fine (contentOf T (S .slots)) r e .2);
-        are = slots-more (T .sizes) (listed (T .pairs)) (T .operators) (operatorIn r) (S .slots) slots stands-ranged (S .are) D;
-      })
-  by-judgement (replaceStart values) answer next fine e h =
-      let (c', q', q) = h in
-      let (state, free) = start-fine (contentOf T (S .slots)) values e in
-      rw (ap (λ o. o .answer) q) (record {
-        slots = S .slots;
-        further = drop (length (wordsOf c')) workspace;
-        words = ap (λ o. o .lent) q ∙ ap (λ c. wordsOf c ++ drop (length (wordsOf c')) workspace) q';
-        acceptable = start-acceptable T (S .acceptable) values state free;
-        are = S .are;
-      })
-  by-judgement (replaceGoal values) answer next fine e h =
-      let (c', q', q) = h in
-      let (state, _) = goal-fine (contentOf T (S .slots)) values fine e in
-      rw (ap (λ o. o .answer) q) (record {
-        slots = S .slots;
-        further = drop (length (wordsOf c')) workspace;
-        words = ap (λ o. o .lent) q ∙ ap (λ c. wordsOf c ++ drop (length (wordsOf c')) workspace) q';
-        acceptable = goal-acceptable T (S .acceptable) values state;
-        are = S .are;
+        acceptable = after-acceptable T (S .slots) (S .acceptable) edit e;
+        are = D;
       })
 
   -- One edit, accepted or refused.

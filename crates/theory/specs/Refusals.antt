@@ -9,12 +9,15 @@ use native.Mathlib.Omega.{arith}
 use lib.Dec.{leb, ltb}
 use lib.ListN.{length}
 use borrow.Author.Tests.{ltb-true, ltb-false, le-leb, lt-leb}
+use Rattle.meaning.specs.Limits.{mostInput, mostProgramFeatures}
+use Rattle.meaning.specs.Task.{Task}
 use Rattle.meaning.specs.Feature.{features}
 use Rattle.meaning.specs.Number.{Reason, Small, Malformed, refusal, Read, got, fault}
 use Rattle.meaning.specs.File.{judgedTask, judgedWeights, taskBytes}
 use Rattle.meaning.specs.Workspace.{Content, wordsFor, wordsDue, WellFormed}
-use Rattle.meaning.specs.Answer.{Answer, done, refused, Outcome, refuses, writes, delivered, byRead, Verdict, Checks, Opens, FindsIn, FindsBy, Finds, Judged, fine, faulty, need, Edit, editJudged, EditsIn, Edits}
+use Rattle.meaning.specs.Answer.{Answer, done, refused, Outcome, refuses, writes, delivered, byRead, Checks, Opens, FindsIn, FindsBy, Finds, Judged, fine, faulty, need, Edit, editJudged, EditsIn, Edits}
 use Rattle.meaning.specs.Bay.{Builds, judgedBay, bayTask}
+use Rattle.meaning.specs.Line.{Found, Seeks, tooLarge, Prints}
 use Rattle.theory.specs.Truth.{on, off, test}
 use Rattle.theory.specs.Determined.{AtMostOne}
 
@@ -44,6 +47,12 @@ buildJudged bay room = fileJudged (judgedBay bay) (λ b. roomJudged (length (tas
 -- "W words for a finder's answer even where that is 'none'".
 abbrev pub findJudged : List ℕ → Content → Judged
 findJudged room c = roomJudged (wordsFor (features (c .sizes))) room
+
+-- "More than 8,192 bytes give 8 before anything is judged; more than 640 features give 8 after 7."
+abbrev pub printJudged : List ℕ → Judged
+printJudged input =
+    need (leb (length input) mostInput) Small
+    (fileJudged (judgedTask input) (λ T. need (leb (features (T .sizes)) mostProgramFeatures) Small fine))
 
 -- What is found faulty has a number.
 abbrev pub Faulty : Judged → ℕ → Type 0
@@ -75,6 +84,11 @@ refuses-exactly {A = A} {Allowed = Allowed} {lent = lent} {Fault = Fault} only h
   where
     as-refused : (outcome : Outcome A) → Allowed outcome → (n : ℕ) → outcome .answer ≡ refused n → Fault n × (outcome .lent ≡ lent)
     as-refused outcome a n e = h n (outcome .lent) .0 (subst (λ answer. Allowed (record { answer = answer; lent = outcome .lent })) e a)
+
+-- The same of a call that is lent nothing to write.
+pub answers-exactly : {A : Type 0} {Allowed : Answer A → Type 0} {Fault : ℕ → Type 0} → AtMostOne Allowed → ((n : ℕ) → Allowed (refused n) ↔ Fault n)
+    → (answer : Answer A) → Allowed answer → (n : ℕ) → (answer ≡ refused n) ↔ Fault n
+answers-exactly {Allowed = Allowed} only h answer a n = (λ e. h n .0 (subst Allowed e a), λ f. only answer (refused n) a (h n .1 f))
 
 -- ---- one refusal
 
@@ -157,14 +171,32 @@ module _ (n : ℕ) (left : List ℕ) where
   edits-refused workspace edit = formed-refused workspace workspace (λ c. EditsIn (editJudged c edit) workspace c edit) (λ c. editJudged c edit)
       (λ c. operand-refused workspace edit c (editJudged c edit))
 
--- The checker is lent nothing to write.
+-- ---- calls that are lent nothing to write
+
+module _ {A : Type 0} (n : ℕ) where
+  number-alike : (reason : Reason) → (_≡_ {A = Answer A} (refused n) (refused (refusal reason))) ↔ (n ≡ refusal reason)
+  number-alike reason = (λ e. cc, λ e. ap refused e)
+
+  no-result : (a : A) → _≡_ {A = Answer A} (refused n) (done a) → ⊥
+  no-result a e = let z : _≡_ {A = ℕ} 0 1 = cc in omega arith
+
 pub checks-refused : (n : ℕ) (task weights : List ℕ) → Checks task weights (refused n) ↔ Faulty (checkJudged task weights) n
 checks-refused n task weights = read-refused (judgedTask task) _ _ _ (λ judged. Faulty judged n)
-    (λ T. read-refused (judgedWeights (features (T .sizes)) weights) _ _ _ (λ judged. Faulty judged n) (λ ws. (λ h. absurd (no-verdict (h .0) (h .1)), λ h. absurd h)) number-alike)
-    number-alike
-  where
-    number-alike : (reason : Reason) → (_≡_ {A = Answer Verdict} (refused n) (refused (refusal reason))) ↔ (n ≡ refusal reason)
-    number-alike reason = (λ e. cc, λ e. ap refused e)
+    (λ T. read-refused (judgedWeights (features (T .sizes)) weights) _ _ _ (λ judged. Faulty judged n) (λ ws. (λ h. absurd (no-result n (h .0) (h .1)), λ h. absurd h)) (number-alike n))
+    (number-alike n)
 
-    no-verdict : (v : Verdict) → _≡_ {A = Answer Verdict} (refused n) (done v) → ⊥
-    no-verdict v e = let z : _≡_ {A = ℕ} 0 1 = cc in omega arith
+pub prints-refused : (n : ℕ) (input : List ℕ) → Prints input (refused n) ↔ Faulty (printJudged input) n
+prints-refused n input = elim (test (ltb mostInput (length input))) [
+  | on p ↦ rw (p, lt-leb (length input) mostInput (ltb-true _ _ p)) (number-alike n Small)
+  | off p ↦ rw (p, le-leb (length input) mostInput (ltb-false _ _ p)) (judged (judgedTask input))
+]
+  where
+    judged : (read : Read Task)
+        → cond (tooLarge read) (_≡_ {A = Answer Found} (refused n) (refused (refusal Small)))
+        (byRead read (λ T. (found : Found) × (_≡_ {A = Answer Found} (refused n) (done found)) × Seeks T found) (λ reason. _≡_ {A = Answer Found} (refused n) (refused (refusal reason))))
+        ↔ Faulty (fileJudged read (λ T. need (leb (features (T .sizes)) mostProgramFeatures) Small fine)) n
+    judged (fault reason place) = number-alike n reason
+    judged (got T next) = elim (test (ltb mostProgramFeatures (features (T .sizes)))) [
+      | on p ↦ rw (p, lt-leb (features (T .sizes)) mostProgramFeatures (ltb-true _ _ p)) (number-alike n Small)
+      | off p ↦ rw (p, le-leb (features (T .sizes)) mostProgramFeatures (ltb-false _ _ p)) (λ h. absurd (no-result n (h .0) (h .1)), λ h. absurd h)
+    ]

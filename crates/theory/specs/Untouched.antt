@@ -45,14 +45,8 @@ module _ (c : Content) (further : List ℕ) (p : Proper c) where
   changed-outside : (edit : Edit) (c' : Content) → Proper c' → Changes c edit c' → (k : ℕ) → Outside (variablesIn c) (featuresIn c) edit k
       → getD (wordsOf c' ++ further) k 0 ≡ getD (wordsOf c ++ further) k 0
   changed-outside (addOperator r) c' p' h k o = rw (h .2) (slots-outside (h .0) k o)
-  changed-outside (replaceStart values) c' p' h k o = rw h (start-outside values k (values-full (rw h at p')) o)
-    where
-      values-full : Proper (withStart c values) → length values ≡ variablesIn c
-      values-full q = q .start .full
-  changed-outside (replaceGoal values) c' p' h k o = rw h (goal-outside values k (values-full (rw h at p')) o)
-    where
-      values-full : Proper (withGoal c values) → length values ≡ variablesIn c
-      values-full q = q .goal .full
+  changed-outside (replaceStart values) c' p' h k o = let q : Proper (withStart c values) = rw h at p' in rw h (start-outside values k (q .start .full) o)
+  changed-outside (replaceGoal values) c' p' h k o = let q : Proper (withGoal c values) = rw h at p' in rw h (goal-outside values k (q .goal .full) o)
 
 -- ---- an edit of a workspace
 

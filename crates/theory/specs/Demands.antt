@@ -181,8 +181,8 @@ pub record Afresh (file edited : List ℕ) (k : ℕ) : Type 0 where
       → (ws us : List ℕ) → take k ws ≡ take k edited → take k us ≡ take k fresh → (lent : List ℕ) (outcome : Outcome Finding) → Finds ws lent outcome ↔ Finds us lent outcome
 
 -- "Open a workspace from an accepted task and change it only by our edits (add a move, replace the start, replace the goal, refused edits among
--- them)." The edits may be lent the whole room or any words that begin with the k words due. U is "a task with the same variables and pairs, the last
--- accepted start and goal, and all its moves, the first task's with every one accepted since, listed in any order, repeats or not".
+-- them)." The edits are lent the whole room, or the k words due alone, or any words that begin with these. U is "a task with the same variables and
+-- pairs, the last accepted start and goal, and all its moves, the first task's with every one accepted since, listed in any order, repeats or not".
 module _ (T U : Task) (file room workspace lent edited : List ℕ) (next k : ℕ) (events : List Event)
     (judged : judgedTask file ≡ got T next) (opens : Opens file room (record { answer = done k; lent = workspace }))
     (begins : take k lent ≡ take k workspace) (edits : Edited lent events edited) (same : SameTask (taskAfter T events) U) where

@@ -46,17 +46,3 @@ pub fn put_members(line: &mut [u8], at: usize, words: &[u64]) -> usize
     }
     next
 }
-
-// How many members a set of features has.
-pub fn count(words: &[u64]) -> usize
-    requires { ⌜ wordBits * length (now words) < 2 ^ 64 ⌝ }
-    ensures { λ r. ⌜ r ≡ length (members (wordBits * length (now (words .entry))) (has (now (words .entry)))) ⌝ }
-{
-    let mut sum = 0;
-    let mut f = words::next_member(words, 0);
-    while f < words.len() * WORD_BITS {
-        sum += 1;
-        f = words::next_member(words, f + 1);
-    }
-    sum
-}

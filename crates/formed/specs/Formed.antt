@@ -1,9 +1,10 @@
 -- What the answer says, and what callers have from it.
 use Prim.Native.Nat.{ℕ, _≤_}
-use mathlib.Core.Path.{_≡_, sym, _∙_}
+use mathlib.Core.Path.{_≡_, refl, sym, ap₂, _∙_}
 use mathlib.Core.List.{List}
 use lib.ListN.{length}
 use Rattle.meaning.specs.Workspace.{wordsDue, Proper, WellFormed}
+use Rattle.theory.specs.Determined.{AtMostOne}
 use Rattle.theory.specs.Contents.{contentIn, variablesIn, featuresIn, formed-proper}
 use Rattle.formed.specs.Parts.{Cut, Sized, sizesPart, startPart, goalPart, pairsPart, slotsPart, contentParts, sized-length, sized-content, sized-cut, sized-due, formed-sized}
 use Rattle.formed.specs.declared.Formed.{Formed}
@@ -21,6 +22,14 @@ formed-no ws d = d
 pub formed-yes : (ws : List ℕ) (v n : ℕ) → Sized ws v n → WellFormed ws → FormedIs ws (Yes v n)
 unfolding FormedIs
 formed-yes ws v n s f = (f, sym (sized-length ws v n s), s .total)
+
+-- Any words have one such answer: whether they are well formed, and both counts.
+pub formed-is-only : (ws : List ℕ) → AtMostOne (FormedIs ws)
+unfolding FormedIs
+formed-is-only ws (Yes v n) (Yes v' n') h h' = ap₂ Yes (h .1 ∙ sym (h' .1)) (h .2 ∙ sym (h' .2))
+formed-is-only ws (Yes v n) No h h' = absurd (h' (h .0))
+formed-is-only ws No (Yes v' n') h h' = absurd (h (h' .0))
+formed-is-only ws No No h h' = refl
 
 -- ---- what a caller has where the answer is no, and where it is yes
 

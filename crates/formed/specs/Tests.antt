@@ -1,7 +1,7 @@
 -- What the tests of one part tell: sizes within their limits, values below their sizes, members within bounds.
 use Prim.Native.Nat.{ℕ, _+_, _*_, _<_, _≤_}
-use mathlib.Core.Path.{_≡_, refl, sym}
-use mathlib.Core.Bool.{true, false, true≢false}
+use mathlib.Core.Path.{_≡_}
+use mathlib.Core.Bool.{true, false}
 use mathlib.Core.List.{List}
 use native.Mathlib.Omega.{arith}
 use lib.Dec.{eqb, ltb}
@@ -12,19 +12,13 @@ use Rattle.meaning.specs.Limits.{leastSize, mostSize, wordBits}
 use Rattle.meaning.specs.Task.{size, value}
 use Rattle.meaning.specs.Workspace.{has, wordsFor}
 use Rattle.theory.specs.Truth.{on, off, test, less, same, more, order, clash}
-use Rattle.theory.specs.Tells.{Tells, tells-map, tells-eq}
+use Rattle.theory.specs.Tells.{Tells, told-no, tells-map, tells-eq}
 use Rattle.words.specs.Next.{Next}
 use Rattle.words.specs.Part.{has-past}
 
 -- What holds of the first i numbers, and of i, holds of the first i + 1.
 pub each-next : (P : ℕ → Type 0) (i : ℕ) → ((k : ℕ) → k < i → P k) → P i → (k : ℕ) → k < i + 1 → P k
 each-next P i h p k l = elim (order k i) [ less m ↦ h k m | same q ↦ rw q p | more m ↦ absurd (omega arith) ]
-
-pub told-yes : {P : Type 0} → P → Tells true P
-told-yes p = record { yes = λ _. p; back = λ _. refl }
-
-pub told-no : {P : Type 0} → (P → ⊥) → Tells false P
-told-no d = record { yes = λ e. absurd (true≢false (sym e)); back = λ p. absurd (d p) }
 
 -- The first n sizes are within their limits.
 abbrev pub EachSize : List ℕ → ℕ → Type 0

@@ -1,14 +1,11 @@
 -- What the call answers in the words of the meaning, and that it has one outcome.
-use Prim.Native.Nat.{ℕ, _*_}
+use Prim.Native.Nat.{ℕ}
 use mathlib.Core.Path.{_≡_, sym, ap, _∙_}
 use mathlib.Core.List.{List}
-use lib.ListN.{length}
-use Rattle.meaning.specs.Limits.{wordBits}
-use Rattle.meaning.specs.Workspace.{has}
 use Rattle.meaning.specs.Answer.{Answer, done, refused, Outcome, delivered}
 use Rattle.meaning.specs.Line as meaning
 use Rattle.theory.specs.Determined.{AtMostOne, prints-only}
-use Rattle.theory.specs.Run.{members}
+use Rattle.words.specs.Members.{membersIn}
 use Rattle.finding.specs.declared.Found.{Found}
 use Rattle.finding.specs.declared.Found.the-variants as found
 use Rattle.line.specs.declared.Printed.{Printed}
@@ -27,12 +24,8 @@ abbrev pub printedOf : Printed → Answer ℕ
 printedOf (printed.Printed n) = done n
 printedOf (printed.Refused number) = refused number
 
--- The features that words hold, increasing.
-abbrev pub featuresIn : List ℕ → List ℕ
-featuresIn words = members (wordBits * length words) (has words)
-
 -- The program's answer, from that of the finder and the words that it left.
 abbrev pub soughtOf : Found → List ℕ → Answer meaning.Found
-soughtOf found.Separated weights = done (meaning.separating (featuresIn weights))
+soughtOf found.Separated weights = done (meaning.separating (membersIn weights))
 soughtOf found.Nothing weights = done meaning.nothing
 soughtOf (found.Refused number) weights = refused number

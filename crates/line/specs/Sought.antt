@@ -20,7 +20,6 @@ use Rattle.meaning.specs.Workspace.{wordsFor, wordsDue, has, packed, Content}
 use Rattle.meaning.specs.Answer.{Answer, done, refused, Outcome, refuses, Opens, Finding, FindsBy, Finds}
 use Rattle.meaning.specs.Line.{Found as Answered, separating, nothing, Seeks, Prints}
 use Rattle.theory.specs.Truth.{on, off, test}
-use Rattle.theory.specs.Search.{and-none-right}
 use Rattle.theory.specs.Run.{members, run-members, listed-members, run-same}
 use Rattle.theory.specs.Cut.{cut, cut-below, separates-cut}
 use Rattle.theory.specs.Whole.{whole-cong}
@@ -29,13 +28,14 @@ use Rattle.theory.specs.Accepted.{accepted}
 use Rattle.theory.specs.Histories.{opened-stands, stands-formed, stands-content}
 use Rattle.theory.specs.Demands.{none-said, least-given}
 use Rattle.words.specs.Part.{has-front, has-back, has-drop, has-none, has-past}
+use Rattle.words.specs.Members.{membersIn, listed-in-words, members-same}
 use Rattle.opening.specs.Answer.{openedOf}
 use Rattle.opening.specs.declared.Opened.{Opened}
 use Rattle.opening.specs.declared.Opened.the-variants as opening
 use Rattle.finding.specs.Found.{foundOf}
 use Rattle.finding.specs.declared.Found.{Found}
 use Rattle.finding.specs.declared.Found.the-variants.{Separated, Nothing, Refused}
-use Rattle.line.specs.Answer.{featuresIn, soughtOf}
+use Rattle.line.specs.Answer.{soughtOf}
 
 -- ---- how many words are due
 
@@ -68,30 +68,20 @@ zeros-behind l k f = elim (test (ltb f (wordBits * length l))) [
     past g = has-back l _ g ∙ has-drop (length l) (replicate k 0) g ∙ has-none k _ ∙ sym (has-past l _ (omega arith))
 
 -- Weights of n features in the first of words that were zeros.
-module _ (n k : ℕ) (w : Set) (fits : n ≤ wordBits * k) (words : List ℕ) (size : length words ≡ k)
-    (e : words ≡ packed n w ++ drop (length (packed n w)) (replicate k 0)) where
+module _ (n k : ℕ) (w : Set) (words : List ℕ) (e : words ≡ packed n w ++ drop (length (packed n w)) (replicate k 0)) where
   -- The features that the words hold are the weights below n.
-  listed-weights : listed (featuresIn words) ≡ cut n w
+  listed-weights : listed (membersIn words) ≡ cut n w
   unfolding cut
-  listed-weights = fun-ext (λ f. listed-members (wordBits * length words) (has words) f
-      ∙ ap (λ b. ltb f (wordBits * length words) && b) (ap (λ l. has l f) e ∙ zeros-behind (packed n w) k f ∙ has-packed n w f)
-      ∙ below f)
-    where
-      below : (f : ℕ) → (ltb f (wordBits * length words) && (ltb f n && w f)) ≡ (ltb f n && w f)
-      below f = elim (test (ltb f n)) [
-        | on t ↦ rw (lt-ltb f (wordBits * length words) (omega (arith, ltb-true f n t)))
-        | off t ↦ rw t (and-none-right (ltb f (wordBits * length words)) false refl)
-      ]
+  listed-weights = fun-ext (λ f. listed-in-words words f ∙ ap (λ l. has l f) e ∙ zeros-behind (packed n w) k f ∙ has-packed n w f)
 
-  weights-run : Run 0 (featuresIn words) n
+  weights-run : Run 0 (membersIn words) n
   unfolding cut
-  weights-run = subst (λ l. Run 0 l n) (sym same) (run-members n w)
+  weights-run = subst (λ l. Run 0 l n) same (run-members n w)
     where
-      same : featuresIn words ≡ members n w
-      same = run-same 0 _ 0 n _ _ (run-members _ (has words)) (run-members n w)
-          (λ f. ap (λ a. a f) listed-weights ∙ sym (listed-members n w f))
+      same : members n w ≡ membersIn words
+      same = members-same n w words (λ f. listed-members n w f ∙ sym (ap (λ a. a f) listed-weights) ∙ listed-in-words words f)
 
-  least-weights : (T : Task) → n ≡ features (T .sizes) → LeastOf n (Separates T) w → Seeks T (separating (featuresIn words))
+  least-weights : (T : Task) → n ≡ features (T .sizes) → LeastOf n (Separates T) w → Seeks T (separating (membersIn words))
   least-weights T q best = (
     subst (Run 0 _) q weights-run,
     record {
@@ -169,19 +159,17 @@ module _ (input : List ℕ) where
                   room-taken (formed .content) (replicate weightWords 0) left number (omega (arith, length-replicate {A = ℕ} weightWords 0)) h
             ]
 
-        found-so : (left : List ℕ) (found : Found) → length left ≡ weightWords
-            → Finds workspace (replicate weightWords 0) (record { answer = foundOf found; lent = left }) → Prints input (soughtOf found left)
-        found-so left Separated many finds =
+        found-so : (left : List ℕ) (found : Found) → Finds workspace (replicate weightWords 0) (record { answer = foundOf found; lent = left }) → Prints input (soughtOf found left)
+        found-so left Separated finds =
             let (T, next, e, total) = told _ opens-done in
             let (w, best, q) = least-given input T next e room workspace due opens-done (replicate weightWords 0) left finds in
-            seeks-prints T next _ e total (least-weights (features (T .sizes)) weightWords w total left many q T refl best)
-        found-so left Nothing many finds =
+            seeks-prints T next _ e total (least-weights (features (T .sizes)) weightWords w left q T refl best)
+        found-so left Nothing finds =
             let (T, next, e, total) = told _ opens-done in
             seeks-prints T next nothing e total (none-said input T next e room workspace due opens-done (replicate weightWords 0) left finds)
-        found-so left (Refused number) many finds = absurd (not-refused left number finds)
+        found-so left (Refused number) finds = absurd (not-refused left number finds)
 
         -- What is found in the opened workspace, in words that were zeros, is the program's answer.
-        pub sought : (weights left : List ℕ) (found : Found) → weights ≡ replicate weightWords 0 → length left ≡ length weights
+        pub sought : (weights left : List ℕ) (found : Found) → weights ≡ replicate weightWords 0
             → Finds workspace weights (record { answer = foundOf found; lent = left }) → Prints input (soughtOf found left)
-        sought weights left found zeros same finds =
-            found-so left found (same ∙ ap length zeros ∙ length-replicate {A = ℕ} weightWords 0) (rw zeros at finds)
+        sought weights left found zeros finds = found-so left found (rw zeros at finds)

@@ -10,7 +10,7 @@ use Rattle.meaning.specs.Answer.{done, refused}
 use Rattle.meaning.specs.Line.{separating, word, wordsIn, line}
 use Rattle.decimal.specs.Decimal.{wordWidth, word-few}
 use Rattle.decimal.specs.Written.{Written, written-behind}
-use Rattle.line.specs.Answer.{featuresIn}
+use Rattle.words.specs.Members.{membersIn}
 
 -- ---- bytes copied
 
@@ -43,12 +43,12 @@ word-ends at n after e = omega (arith, word-few n)
 
 -- The line for weights that separate, part by part.
 pub separated-written : (weights : List ℕ) {text line₁ line₂ line₃ line₄ : List ℕ} {first second third end : ℕ} (count : ℕ)
-    → count ≡ length (featuresIn weights) → first ≤ length line₁
+    → count ≡ length (membersIn weights) → first ≤ length line₁
     → Written text 0 (115 ∷ 101 ∷ 112 ∷ 97 ∷ 114 ∷ 97 ∷ 116 ∷ 101 ∷ 100 ∷ []) first line₁
     → Written line₁ first (word count) second line₂
-    → Written line₂ second (wordsIn (featuresIn weights)) third line₃
+    → Written line₂ second (wordsIn (membersIn weights)) third line₃
     → Written line₃ third (10 ∷ []) end line₄
-    → Written text 0 (line (done (separating (featuresIn weights)))) end line₄
+    → Written text 0 (line (done (separating (membersIn weights)))) end line₄
 unfolding line wordsIn
 separated-written weights count e h a b c d = written-behind (omega arith) a (written-behind h (written-behind h (rw e at b) c) d)
 

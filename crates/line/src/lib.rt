@@ -5,7 +5,8 @@ ghost use lib.ListN.{length, replicate};
 ghost use Rattle.meaning.specs.Line.{separating, Prints, mostDigits, line};
 ghost use Rattle.meaning.specs.Answer.{done, refused, delivered};
 ghost use Rattle.decimal.specs.Written.{Written};
-ghost use Rattle.line.specs.Answer.{Lines, printedOf, featuresIn, soughtOf};
+ghost use Rattle.words.specs.Members.{membersIn};
+ghost use Rattle.line.specs.Answer.{Lines, printedOf, soughtOf};
 ghost use Rattle.line.specs.Sought.{mostDue, weightWords};
 ghost use Rattle.line.specs.Fits.{lineBytes, ShortNumber};
 use decimal::WORD_WIDTH;
@@ -68,9 +69,9 @@ fn put(text: &mut [u8], at: usize, bytes: &[u8]) -> usize
 // Puts the line for weights that separate.
 fn put_separated(text: &mut [u8], weights: &[u64]) -> usize
     requires { ⌜ (length (now text) ≡ lineBytes) × (length (now weights) ≡ weightWords) ⌝ }
-    ensures { λ r. ⌜ Written (now (text .entry)) 0 (line (done (separating (featuresIn (now (weights .entry)))))) r (now (text .exit)) ⌝ }
+    ensures { λ r. ⌜ Written (now (text .entry)) 0 (line (done (separating (membersIn (now (weights .entry)))))) r (now (text .exit)) ⌝ }
 {
-    let count = decimal::count(weights);
+    let count = words::count(weights);
     let first = put(text, 0, b"separated");
     let second = decimal::put_word(text, first, count);
     let third = decimal::put_members(text, second, weights);

@@ -1,8 +1,8 @@
 -- A truth value that tells whether a statement holds, and how such tests are put together.
 use Prim.Native.Nat.{ℕ, _<_, _≤_}
-use mathlib.Core.Path.{_≡_, ap}
+use mathlib.Core.Path.{_≡_, refl, sym, ap}
 use mathlib.Core.Logic.{_≢_}
-use mathlib.Core.Bool.{Bool, true, false, not, _&&_, _||_}
+use mathlib.Core.Bool.{Bool, true, false, not, _&&_, _||_, true≢false}
 use mathlib.Core.List.{List, List·Memᴰ as In}
 use lib.Dec.{eqb, leb, ltb}
 use borrow.Author.Tests.{eqb-true, eq-eqb, ltb-true, lt-ltb, leb-true, le-leb, not-true}
@@ -15,6 +15,13 @@ use Rattle.theory.specs.Search.{every-each, every-at, all-each, all-at}
 pub record Tells (b : Bool) (P : Type 0) : Type 0 where
   pub yes : b ≡ true → P
   pub back : P → b ≡ true
+
+-- An answer that is known.
+pub told-yes : {P : Type 0} → P → Tells true P
+told-yes p = record { yes = λ _. p; back = λ _. refl }
+
+pub told-no : {P : Type 0} → (P → ⊥) → Tells false P
+told-no d = record { yes = λ e. absurd (true≢false (sym e)); back = λ p. absurd (d p) }
 
 -- ---- using a test
 

@@ -1,4 +1,4 @@
--- The next member of a set, at a number or above it, and how it is found in words.
+-- The next member of a set, at a number or above it, how it is found in words, and words that have none.
 use Prim.Native.Nat.{ℕ, _+_, _-_, _*_, _/_, _%_, _^_, _<_, _≤_}
 use mathlib.Core.Path.{_≡_, ap, sym, _∙_}
 use mathlib.Core.Logic.{_≢_}
@@ -8,7 +8,8 @@ use native.Mathlib.Omega.{arith}
 use native.Mathlib.Nat.{lt-of-lt-of-le}
 use lib.Dec.{ltb}
 use lib.Pow.{pow-mono, shr-lt}
-use lib.ListN.{length, getD}
+use lib.ListN.{length, getD, take, drop, length-take}
+use lib.Seq.{getD-take}
 use lib.Count.{trailingZeros}
 use borrow.Author.Tests.{ltb-true, ltb-false}
 use Rattle.meaning.specs.Sets.{Set}
@@ -19,6 +20,7 @@ use Rattle.theory.specs.Truth.{on, off, test, less, same, more, order, clash}
 use Rattle.theory.specs.Words.{bit-past, has-at}
 use Rattle.theory.specs.Slots.{lead, lead-none, lead-least}
 use Rattle.words.specs.Bits.{bit-none, bit-shift, trailing-below, trailing-at, trailing-within}
+use Rattle.words.specs.Part.{has-past, has-drop}
 
 -- From one number on and below another a set has no member.
 abbrev pub Clear : Set → ℕ → ℕ → Type 0
@@ -105,4 +107,33 @@ clear-word l start i c e f j k = elim (test (ltb f (i * 64))) [
   | on t ↦ c f j (ltb-true f (i * 64) t)
   | off t ↦ let b : i * 64 ≤ f = ltb-false f (i * 64) t in let q : i * 64 + (f - i * 64) ≡ f = omega arith in
       ap (has l) (sym q) ∙ has-at l i (f - i * 64) (omega arith) ∙ rw e (bit-none (f - i * 64))
+]
+
+-- ---- no member at all
+
+abbrev pub Empty : List ℕ → Type 0
+Empty l = (f : ℕ) → has l f ≡ false
+
+-- A word that is not 0 has a member.
+pub not-empty : (l : List ℕ) (i : ℕ) → getD l i 0 < 2 ^ wordBits → getD l i 0 ≢ 0 → Empty l → ⊥
+not-empty l i b d h =
+    let x = getD l i 0 in
+    let small : trailingZeros wordBits x < wordBits = trailing-within wordBits x b d in
+    clash (has-at l i (trailingZeros wordBits x) small ∙ trailing-at wordBits x small) (h (i * wordBits + trailingZeros wordBits x))
+
+pub all-clear : (l : List ℕ) (i : ℕ) → length l ≤ i → Clear (has l) 0 (i * wordBits) → Empty l
+all-clear l i h c f = elim (test (ltb f (i * wordBits))) [
+  | on e ↦ c f (omega arith) (ltb-true f (i * wordBits) e)
+  | off e ↦ has-past l f (omega (arith, ltb-false f (i * wordBits) e))
+]
+
+-- The first words have what all have, where the others have no member.
+pub has-take : (k : ℕ) (l : List ℕ) → Empty (drop k l) → (f : ℕ) → has (take k l) f ≡ has l f
+unfolding has
+has-take k l h f = elim (test (ltb f (k * wordBits))) [
+  | on e ↦ rw (getD-take k l (f / wordBits) 0 (omega (arith, ltb-true f (k * wordBits) e)))
+  | off e ↦
+      let past : k * wordBits ≤ f = ltb-false f (k * wordBits) e in
+      let there : k * wordBits + (f - k * wordBits) ≡ f = omega arith in
+      has-past (take k l) f (omega (arith, length-take k l)) ∙ sym (h (f - k * wordBits)) ∙ has-drop k l (f - k * wordBits) ∙ ap (has l) there
 ]

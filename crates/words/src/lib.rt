@@ -1,4 +1,4 @@
-// Sets of features in slices of 64-bit words: members, changes of one feature, sums, parities of what two sets share.
+// Sets of features in slices of 64-bit words: members and their count, changes of one feature, sums, parities of what two sets share.
 ghost use mathlib.Core.Path.{_≡_};
 ghost use Prim.Native.Nat.{_*_, _^_, _≤_, _<_};
 ghost use lib.ListN.{length, replicate};
@@ -6,7 +6,9 @@ ghost use Rattle.meaning.specs.Limits.{wordBits};
 ghost use Rattle.meaning.specs.Sets.{odd, shared};
 ghost use Rattle.meaning.specs.Workspace.{has};
 ghost use Rattle.words.specs.Change.{toggled, summed};
-ghost use Rattle.words.specs.Next.{Next};
+ghost use Rattle.theory.specs.Tells.{Tells};
+ghost use Rattle.words.specs.Next.{Next, Empty};
+ghost use Rattle.words.specs.Members.{membersIn};
 
 pub const WORD_BITS: usize = 64;
 
@@ -75,6 +77,34 @@ pub fn next_member(words: &[u64], start: usize) -> usize
         i += 1;
     }
     words.len() * WORD_BITS
+}
+
+// How many members a set has, going from member to member.
+pub fn count(words: &[u64]) -> usize
+    requires { ⌜ wordBits * length (now words) < 2 ^ 64 ⌝ }
+    ensures { λ r. ⌜ r ≡ length (membersIn (now (words .entry))) ⌝ }
+{
+    let mut sum = 0;
+    let mut f = next_member(words, 0);
+    while f < words.len() * WORD_BITS {
+        sum += 1;
+        f = next_member(words, f + 1);
+    }
+    sum
+}
+
+// Whether a set has no member. Any number of words is taken.
+pub fn is_empty(words: &[u64]) -> bool
+    ensures { λ r. ⌜ Tells r (Empty (now (words .entry))) ⌝ }
+{
+    let mut i = 0;
+    while i < words.len() {
+        if words[i] != 0 {
+            return false;
+        }
+        i += 1;
+    }
+    true
 }
 
 // Takes every member out.

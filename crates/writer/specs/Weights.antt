@@ -1,5 +1,6 @@
--- What the call that writes a weight file answers, and what it leaves in the lent bytes.
+-- What the calls that write a weight file answer, and what they leave in the lent bytes.
 use Prim.Native.Nat.{ℕ, suc}
+use mathlib.Core.Path.{_≡_}
 use mathlib.Core.List.{List, [], _∷_}
 use lib.Dec.{leb, ltb}
 use Rattle.meaning.specs.Limits.{mostFeatures}
@@ -26,6 +27,10 @@ unlessFaulty (meaning.faulty reason) room outcome = meaning.refuses reason room
 -- writeWeights(weights, room): the list is judged, then the room.
 unfoldable pub weightsWritten : List ℕ → List ℕ → meaning.Outcome ℕ
 weightsWritten weights room = unlessFaulty (weightsJudged 0 weights) room (meaning.delivered (weightBytes weights) room)
+
+-- The same as a relation. For the features that words hold it is weightFile(words, room): there 4 is never given, since a set increases.
+abbrev pub Writes : List ℕ → List ℕ → meaning.Outcome ℕ → Type 0
+Writes weights room outcome = outcome ≡ weightsWritten weights room
 
 -- What the answers of the code say in the words of the meaning.
 abbrev pub judgedOf : Judged → meaning.Judged

@@ -7,10 +7,15 @@ ghost use Rattle.meaning.specs.Limits.{numberEnd};
 ghost use Rattle.meaning.specs.Number.{numberBytes};
 ghost use Rattle.meaning.specs.File.{bytesOf, counted, entryBytes, operatorBytes};
 ghost use Rattle.theory.specs.Slices.{entryOf, entriesIn};
-ghost use Rattle.writer.specs.Parts.{Numbers, Countable, Triples};
+ghost use Rattle.words.specs.Members.{membersIn};
+ghost use Rattle.writer.specs.Parts.{Numbers, Countable, Triples, FewWords};
 ghost use Rattle.writer.specs.Weights.{judgedOf, outcomeOf, weightsJudged, weightsWritten};
 use limits::MOST_FEATURES;
 use number::Reason;
+use words::WORD_BITS;
+
+// As many words as the most features fill: a feature behind them is out of range.
+const MOST_WORDS: usize = MOST_FEATURES / WORD_BITS;
 
 // What is wrong with a list of features: the first fault, or nothing.
 enum Judged {
@@ -159,4 +164,59 @@ pub fn write_weights(weights: &[u64], room: &mut [u8]) -> Written
             Written::Done(write_list(room, 0, weights))
         }
     }
+}
+
+// How many bytes the members of a set have, without their count.
+fn members_width(words: &[u64]) -> usize
+    requires { ⌜ FewWords (now words) ⌝ }
+    ensures { λ r. ⌜ r ≡ length (bytesOf numberBytes (membersIn (now (words .entry)))) ⌝ }
+{
+    let mut sum = 0;
+    let mut f = words::next_member(words, 0);
+    while f < words.len() * WORD_BITS {
+        sum += number::width(f);
+        f = words::next_member(words, f + 1);
+    }
+    sum
+}
+
+// Writes the members of a set from a place on, increasing, without their count, and answers the place after them.
+fn write_members(room: &mut [u8], at: usize, words: &[u64]) -> usize
+    requires { ⌜ FewWords (now words) × (at + length (bytesOf numberBytes (membersIn (now words))) ≤ length (now room)) ⌝ }
+    ensures after { λ r. ⌜ r ≡ at + length (bytesOf numberBytes (membersIn (now (words .entry)))) ⌝ }
+    ensures written { λ r. ⌜ now (room .exit) ≡ take at (now (room .entry)) ++ (bytesOf numberBytes (membersIn (now (words .entry))) ++ drop r (now (room .entry))) ⌝ }
+{
+    let mut next = at;
+    let mut f = words::next_member(words, 0);
+    while f < words.len() * WORD_BITS {
+        next = number::write_number(room, next, f);
+        f = words::next_member(words, f + 1);
+    }
+    next
+}
+
+// Writes the weight file of a set whose words are few enough that each feature is in range.
+fn write_set(words: &[u64], room: &mut [u8]) -> Written
+    requires { ⌜ FewWords (now words) ⌝ }
+    ensures { λ r. ⌜ outcomeOf r (now (room .exit)) ≡ weightsWritten (membersIn (now (words .entry))) (now (room .entry)) ⌝ }
+{
+    let count = words::count(words);
+    if room.len() < number::width(count) + members_width(words) {
+        return Written::Refused(Reason::Small);
+    }
+    let next = number::write_number(room, 0, count);
+    Written::Done(write_members(room, next, words))
+}
+
+// Writes the weight file of a set of features in words, as the finder leaves them. Any words are taken.
+pub fn weight_file(words: &[u64], room: &mut [u8]) -> Written
+    ensures { λ r. ⌜ outcomeOf r (now (room .exit)) ≡ weightsWritten (membersIn (now (words .entry))) (now (room .entry)) ⌝ }
+{
+    if words.len() <= MOST_WORDS {
+        return write_set(words, room);
+    }
+    if !words::is_empty(&words[MOST_WORDS..]) {
+        return Written::Refused(Reason::Range);
+    }
+    write_set(&words[..MOST_WORDS], room)
 }

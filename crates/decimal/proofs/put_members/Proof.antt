@@ -8,7 +8,8 @@ use Rattle.meaning.specs.Line.{wordsIn}
 use Rattle.meaning.specs.Workspace.{has}
 use Rattle.theory.specs.Run.{members}
 use Rattle.decimal.specs.Written.{Written, written-none, written-behind}
-use Rattle.decimal.specs.Members.{Reached, reached, members-first, words-members-few, words-next}
+use Rattle.words.specs.Members.{Reached, reached, members-first}
+use Rattle.decimal.specs.Members.{words-members-few, words-next}
 use Rattle.decimal.proofs.put_members.Statement.{statement}
 use Rattle.decimal.proofs.put_members.Tie as tie
 

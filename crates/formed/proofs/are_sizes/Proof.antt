@@ -2,7 +2,8 @@
 use Prim.Native.Nat.{_-_, _≤_}
 use native.Mathlib.Omega.{arith}
 use lib.ListN.{length}
-use Rattle.formed.specs.Tests.{EachSize, each-next, told-yes, told-no}
+use Rattle.theory.specs.Tells.{told-yes, told-no}
+use Rattle.formed.specs.Tests.{EachSize, each-next}
 use Rattle.formed.proofs.are_sizes.Statement.{statement}
 use Rattle.formed.proofs.are_sizes.Tie as tie
 

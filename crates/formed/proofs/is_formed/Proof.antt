@@ -2,8 +2,7 @@
 use mathlib.Core.Path.{subst}
 use native.Mathlib.Omega.{arith}
 use Rattle.meaning.specs.Workspace.{Proper}
-use Rattle.theory.specs.Tells.{Tells}
-use Rattle.formed.specs.Tests.{told-no}
+use Rattle.theory.specs.Tells.{Tells, told-no}
 use Rattle.formed.specs.Parts.{sized-small, sized-due, sized-formed, lent-content, lent-cut}
 use borrow.Author.Needs.{needs}
 use Rattle.formed.proofs.is_formed.Statement.{statement}

@@ -3,8 +3,7 @@ use mathlib.Core.Path.{sym, _∙_}
 use borrow.Author.Needs.{needs}
 use borrow.Author.Tests.{not-true, not-false}
 use Rattle.theory.specs.Truth.{clash}
-use Rattle.theory.specs.Tells.{tells-no}
-use Rattle.formed.specs.Tests.{told-no}
+use Rattle.theory.specs.Tells.{told-no, tells-no}
 use Rattle.formed.specs.Parts.{cut-small, cut-bounds, cut-listed, cut-pairs, cut-proper}
 use Rattle.formed.proofs.is_proper.Statement.{statement}
 use Rattle.formed.proofs.is_proper.Tie as tie

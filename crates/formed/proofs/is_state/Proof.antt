@@ -2,7 +2,8 @@
 use Prim.Native.Nat.{_-_, _≤_}
 use native.Mathlib.Omega.{arith}
 use lib.ListN.{length}
-use Rattle.formed.specs.Tests.{Below, each-next, told-yes, told-no}
+use Rattle.theory.specs.Tells.{told-yes, told-no}
+use Rattle.formed.specs.Tests.{Below, each-next}
 use Rattle.formed.proofs.is_state.Statement.{statement}
 use Rattle.formed.proofs.is_state.Tie as tie
 

@@ -4,7 +4,8 @@ use native.Mathlib.Omega.{arith}
 use lib.ListN.{length}
 use Rattle.meaning.specs.Limits.{wordBits}
 use Rattle.meaning.specs.Workspace.{has}
-use Rattle.decimal.specs.Members.{members-few, words-members-few}
+use Rattle.words.specs.Members.{members-few}
+use Rattle.decimal.specs.Members.{words-members-few}
 use Rattle.line.specs.Text.{word-ends, separated-written}
 use borrow.Author.Needs.{needs}
 use Rattle.line.proofs.put_separated.Statement.{statement}

@@ -1,15 +1,14 @@
 -- `count` counts from member to member: at each turn the members below the place reached are counted.
 use Prim.Native.Nat.{_+_, _*_, _-_}
 use mathlib.Core.Path.{_≡_, sym, ap, _∙_}
-use mathlib.Core.List.{[], _∷_}
 use native.Mathlib.Omega.{arith}
-use lib.ListN.{length, length-append}
+use lib.ListN.{length}
 use Rattle.meaning.specs.Limits.{wordBits}
 use Rattle.meaning.specs.Workspace.{has}
 use Rattle.theory.specs.Run.{members}
-use Rattle.decimal.specs.Members.{Reached, reached, members-few, members-first, members-next}
-use Rattle.decimal.proofs.count.Statement.{statement}
-use Rattle.decimal.proofs.count.Tie as tie
+use Rattle.words.specs.Members.{Reached, reached, members-few, members-first, members-behind}
+use Rattle.words.proofs.count.Statement.{statement}
+use Rattle.words.proofs.count.Tie as tie
 
 abbrev Inv-loop : tie.InvT-loop
 Inv-loop words sum₀ f₀ sum f = Reached (has words) (wordBits * length words) f × (sum ≡ length (members f (has words)))
@@ -47,8 +46,8 @@ loop-again c =
     let n = wordBits * length words in
     let turn = c .before .before .loop in
     let next = c .next-member2 .ensures in
-    let more = members-next (has words) n (turn .f) _ (turn .inv .0) (omega (arith, c .before .loop-test .taken)) next in
-    (reached (has words) n (turn .f + 1) _ next, omega (arith, turn .inv .1, ap length more, length-append (members (turn .f) (has words)) (turn .f ∷ [])))
+    let more = members-behind (has words) n (turn .f) _ (turn .inv .0) (omega (arith, c .before .loop-test .taken)) next in
+    (reached (has words) n (turn .f + 1) _ next, omega (arith, turn .inv .1, more))
 
 returns : tie.Need-returns Inv-loop μ-loop
 returns c =

@@ -1,0 +1,81 @@
+-- `weight_file` refuses words that have a feature out of range, and otherwise writes the set of the words that can have one in range.
+use Prim.Native.Nat.{ℕ, _-_}
+use mathlib.Core.Path.{_≡_, sym, ap, _∙_, subst}
+use mathlib.Core.List.{List}
+use native.Mathlib.Omega.{arith}
+use lib.ListN.{length, drop, length-drop, take}
+use lib.Seq.{length-take-le, take-all}
+use borrow.Author.Needs.{needs}
+use borrow.Author.Tests.{not-true, not-false}
+use Rattle.theory.specs.Tells.{Tells, tells-no}
+use Rattle.words.specs.Next.{Empty}
+use Rattle.words.specs.Members.{membersIn, members-front}
+use Rattle.writer.specs.Weights.{weightsWritten}
+use Rattle.writer.specs.Judging.{weights-refused}
+use Rattle.writer.specs.Sets.{mostWords, outside-range, in-range-behind}
+use Rattle.writer.proofs.weight_file.Statement.{statement}
+use Rattle.writer.proofs.weight_file.Tie as tie
+
+behind : (words : List ℕ) → take (length words - mostWords) (drop mostWords words) ≡ drop mostWords words
+behind words = take-all (length words - mostWords) (drop mostWords words) (omega (arith, length-drop mostWords words))
+
+write-set-requires : tie.Need-write-set-requires
+write-set-requires c κs = search needs
+
+same-length : tie.Need-same-length
+same-length c = search needs
+
+returns : tie.Need-returns
+returns c = search needs
+
+sub-is-empty : tie.Need-sub-is-empty
+sub-is-empty c = search needs
+
+part-is-empty-start : tie.Need-part-is-empty-start
+part-is-empty-start c = search needs
+
+part-is-empty-end : tie.Need-part-is-empty-end
+part-is-empty-end c = search needs
+
+is-empty-requires : tie.Need-is-empty-requires
+is-empty-requires c κs = search needs
+
+returns-2 : tie.Need-returns-2
+returns-2 c =
+    let a = c .before .before .before .before .before .before .args in
+    let words = a .words .now in
+    let none = tells-no (subst (λ l. Tells (c .before .is-empty .result) (Empty l)) (behind words) (c .before .is-empty .ensures)) (not-true _ (c .if2 .taken)) in
+    sym (weights-refused (membersIn words) (a .room .now) _ (outside-range words (λ h. none (in-range-behind words h))))
+
+slice-aggregate-write-set : tie.Need-slice-aggregate-write-set
+slice-aggregate-write-set c = sym (length-take-le mostWords (c .before .before .before .before .before .before .before .args .words .now) (omega (arith, c .before .before .before .before .if1 .left)))
+
+write-set-requires-2 : tie.Need-write-set-requires-2
+write-set-requires-2 c κs = omega (arith, length-take-le mostWords (c .before .before .before .before .before .before .before .before .args .words .now) (omega (arith, c .before .before .before .before .before .if1 .left)))
+
+same-length-2 : tie.Need-same-length-2
+same-length-2 c = search needs
+
+returns-3 : tie.Need-returns-3
+returns-3 c =
+    let a = c .before .before .before .before .before .before .before .before .before .before .before .args in
+    let words = a .words .now in
+    let empty = subst Empty (behind words) (c .before .before .before .before .before .before .is-empty .ensures .yes (not-false _ (c .before .before .before .before .before .if2 .left))) in
+    c .before .before .write-set2 .ensures ∙ ap (λ l. weightsWritten l (a .room .now)) (members-front mostWords words empty)
+
+pub weight-file-spec : {M : Type 1} → statement M
+weight-file-spec =
+    tie.close
+    (tie.spec
+    write-set-requires
+    same-length
+    returns
+    sub-is-empty
+    part-is-empty-start
+    part-is-empty-end
+    is-empty-requires
+    returns-2
+    slice-aggregate-write-set
+    write-set-requires-2
+    same-length-2
+    returns-3)

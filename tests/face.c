@@ -99,11 +99,36 @@ static void builds_and_lines(void) {
     expect(is(florumeja_line(task_g, sizeof task_g, room, sizeof room), FLORUMEJA_DONE, 10) && memcmp(room, "refused 7\n", 10) == 0, "G's line");
 }
 
+/* The count and the features as a weight file has them; a number from 128 on has two bytes: 128 is 80 01, 200 is C8 01. */
+static void weight_files(void) {
+    static uint64_t full[65];
+    static uint8_t long_room[FLORUMEJA_WEIGHT_BYTES];
+    uint8_t room[8];
+    const uint8_t sevens[] = {7, 7, 7, 7, 7, 7, 7, 7}, both[] = {2, 0, 2, 7}, high[] = {3, 63, 0x80, 1, 0xC8, 1, 7}, none[] = {0, 7};
+    const uint64_t found[] = {5}, apart[] = {1ull << 63, 0, 1, 1ull << 8}, empty[] = {0, 0};
+    memset(room, 7, sizeof room);
+    expect(refused(florumeja_weight_file(found, 1, room, 2), FLORUMEJA_SMALL) && SAME(room, sevens), "2 bytes are too few for {0,2}");
+    expect(is(florumeja_weight_file(found, 1, room, sizeof room), FLORUMEJA_DONE, 3) && SAME(room, both), "the weight file of {0,2}");
+    expect(is(florumeja_check(task_b, sizeof task_b, room, 3), FLORUMEJA_DONE, 0), "B with that file is accepted");
+    memset(room, 7, sizeof room);
+    expect(is(florumeja_weight_file(apart, 4, room, sizeof room), FLORUMEJA_DONE, 6) && SAME(room, high), "the weight file of {63,128,200}");
+    memset(room, 7, sizeof room);
+    expect(is(florumeja_weight_file(empty, 2, room, sizeof room), FLORUMEJA_DONE, 1) && SAME(room, none), "the weight file of no feature");
+    expect(is(florumeja_weight_file(empty, 0, room, 1), FLORUMEJA_DONE, 1), "no words at all");
+    memset(full, 255, 64 * sizeof full[0]);
+    expect(refused(florumeja_weight_file(full, 65, long_room, FLORUMEJA_WEIGHT_BYTES - 1), FLORUMEJA_SMALL), "a byte too few for 4,096 features");
+    expect(is(florumeja_weight_file(full, 65, long_room, FLORUMEJA_WEIGHT_BYTES), FLORUMEJA_DONE, FLORUMEJA_WEIGHT_BYTES), "4,096 features and a word of none");
+    full[64] = 1;
+    memset(room, 7, sizeof room);
+    expect(refused(florumeja_weight_file(full, 65, room, 0), FLORUMEJA_RANGE) && SAME(room, sevens), "feature 4,096: refused 3 before the room is judged");
+}
+
 int main(void) {
     check_calls();
     open_and_find();
     edits();
     builds_and_lines();
+    weight_files();
     printf("%d passed, %d failed\n", passed, failed);
     return failed != 0;
 }

@@ -7,10 +7,12 @@ use native.Mathlib.Omega.{arith}
 use lib.Dec.{eqb}
 use Rattle.meaning.specs.Answer.{Answer, done, refused, Outcome, Verdict, accepted, endsAlike, breaks, Checks, Opens, none, separated, Finds, Edit, Edits}
 use Rattle.meaning.specs.Bay.{Builds}
-use Rattle.theory.specs.Determined.{AtMostOne, checks-only, opens-only, finds-only, edits-only, builds-only}
+use Rattle.theory.specs.Determined.{AtMostOne, is-only, checks-only, opens-only, finds-only, edits-only, builds-only}
 use Rattle.line.specs.Answer.{Lines, lines-only}
+use Rattle.words.specs.Members.{membersIn}
+use Rattle.writer.specs.Weights.{weightsWritten, Writes}
 use Rattle.florumeja.specs.Code.{valueEnd, Code, code, numberOf, refusedCase, answerCode, verdictCode, lengthCode, findingCode, editCode, Coded, Left, Leaves}
-use Rattle.florumeja.specs.Fits.{Fits, FitsIn, checks-fit, opens-fit, finds-fit, edits-fit, builds-fit, lines-fit}
+use Rattle.florumeja.specs.Fits.{Fits, FitsIn, checks-fit, opens-fit, finds-fit, edits-fit, builds-fit, lines-fit, writes-fit}
 
 -- ---- a number and its code
 
@@ -110,6 +112,10 @@ build-read bay room = outcome-allowed length-table (Builds bay room) (builds-fit
 pub line-read : (input room : List ℕ) (left : Left) → Leaves lengthCode (Lines input room) left → Lines input room (outcomeIn length-table left)
 line-read input room = outcome-allowed length-table (Lines input room) (lines-fit input room)
 
+pub weight-file-read : (words room : List ℕ) (left : Left) → Leaves lengthCode (Writes (membersIn words) room) left
+    → Writes (membersIn words) room (outcomeIn length-table left)
+weight-file-read words room = outcome-allowed length-table (Writes (membersIn words) room) (writes-fit (membersIn words) room)
+
 -- ---- each call leaves one number and one memory
 
 coded-only : {A : Type 0} (resultCode : A → Code) (Allows : Answer A → Type 0) → AtMostOne Allows → AtMostOne (Coded resultCode Allows)
@@ -137,3 +143,6 @@ build-only bay room = leaves-only lengthCode (Builds bay room) (builds-only bay 
 
 pub line-only : (input room : List ℕ) → AtMostOne (Leaves lengthCode (Lines input room))
 line-only input room = leaves-only lengthCode (Lines input room) (lines-only input room)
+
+pub weight-file-only : (words room : List ℕ) → AtMostOne (Leaves lengthCode (Writes (membersIn words) room))
+weight-file-only words room = leaves-only lengthCode (Writes (membersIn words) room) (is-only (weightsWritten (membersIn words) room))

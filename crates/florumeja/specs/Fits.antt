@@ -13,7 +13,7 @@ use Rattle.meaning.specs.Sets.{Set, listed}
 use Rattle.meaning.specs.Task.{Task}
 use Rattle.meaning.specs.Feature.{features}
 use Rattle.meaning.specs.Number.{Reason, Small, Malformed, refusal, Read, got, fault}
-use Rattle.meaning.specs.File.{judgedTask, judgedWeights, taskBytes, InLimits}
+use Rattle.meaning.specs.File.{judgedTask, judgedWeights, taskBytes, weightBytes, InLimits}
 use Rattle.meaning.specs.Workspace.{packed, wordsFor, wordsDue, Content, wordsOf, WellFormed}
 use Rattle.meaning.specs.Answer.{Answer, done, refused, Outcome, refuses, writes, delivered, byRead, Verdict, accepted, endsAlike, breaks, Judges, Checks, Opens}
 use Rattle.meaning.specs.Answer.{Finding, none, separated, FindsIn, FindsBy, Finds, Edit, Judged, fine, faulty, editJudged, EditsIn, Edits}
@@ -26,6 +26,8 @@ use Rattle.building.specs.Answers.{Sides}
 use Rattle.building.specs.Files.{task-few}
 use Rattle.line.specs.Answer.{Lines}
 use Rattle.line.specs.Fits.{refusal-short, line-short}
+use Rattle.writer.specs.Weights.{weightsJudged, weightsWritten, Writes}
+use Rattle.writer.specs.Judging.{fine-few, weights-refused, weights-delivered}
 use Rattle.florumeja.specs.Code.{valueEnd, Code, answerCode, verdictCode, lengthCode, findingCode, editCode}
 
 abbrev pub Fits : {A : Type 0} → (A → Code) → Answer A → Type 0
@@ -136,3 +138,12 @@ builds-fit bay room =
 pub lines-fit : (input room : List ℕ) (outcome : Outcome ℕ) → Lines input room outcome → FitsIn lengthCode outcome
 lines-fit input room o (answer, prints, e) =
     is-good (FitsIn lengthCode) _ (delivered-fits (line answer) room (omega (arith, line-short input answer prints))) o e
+
+-- ---- a weight file: it has at most as many features as there are
+
+pub writes-fit : (weights room : List ℕ) (outcome : Outcome ℕ) → Writes weights room outcome → FitsIn lengthCode outcome
+writes-fit weights room o e = is-good (FitsIn lengthCode) (weightsWritten weights room) (by (weightsJudged 0 weights) refl) o e
+  where
+    by : (judged : Judged) → weightsJudged 0 weights ≡ judged → FitsIn lengthCode (weightsWritten weights room)
+    by (faulty reason) j = rw (weights-refused weights room reason j) (refusal-fits reason)
+    by fine j = rw (weights-delivered weights room j) (delivered-fits (weightBytes weights) room (omega (arith, fine-few weights j)))

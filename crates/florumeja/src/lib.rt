@@ -11,6 +11,8 @@ ghost use Rattle.finding.specs.Found.{foundOf};
 ghost use Rattle.editing.specs.Answers.{editedOf};
 ghost use Rattle.building.specs.Answers.{builtOf};
 ghost use Rattle.line.specs.Answer.{Lines, printedOf};
+ghost use Rattle.words.specs.Members.{membersIn};
+ghost use Rattle.writer.specs.Weights.{Writes, writtenOf};
 ghost use Rattle.florumeja.specs.Code.{valueEnd, code, numberOf, answerCode, verdictCode, lengthCode, findingCode, editCode, Coded, Leaves};
 ghost use Rattle.florumeja.specs.Fits.{Fits};
 ghost use Rattle.florumeja.specs.Places.{handed, SamePlaces};
@@ -22,6 +24,7 @@ use limits::MOST_ENTRIES;
 use line::Printed;
 use opening::Opened;
 use operator::Operator;
+use writer::Written;
 
 // Every value is below this number.
 const VALUE_END: u64 = 4294967296;
@@ -98,6 +101,16 @@ fn printed_number(printed: Printed) -> u64
     match printed {
         Printed::Printed(k) => coded(0, k as u64),
         Printed::Refused(n) => coded(REFUSED, n),
+    }
+}
+
+fn written_number(written: Written) -> u64
+    requires { ⌜ Fits lengthCode (writtenOf written) ⌝ }
+    ensures { λ r. ⌜ r ≡ numberOf (answerCode lengthCode (writtenOf written)) ⌝ }
+{
+    match written {
+        Written::Done(k) => coded(0, k as u64),
+        Written::Refused(reason) => coded(REFUSED, number::refusal(reason)),
     }
 }
 
@@ -200,4 +213,12 @@ pub extern "C" fn florumeja_line(input: &[u8], room: &mut [u8]) -> u64
     ensures { λ r. ⌜ Leaves lengthCode (Lines (now (input .entry)) (now (room .entry))) (record { number = r; lent = now (room .exit) }) ⌝ }
 {
     printed_number(line::line(input, room))
+}
+
+// Writes the weight file of a set of features in words, as the finder leaves them.
+#[no_mangle]
+pub extern "C" fn florumeja_weight_file(words: &[u64], room: &mut [u8]) -> u64
+    ensures { λ r. ⌜ Leaves lengthCode (Writes (membersIn (now (words .entry))) (now (room .entry))) (record { number = r; lent = now (room .exit) }) ⌝ }
+{
+    written_number(writer::weight_file(words, room))
 }

@@ -2,7 +2,6 @@
 use Prim.Native.Nat.{ℕ, suc, _+_, _-_, _*_, _<_, _≤_}
 use mathlib.Core.Path.{_≡_, refl, sym, ap, _∙_, subst, fun-ext}
 use mathlib.Core.Logic.{inl, inr}
-use mathlib.Core.Bool.{false, _&&_}
 use mathlib.Core.List.{List, _++_}
 use native.Mathlib.Omega.{arith}
 use native.Mathlib.Nat.{mul-le-mul}
@@ -20,7 +19,7 @@ use Rattle.meaning.specs.Workspace.{wordsFor, wordsDue, has, packed, Content}
 use Rattle.meaning.specs.Answer.{Answer, done, refused, Outcome, refuses, Opens, Finding, FindsBy, Finds}
 use Rattle.meaning.specs.Line.{Found as Answered, separating, nothing, Seeks, Prints}
 use Rattle.theory.specs.Truth.{on, off, test}
-use Rattle.theory.specs.Run.{members, run-members, listed-members, run-same}
+use Rattle.theory.specs.Run.{members, run-members, listed-members}
 use Rattle.theory.specs.Cut.{cut, cut-below, separates-cut}
 use Rattle.theory.specs.Whole.{whole-cong}
 use Rattle.theory.specs.Words.{has-packed}

@@ -1,5 +1,5 @@
 -- How a list of features is judged, that an accepted list is a run, and what comes of writing it.
-use Prim.Native.Nat.{ℕ, suc, _+_, _<_, _≤_}
+use Prim.Native.Nat.{ℕ, suc, _+_, _*_, _<_, _≤_}
 use mathlib.Core.Path.{_≡_, refl, sym, ap, _∙_}
 use mathlib.Core.List.{List, [], _∷_}
 use native.Mathlib.Omega.{arith}
@@ -8,17 +8,19 @@ use lib.ListN.{length, getD, take, drop, drop-of-length-le}
 use lib.Seq.{drop-cons, take-at}
 use lib.Dec.{leb, ltb}
 use borrow.Author.Tests.{ltb-true, ltb-false, leb-true, lt-ltb, le-ltb, lt-leb, le-leb}
-use Rattle.meaning.specs.Limits.{mostFeatures}
-use Rattle.meaning.specs.Number.{Reason, Range, Unordered, Small, refusal, got}
+use Rattle.meaning.specs.Limits.{mostFeatures, mostGroups}
+use Rattle.meaning.specs.Number.{Reason, Range, Unordered, Small, refusal, got, numberBytes}
 use Rattle.meaning.specs.Task.{Run}
 use Rattle.meaning.specs.File.{weightBytes, judgedWeights}
 use Rattle.meaning.specs.Answer.{Judged, fine, faulty, need, done, refused, refuses, delivered}
 use Rattle.theory.specs.Flat.{getD-in}
 use Rattle.theory.specs.Truth.{on, off, test}
+use Rattle.theory.specs.NumberBack.{number-bytes-length}
 use Rattle.theory.specs.ReadBack.{weights-back}
 use Rattle.theory.specs.Operands.{need-fine}
 use Rattle.theory.specs.Run.{run-none, run-more, run-length, run-in}
 use Rattle.writer.specs.Parts.{Countable}
+use Rattle.writer.specs.Widths.{counted-length, numbers-few}
 use Rattle.writer.specs.Remains.{delivered-small, delivered-whole}
 use Rattle.writer.specs.Weights.{weightsJudged, weightsWritten}
 
@@ -60,6 +62,12 @@ pub fine-countable : (weights : List ℕ) → weightsJudged 0 weights ≡ fine �
 fine-countable weights e =
     let run = fine-run 0 weights (omega arith) e in
     (omega (arith, run-length 0 mostFeatures weights run), λ i h. omega (arith, run-in 0 mostFeatures weights (getD weights i 0) run (getD-in weights i 0 h)))
+
+-- And its file is short.
+pub fine-few : (weights : List ℕ) → weightsJudged 0 weights ≡ fine → length (weightBytes weights) ≤ mostGroups * suc mostFeatures
+unfolding weightBytes
+fine-few weights e =
+    omega (arith, run-length 0 mostFeatures weights (fine-run 0 weights (omega arith) e), counted-length numberBytes weights, number-bytes-length (length weights), numbers-few weights)
 
 -- ---- the outcome of writing a weight file
 

@@ -5,3 +5,5 @@ pub mod Remains
 pub mod Judging
 pub mod Walk
 pub mod Sets
+pub mod Only
+pub mod Found

@@ -1,20 +1,20 @@
 -- The weight file of a set of features in words: 3 where a feature is out of range, and otherwise 8 or the file; 4 is never given.
-use Prim.Native.Nat.{ℕ, suc, _+_, _*_, _/_, _<_, _≤_}
-use mathlib.Core.Path.{_≡_, refl, sym, ap, _∙_}
+use Prim.Native.Nat.{ℕ, suc, _+_, _*_, _/_, _≤_}
+use mathlib.Core.Path.{_≡_, refl, sym, _∙_}
 use mathlib.Core.Logic.{_⊎_, inl, inr}
 use mathlib.Core.Bool.{false}
 use mathlib.Core.List.{List, [], _∷_}
 use native.Mathlib.Omega.{arith}
 use lib.Dec.{ltb}
 use lib.ListN.{length, drop}
-use borrow.Author.Tests.{ltb-true, ltb-false, lt-ltb, le-leb}
+use borrow.Author.Tests.{lt-ltb, le-leb}
 use Rattle.meaning.specs.Limits.{mostFeatures, wordBits}
 use Rattle.meaning.specs.Number.{Range}
 use Rattle.meaning.specs.Task.{Run}
 use Rattle.meaning.specs.Workspace.{has}
 use Rattle.meaning.specs.Answer.{fine, faulty}
 use Rattle.theory.specs.Truth.{on, off, test}
-use Rattle.theory.specs.Run.{run-first, run-rest, run-length, run-wider, run-outside, run-same, run-members}
+use Rattle.theory.specs.Run.{run-first, run-rest, run-length, run-outside, run-members}
 use Rattle.words.specs.Part.{has-past, has-drop}
 use Rattle.words.specs.Next.{Empty}
 use Rattle.words.specs.Members.{membersIn, members-below, listed-in-words}

@@ -4,7 +4,7 @@ use mathlib.Core.Path.{_≡_}
 use mathlib.Core.List.{List, [], _∷_}
 use lib.Dec.{leb, ltb}
 use Rattle.meaning.specs.Limits.{mostFeatures}
-use Rattle.meaning.specs.Number.{Range, Unordered}
+use Rattle.meaning.specs.Number.{Range, Unordered, refusal}
 use Rattle.meaning.specs.File.{weightBytes}
 use Rattle.meaning.specs.Answer as meaning
 use Rattle.number.specs.Answers.{reasonOf}
@@ -37,6 +37,9 @@ abbrev pub judgedOf : Judged → meaning.Judged
 judgedOf Fine = meaning.fine
 judgedOf (Faulty reason) = meaning.faulty (reasonOf reason)
 
+abbrev pub writtenOf : Written → meaning.Answer ℕ
+writtenOf (Done n) = meaning.done n
+writtenOf (Refused reason) = meaning.refused (refusal (reasonOf reason))
+
 abbrev pub outcomeOf : Written → List ℕ → meaning.Outcome ℕ
-outcomeOf (Done n) room = record { answer = meaning.done n; lent = room }
-outcomeOf (Refused reason) room = meaning.refuses (reasonOf reason) room
+outcomeOf r room = record { answer = writtenOf r; lent = room }

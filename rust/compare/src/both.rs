@@ -156,6 +156,16 @@ impl Both<'_> {
         expected
     }
 
+    pub fn weight_file(&mut self, words: &[u64], room: &[u8]) -> Outcome<u8> {
+        let expected = Outcome::of(room, |room| calls::weight_file(words, room));
+        let input = Lent::new(words);
+        let (found, guards) = guarded(room, |room| library::weight_file(&input, room));
+        let kept = guards && input.still_holds(words);
+        let inputs = || vec![("words", shown(words)), ("room", shown(room))];
+        self.judge("weight_file", &inputs, &expected, &found, kept);
+        expected
+    }
+
     /// Whether the library opens a task to exactly the words that edits led to.
     pub fn fresh(&mut self, task: &[u8], edited: &[u64]) {
         let expected = Outcome::of(edited, |words| calls::done(words.len()));

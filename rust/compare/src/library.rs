@@ -53,6 +53,12 @@ extern "C" {
         room: *mut u8,
         room_length: usize,
     ) -> u64;
+    fn florumeja_weight_file(
+        words: *const u64,
+        words_length: usize,
+        room: *mut u8,
+        room_length: usize,
+    ) -> u64;
 }
 
 pub fn check(task: &Lent<u8>, weights: &Lent<u8>) -> u64 {
@@ -156,6 +162,18 @@ pub fn line(input: &Lent<u8>, room: &mut Lent<u8>) -> u64 {
         florumeja_line(
             input.pointer(),
             input.length(),
+            room.pointer_for_writing(),
+            room.length(),
+        )
+    }
+}
+
+pub fn weight_file(words: &Lent<u64>, room: &mut Lent<u8>) -> u64 {
+    // SAFETY: both slices are alive and apart; only the room is lent for writing.
+    unsafe {
+        florumeja_weight_file(
+            words.pointer(),
+            words.length(),
             room.pointer_for_writing(),
             room.length(),
         )

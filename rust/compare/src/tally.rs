@@ -5,7 +5,7 @@ use std::collections::BTreeMap;
 use std::fmt::Write;
 
 /// The kinds of comparison, in the order of the report.
-pub const KINDS: [&str; 9] = [
+pub const KINDS: [&str; 10] = [
     "check",
     "open",
     "find",
@@ -14,6 +14,7 @@ pub const KINDS: [&str; 9] = [
     "replace_goal",
     "build",
     "line",
+    "weight_file",
     "fresh",
 ];
 

@@ -1,12 +1,12 @@
 //! The public calls, with the numbers that they hand back and the memory that they leave.
 
 use crate::bay::read_bay;
-use crate::feature_set::words_for;
+use crate::feature_set::{words_for, FeatureSet};
 use crate::line::line as finder_line;
 use crate::refusal::Refusal;
 use crate::separation::{verdict, Verdict};
-use crate::task::read_task;
-use crate::weights::read_weights;
+use crate::task::{read_task, MOST_FEATURES};
+use crate::weights::{read_weights, weight_file as file_of};
 use crate::workspace::{Record, Workspace};
 
 /// One step between the cases of a result.
@@ -128,4 +128,19 @@ fn try_build(bay: &[u8], room: &mut [u8]) -> Result<u64, Refusal> {
 pub fn line(input: &[u8], room: &mut [u8]) -> u64 {
     let text = finder_line(input);
     settle(fill(room, text.as_bytes()).map(|()| done(text.len())))
+}
+
+pub fn weight_file(words: &[u64], room: &mut [u8]) -> u64 {
+    settle(try_weight_file(words, room))
+}
+
+fn try_weight_file(words: &[u64], room: &mut [u8]) -> Result<u64, Refusal> {
+    let weights = FeatureSet::from_words(words);
+    // Without a task the range ends at the most features that any task has.
+    if weights.highest().is_some_and(|last| last >= MOST_FEATURES) {
+        return Err(Refusal::Range);
+    }
+    let file = file_of(&weights);
+    fill(room, &file)?;
+    Ok(done(file.len()))
 }

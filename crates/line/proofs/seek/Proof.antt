@@ -36,7 +36,7 @@ returns-2 c =
     let found = c .before .before .find in
     sought (start .args .input .now) (omega (arith, c .before .before .before .before .before .before .before .before .before .before .before .if1 .left)) (start .args .workspace .now) (start .pre .0)
     (opened .result) _ (opened .ensures) _ (c .before .before .before .before .before .enum-told .given .1)
-    (start .args .weights .now) _ (found .result) (start .pre .1) (found .kept .1 .0) (found .ensures)
+    (start .args .weights .now) _ (found .result) (start .pre .1) (found .ensures)
 
 same-length-3 : tie.Need-same-length-3
 same-length-3 c = search needs

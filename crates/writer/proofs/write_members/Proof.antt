@@ -1,6 +1,6 @@
 -- `write_members` writes a number at each member: the bytes of the members ahead are what remains.
 use Prim.Native.Nat.{_+_, _*_, _-_}
-use mathlib.Core.Path.{_≡_, sym}
+use mathlib.Core.Path.{_≡_}
 use native.Mathlib.Omega.{arith}
 use lib.ListN.{length}
 use Rattle.meaning.specs.Limits.{wordBits}

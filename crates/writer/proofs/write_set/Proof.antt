@@ -1,20 +1,18 @@
 -- `write_set` counts, refuses a room that is too small, and otherwise writes the count and then the members, until nothing remains.
 use Prim.Native.Nat.{_+_, _*_, _<_, _≤_}
 use mathlib.Core.Path.{_≡_, refl, sym, ap, _∙_}
-use mathlib.Core.List.{List, [], _++_, append-nil}
+use mathlib.Core.List.{[], _++_, append-nil}
 use native.Mathlib.Omega.{arith}
 use lib.ListN.{length}
 use borrow.Author.Needs.{needs}
-use Rattle.meaning.specs.Limits.{numberEnd, wordBits}
+use Rattle.meaning.specs.Limits.{wordBits}
 use Rattle.meaning.specs.Number.{numberBytes}
 use Rattle.meaning.specs.File.{bytesOf, counted, weightBytes}
 use Rattle.meaning.specs.Workspace.{has}
-use Rattle.meaning.specs.Answer.{delivered}
 use Rattle.theory.specs.NumberBack.{number-bytes-length}
 use Rattle.words.specs.Members.{membersIn, members-few}
 use Rattle.writer.specs.Widths.{numbers-few, counted-length}
 use Rattle.writer.specs.Remains.{remains-all, remains-after, remains-none, delivered-small, delivered-done}
-use Rattle.writer.specs.Weights.{weightsWritten}
 use Rattle.writer.specs.Judging.{weights-delivered}
 use Rattle.writer.specs.Sets.{in-range-fine, few-in-range}
 use Rattle.writer.proofs.write_set.Statement.{statement}

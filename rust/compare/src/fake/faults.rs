@@ -74,11 +74,17 @@ pub enum Fault {
     WritesOutside,
     /// A byte of a lent input is written.
     WritesInput,
+    /// The first word's last feature is left out of a weight file.
+    LeavesFeatureOut,
+    /// A feature past the range is left out where it should be refused.
+    CutsAtRange,
+    /// No room is refused before the range of features is judged.
+    RoomBeforeRange,
 }
 
 use Fault::*;
 
-pub const FAULTS: [Fault; 34] = [
+pub const FAULTS: [Fault; 37] = [
     AcceptsAlike,
     CountsLiveOperators,
     LastOperator,
@@ -113,6 +119,9 @@ pub const FAULTS: [Fault; 34] = [
     AfterExcuses,
     PairedStatesLeftOut,
     LongForms,
+    LeavesFeatureOut,
+    CutsAtRange,
+    RoomBeforeRange,
 ];
 
 thread_local! {

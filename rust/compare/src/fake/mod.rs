@@ -13,7 +13,7 @@ use faults::{planted, Fault::*};
 use files::{check, open};
 use reference::workspace::Record;
 use words::{add_operator, find, replace_goal, replace_start};
-use written::{build, print};
+use written::{build, print, weight_file};
 
 /// Refused 8.
 const NO_ROOM: u64 = (3 << 32) + 8;
@@ -141,6 +141,19 @@ unsafe extern "C" fn florumeja_line(
 ) -> u64 {
     print(
         lent(input, input_length),
+        lent_for_writing(room, room_length),
+    )
+}
+
+#[no_mangle]
+unsafe extern "C" fn florumeja_weight_file(
+    words: *const u64,
+    words_length: usize,
+    room: *mut u8,
+    room_length: usize,
+) -> u64 {
+    weight_file(
+        lent(words, words_length),
         lent_for_writing(room, room_length),
     )
 }

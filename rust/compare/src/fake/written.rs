@@ -1,4 +1,4 @@
-//! The bay builder and the program's line with faults.
+//! The bay builder, the program's line and weight files with faults.
 
 use super::faults::{planted, Fault::*};
 use super::NO_ROOM;
@@ -7,6 +7,7 @@ use reference::calls::{self, done, refused};
 use reference::features::count_features;
 use reference::line;
 use reference::refusal::Refusal;
+use reference::task::MOST_FEATURES;
 
 pub fn build(bay: &[u8], room: &mut [u8]) -> u64 {
     let result = calls::build(bay, room);
@@ -63,4 +64,18 @@ pub fn print(input: &[u8], room: &mut [u8]) -> u64 {
     }
     room[..text.len()].copy_from_slice(text.as_bytes());
     done(text.len())
+}
+
+pub fn weight_file(words: &[u64], room: &mut [u8]) -> u64 {
+    if planted(RoomBeforeRange) && room.len() < 2 {
+        return NO_ROOM;
+    }
+    let mut words = words.to_vec();
+    if planted(CutsAtRange) {
+        words.truncate(MOST_FEATURES / 64);
+    }
+    if let (Some(first), true) = (words.first_mut(), planted(LeavesFeatureOut)) {
+        *first &= u64::MAX >> 1;
+    }
+    calls::weight_file(&words, room)
 }

@@ -5,6 +5,7 @@ mod edits;
 mod files;
 mod large;
 mod lines;
+mod sets;
 mod words;
 
 use crate::both::Both;
@@ -20,7 +21,7 @@ pub struct Group {
 }
 
 /// The counts make an optimised run take about a minute and a half.
-pub const GROUPS: [Group; 18] = [
+pub const GROUPS: [Group; 21] = [
     Group {
         name: "weights",
         cases: 40_000,
@@ -110,6 +111,21 @@ pub const GROUPS: [Group; 18] = [
         name: "nine-slots",
         cases: 8,
         run: large::nine_slots,
+    },
+    Group {
+        name: "found-sets",
+        cases: 10_000,
+        run: sets::found,
+    },
+    Group {
+        name: "sets",
+        cases: 20_000,
+        run: sets::any,
+    },
+    Group {
+        name: "limits-of-sets",
+        cases: 4_000,
+        run: sets::limits,
     },
 ];
 

@@ -11,7 +11,7 @@ use Rattle.theory.specs.Accepted.{accepted-end}
 use Rattle.building.specs.declared.Built.{Built}
 use Rattle.building.specs.declared.Built.the-variants.{Built as Whole}
 use Rattle.building.specs.Answers.{outcomeOf}
-use Rattle.building.specs.Built.{built}
+use Rattle.theory.specs.Demands.{built}
 use borrow.Author.Needs.{needs}
 use Rattle.bay.proofs.main.Statement.{statement}
 use Rattle.bay.proofs.main.Tie as tie

@@ -12,15 +12,16 @@ use Rattle.meaning.specs.Limits.{mostFeatures, wordBits}
 use Rattle.meaning.specs.Number.{Range}
 use Rattle.meaning.specs.Task.{Run}
 use Rattle.meaning.specs.Workspace.{has}
-use Rattle.meaning.specs.Answer.{fine, faulty}
+use Rattle.meaning.specs.File.{weightBytes}
+use Rattle.meaning.specs.Answer.{fine, faulty, refuses, delivered}
 use Rattle.theory.specs.Truth.{on, off, test}
 use Rattle.theory.specs.Run.{run-first, run-rest, run-length, run-outside, run-members}
 use Rattle.words.specs.Part.{has-past, has-drop}
 use Rattle.words.specs.Next.{Empty}
 use Rattle.words.specs.Members.{membersIn, members-below, listed-in-words}
 use Rattle.writer.specs.Parts.{FewWords}
-use Rattle.writer.specs.Weights.{weightsJudged}
-use Rattle.writer.specs.Judging.{fine-run}
+use Rattle.writer.specs.Weights.{weightsJudged, weightsWritten}
+use Rattle.writer.specs.Judging.{fine-run, weights-refused, weights-delivered}
 
 -- As many words as the most features fill.
 abbrev pub mostWords : ℕ
@@ -53,11 +54,25 @@ module _ (words : List ℕ) where
   pub in-range-fine : InRange words → weightsJudged 0 (membersIn words) ≡ fine
   in-range-fine h = run-fine 0 (membersIn words) (rw (← members-below mostFeatures words h) (run-members mostFeatures (has words)))
 
+  fine-in-range : weightsJudged 0 (membersIn words) ≡ fine → InRange words
+  fine-in-range e f l = sym (listed-in-words words f) ∙ run-outside 0 mostFeatures (membersIn words) f (fine-run 0 (membersIn words) (omega arith) e) (λ j k. omega arith)
+
+  set-judged : (weightsJudged 0 (membersIn words) ≡ fine) ⊎ (weightsJudged 0 (membersIn words) ≡ faulty Range)
+  set-judged = run-judged 0 (wordBits * length words) (membersIn words) (run-members (wordBits * length words) (has words))
+
   pub outside-range : (InRange words → ⊥) → weightsJudged 0 (membersIn words) ≡ faulty Range
-  outside-range d = elim (run-judged 0 (wordBits * length words) (membersIn words) (run-members (wordBits * length words) (has words))) [
-    | inl e ↦ absurd (d (λ f l. sym (listed-in-words words f) ∙ run-outside 0 mostFeatures (membersIn words) f (fine-run 0 (membersIn words) (omega arith) e) (λ j k. omega arith)))
-    | inr e ↦ e
+  outside-range d = elim set-judged [ inl e ↦ absurd (d (fine-in-range e)) | inr e ↦ e ]
+
+  -- What weightFile(words, room) comes to: 3 exactly where a feature is out of range; otherwise 8 or the file, by the room.
+  pub set-written : (room : List ℕ) → (InRange words × (weightsWritten (membersIn words) room ≡ delivered (weightBytes (membersIn words)) room))
+      ⊎ ((InRange words → ⊥) × (weightsWritten (membersIn words) room ≡ refuses Range room))
+  set-written room = elim set-judged [
+    | inl e ↦ inl (fine-in-range e, weights-delivered (membersIn words) room e)
+    | inr e ↦ inr (λ h. not-both (sym (in-range-fine h) ∙ e), weights-refused (membersIn words) room Range e)
   ]
+    where
+      not-both : fine ≡ faulty Range → ⊥
+      not-both q = let z : _≡_ {A = ℕ} 0 1 = cc in omega arith
 
   pub few-in-range : FewWords words → InRange words
   few-in-range h f l = has-past words f (omega arith)

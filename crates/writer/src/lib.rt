@@ -1,4 +1,5 @@
-// The parts of task files and weight files, written into lent bytes: how many bytes a part has, and the part written at a place.
+// The parts of task files, written into lent bytes: how many bytes a part has, and the part written at a place; and whole weight files, of a list of features
+// or of a set in words.
 ghost use mathlib.Core.Path.{_≡_};
 ghost use mathlib.Core.List.{_++_};
 ghost use Prim.Native.Nat.{_+_, _<_, _≤_};
@@ -201,7 +202,9 @@ fn write_set(words: &[u64], room: &mut [u8]) -> Written
     ensures { λ r. ⌜ outcomeOf r (now (room .exit)) ≡ weightsWritten (membersIn (now (words .entry))) (now (room .entry)) ⌝ }
 {
     let count = words::count(words);
-    if room.len() < number::width(count) + members_width(words) {
+    let members = members_width(words);
+    let width = number::width(count) + members;
+    if room.len() < width {
         return Written::Refused(Reason::Small);
     }
     let next = number::write_number(room, 0, count);

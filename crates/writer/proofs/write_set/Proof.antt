@@ -21,16 +21,16 @@ use Rattle.writer.proofs.write_set.Tie as tie
 count-requires : tie.Need-count-requires
 count-requires c κs = search needs
 
-width-requires : tie.Need-width-requires
-width-requires c κs =
-    let words = c .before .before .before .args .words .now in
-    omega (arith, c .before .before .before .pre, c .count .ensures, members-few (has words) (wordBits * length words))
-
 members-width-requires : tie.Need-members-width-requires
 members-width-requires c κs = search needs
 
-add-if1 : tie.Need-add-if1
-add-if1 c =
+width-requires : tie.Need-width-requires
+width-requires c κs =
+    let words = c .before .before .before .before .args .words .now in
+    omega (arith, c .before .before .before .before .pre, c .before .count .ensures, members-few (has words) (wordBits * length words))
+
+add-width : tie.Need-add-width
+add-width c =
     let words = c .before .before .before .before .before .args .words .now in
     omega (arith, c .before .before .before .before .before .pre, number-bytes-length (c .before .before .count .result), members-few (has words) (wordBits * length words), numbers-few (membersIn words))
 
@@ -78,9 +78,9 @@ write-set-spec =
     tie.close
     (tie.spec
     count-requires
-    width-requires
     members-width-requires
-    add-if1
+    width-requires
+    add-width
     returns
     write-number-requires
     write-members-requires

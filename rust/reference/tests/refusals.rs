@@ -382,3 +382,24 @@ fn line_needs_room() {
     assert_eq!(calls::line(&[], &mut room), 10);
     assert_eq!(&room, b"refused 1\nxx");
 }
+
+/// Features of 0 to 4,095 are written; others are refused before the room is judged.
+#[test]
+fn weight_files_judge_range_then_room() {
+    let written = |words: &[u64], length: usize| {
+        let mut room = vec![7; length];
+        let number = calls::weight_file(words, &mut room);
+        (number, room)
+    };
+    assert_eq!(written(&[], 1), (1, vec![0]));
+    assert_eq!(written(&[5], 4), (3, vec![2, 0, 2, 7]));
+    assert_eq!(written(&[5], 2), (REFUSED + 8, vec![7, 7]));
+    assert_eq!(written(&[0, 0, 1], 3), (3, vec![1, 0x80, 1]));
+    // 4,095 is 31 * 128 + 127.
+    let mut words = [0; 65];
+    words[63] = 1 << 63;
+    assert_eq!(written(&words, 3), (3, vec![1, 0xFF, 31]));
+    words[64] = 1;
+    assert_eq!(written(&words, 3), (REFUSED + 3, vec![7; 3]));
+    assert_eq!(written(&words, 0), (REFUSED + 3, vec![]));
+}

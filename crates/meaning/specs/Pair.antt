@@ -1,7 +1,8 @@
--- Exclusive pairs: possible values, idle operators, and lists that are closed under an operator.
+-- Exclusive pairs: possible values, idle operators, lists that are closed under an operator, and the pairs that keep a list from it.
 use Prim.Native.Nat.{ℕ}
 use mathlib.Core.Bool.{Bool, not, _&&_, _||_}
 use mathlib.Core.List.{List}
+use lib.Dec.{eqb}
 use lib.ListN.{length}
 use Rattle.meaning.specs.Sets.{Set, some, anyOf, twoOf}
 use Rattle.meaning.specs.Task.{Operator, names, value, size}
@@ -44,6 +45,22 @@ module _ (sizes : List ℕ) (pairs : Set) where
   -- with an atom b of an unnamed variable, b is paired with a before atom."
   unfoldable pub closed : Operator → Bool
   closed o = idle o || (not (clashingAfter o) && not (uncovered o))
+
+  -- Feature f is that of two after atoms.
+  unfoldable pub joinsAfters : Operator → ℕ → Bool
+  joinsAfters o f = twoOf (λ e e'. eqb f (both sizes (e .variable) (e .after) (e' .variable) (e' .after))) o
+
+  -- Feature f is that of an after atom and an atom of an unnamed variable that is paired with no before atom.
+  unfoldable pub joinsPossible : Operator → ℕ → Bool
+  joinsPossible o f =
+      anyOf
+      (λ e. some (length sizes) (λ u. not (names o u) && some (size sizes u) (λ y. eqb f (both sizes (e .variable) (e .after) u y) && possible o u y)))
+      o
+
+  -- A pair is unclosed under an operator if what a closed list forbids is its being listed: it is a pair of two after atoms; or of an after atom
+  -- and an atom b of an unnamed variable, and b is paired with no before atom.
+  unfoldable pub unclosedPair : Operator → ℕ → Bool
+  unclosedPair o f = joinsAfters o f || joinsPossible o f
 
   -- A state holds a listed pair.
   unfoldable pub holds : List ℕ → Bool

@@ -21,6 +21,7 @@ pub mod Operators
 pub mod GridRule
 pub mod Toggles
 pub mod Possible
+pub mod Closed
 pub mod Rows
 pub mod Walk
 pub mod Slices

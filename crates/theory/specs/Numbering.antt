@@ -7,11 +7,12 @@ use mathlib.Core.List.{List, [], _∷_}
 use native.Mathlib.Omega.{arith}
 use native.Mathlib.Nat.{mul-add, mul-le-mul-left}
 use lib.Arith.{digits-lt, digits-div, digits-mod}
+use lib.Dec.{ltb}
 use lib.ListN.{take}
 use borrow.Author.Tests.{lt-ltb, le-ltb}
 use Rattle.meaning.specs.Task.{size}
 use Rattle.meaning.specs.Feature.{sumOf, pairsOf, atoms, features, single, pairStart, double, both}
-use Rattle.theory.specs.Truth.{less, same, more, order}
+use Rattle.theory.specs.Truth.{on, off, test, less, same, more, order}
 
 -- ---- the blocks of numbers
 
@@ -150,6 +151,10 @@ module _ (sizes : List ℕ) where
     | same q ↦ absurd (d q)
     | more l ↦ both-more i x j y l ∙ sym (both-less j y i x l)
   ]
+
+  pub both-above : (i x j y : ℕ) → atoms sizes ≤ both sizes i x j y
+  unfolding both
+  both-above i x j y = elim (test (ltb i j)) [ on e ↦ rw e (double-above i x j y) | off e ↦ rw e (double-above j y i x) ]
 
   pub both-below : (i x j y : ℕ) → i ≢ j → x < size sizes i → y < size sizes j → both sizes i x j y < features sizes
   both-below i x j y d h k = elim (order i j) [

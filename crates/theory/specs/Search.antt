@@ -97,6 +97,17 @@ unfolding some
 some-cong zero p q h = refl
 some-cong (suc n) p q h = ap₂ _||_ (some-cong n p q (λ i l. h i (omega arith))) (h n (omega arith))
 
+pub some-or : (n : ℕ) (p q : ℕ → Bool) → some n (λ i. p i || q i) ≡ (some n p || some n q)
+some-or n p q = true-together _ _
+    (λ t. let (i, l, e) = some-get n _ t in elim (or-either (p i) (q i) e) [
+      | inl a ↦ or-left (some n p) (some n q) (some-at n p i l a)
+      | inr a ↦ or-right (some n p) (some n q) (some-at n q i l a)
+    ])
+    (λ t. elim (or-either (some n p) (some n q) t) [
+      | inl a ↦ let (i, l, e) = some-get n p a in some-at n _ i l (or-left (p i) (q i) e)
+      | inr a ↦ let (i, l, e) = some-get n q a in some-at n _ i l (or-right (p i) (q i) e)
+    ])
+
 -- ---- numbers below n: every one passes
 
 pub every-each : (n : ℕ) (p : ℕ → Bool) → ((i : ℕ) → i < n → p i ≡ true) → every n p ≡ true

@@ -1,22 +1,13 @@
 -- The blocks of pairs: where the block of two variables starts, and the number of a pair in it.
 use Prim.Native.Nat.{ℕ, zero, suc, _+_, _*_, _-_, _<_, _≤_}
-use mathlib.Core.Path.{_≡_, refl, sym, ap}
+use mathlib.Core.Path.{_≡_, refl, sym}
 use mathlib.Core.List.{List, [], _∷_}
 use native.Mathlib.Omega.{arith}
-use lib.ListN.{length, take}
-use lib.Seq.{take-length}
+use lib.ListN.{take}
 use Rattle.meaning.specs.Task.{size}
 use Rattle.meaning.specs.Feature.{sumOf, atoms, pairStart, double}
 use Rattle.theory.specs.Numbering.{front-room, front-next, pair-room, double-below}
-use Rattle.theory.specs.NumberOrder.{pair-first}
 use Rattle.numbering.specs.Sizes.{SmallSizes, mostAtoms, mostPairs, sum-small, pairs-small, features-small}
-
--- The pairs of the next first variable begin where those of this one with every later variable end.
-pub row-next : (sizes : List ℕ) (i : ℕ) → i < length sizes → pairStart sizes (suc i) (suc (suc i)) ≡ pairStart sizes i (length sizes)
-unfolding pairStart
-row-next [] i l = refl
-row-next (d ∷ ds) zero l = omega (arith, pair-first ds, ap (λ l. d * sumOf l) (take-length ds))
-row-next (d ∷ ds) (suc i) l = ap (λ n. d * sumOf ds + n) (row-next ds i (omega arith))
 
 -- The pairs of variable i with variables before j are as many as its size times the atoms between.
 block-start : (sizes : List ℕ) (i j : ℕ) → i < j
@@ -31,15 +22,15 @@ block-start (d ∷ ds) (suc i) (suc j) l =
     rw q (omega (arith, block-start ds i j (omega arith)))
 
 -- What one product adds to the start of variable i's blocks: the start of its block with variable j.
-pub record Block (sizes : List ℕ) (i j d start end sum : ℕ) : Type 0 where
+pub record StartSum (sizes : List ℕ) (i j d start end sum : ℕ) : Type 0 where
   pub number : sum + d * (end - (start + d)) ≡ pairStart sizes i j
   pub small : sum + d * (end - (start + d)) ≤ mostPairs
   pub room : start + d ≤ end
   pub bound : end ≤ mostAtoms
 
-pub block : (sizes : List ℕ) (i j d start end sum : ℕ) → SmallSizes sizes → i < j
-    → d ≡ size sizes i → start ≡ sumOf (take i sizes) → end ≡ sumOf (take j sizes) → sum ≡ pairStart sizes i (suc i) → Block sizes i j d start end sum
-block sizes i j d start end sum s l own before after row =
+pub start-sum : (sizes : List ℕ) (i j d start end sum : ℕ) → SmallSizes sizes → i < j
+    → d ≡ size sizes i → start ≡ sumOf (take i sizes) → end ≡ sumOf (take j sizes) → sum ≡ pairStart sizes i (suc i) → StartSum sizes i j d start end sum
+start-sum sizes i j d start end sum s l own before after row =
     rw (own, before, after, row) record {
       number = sym (block-start sizes i j l);
       small = omega (arith, block-start sizes i j l, pair-room sizes i j l, pairs-small sizes s);

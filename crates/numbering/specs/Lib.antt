@@ -3,3 +3,4 @@ pub mod Sums
 pub mod Starts
 pub mod Blocks
 pub mod Planes
+pub mod Order

@@ -1,4 +1,4 @@
-// The numbers of features: how many there are, and the number of each.
+// The numbers of features: how many there are, the number of each, and back from a number to the atoms of its feature.
 ghost use mathlib.Core.Path.{_≡_};
 ghost use mathlib.Core.Logic.{_≢_};
 ghost use Prim.Native.Nat.{_^_, _<_, _≤_};
@@ -8,6 +8,7 @@ ghost use Rattle.meaning.specs.Feature.{sumOf, atoms, features, single, pairSta
 ghost use Rattle.numbering.specs.Sizes.{SmallSizes};
 ghost use Rattle.numbering.specs.Starts.{startingNumbers};
 ghost use Rattle.numbering.specs.Planes.{numberIn, Spans};
+ghost use Rattle.numbering.specs.Order.{Stands, Follows, Contains, Joins};
 use limits::MOST_VARIABLES;
 
 // Where the features of two variables stand: the number of the one with both values 0, and how far a step of each value leads.
@@ -15,6 +16,21 @@ pub struct Plane {
     pub first: usize,
     pub step: usize,
     pub other: usize,
+}
+
+// The features of two variables in order as a block of numbers, from `start` to right before `end`. A variable with itself has an empty one,
+// right before its block with the next variable.
+pub struct Block {
+    pub first: usize,
+    pub second: usize,
+    pub start: usize,
+    pub end: usize,
+}
+
+// A value of a block's first variable, and one of its second.
+pub struct Values {
+    pub first: usize,
+    pub second: usize,
 }
 
 // The size of variable i.
@@ -156,4 +172,66 @@ pub fn both(sizes: &[u64], i: usize, x: usize, j: usize, y: usize) -> usize
     ensures { λ r. ⌜ r ≡ both (now (sizes .entry)) i x j y ⌝ }
 {
     number(plane_of(sizes, i, j), x, y)
+}
+
+// The empty block right before all others.
+pub fn first_block(sizes: &[u64]) -> Block
+    requires { ⌜ SmallSizes (now sizes) × (0 < length (now sizes)) ⌝ }
+    ensures { λ r. ⌜ Stands (now (sizes .entry)) r × (r .start ≡ atoms (now (sizes .entry))) ⌝ }
+{
+    let all = atoms(sizes);
+    Block {
+        first: 0,
+        second: 0,
+        start: all,
+        end: all,
+    }
+}
+
+// The next block: of the next second variable, or the empty one of the next first variable.
+fn next_block(sizes: &[u64], block: Block) -> Block
+    requires { ⌜ SmallSizes (now sizes) × Stands (now sizes) block × (block .end < features (now sizes)) ⌝ }
+    ensures { λ r. ⌜ Follows (now (sizes .entry)) block r ⌝ }
+{
+    let second = block.second + 1;
+    if second < sizes.len() {
+        return Block {
+            first: block.first,
+            second: second,
+            start: block.end,
+            end: block.end + size(sizes, block.first) * size(sizes, second),
+        };
+    }
+    let first = block.first + 1;
+    Block {
+        first: first,
+        second: first,
+        start: block.end,
+        end: block.end,
+    }
+}
+
+// The block of feature f, from one that stands no later on.
+pub fn block_at(sizes: &[u64], block: Block, f: usize) -> Block
+    requires { ⌜ SmallSizes (now sizes) × Stands (now sizes) block × (block .start ≤ f) × (f < features (now sizes)) ⌝ }
+    ensures { λ r. ⌜ Contains (now (sizes .entry)) r f ⌝ }
+{
+    let mut here = block;
+    while here.end <= f {
+        here = next_block(sizes, here);
+    }
+    here
+}
+
+// The values of a block's variables in feature f.
+pub fn values_in(sizes: &[u64], block: Block, f: usize) -> Values
+    requires { ⌜ Contains (now sizes) block f ⌝ }
+    ensures { λ r. ⌜ Joins (now (sizes .entry)) f (block .first) (r .first) (block .second) (r .second) ⌝ }
+{
+    let d = size(sizes, block.second);
+    let place = f - block.start;
+    Values {
+        first: place / d,
+        second: place % d,
+    }
 }

@@ -4,3 +4,4 @@ pub mod Judge
 pub mod None
 pub mod Fill
 pub mod Slices
+pub mod Walk

@@ -1,23 +1,34 @@
-// Listed pairs: whether atoms are paired, which atoms an operator leaves possible, whether it is idle or the list closed under it, whether a state holds a pair.
+// Listed pairs: whether atoms are paired, which atoms an operator leaves possible, whether it is idle, a walk over the listed pairs that finds whether the list
+// is closed under it, whether a state holds a pair.
 ghost use mathlib.Core.Path.{_≡_};
 ghost use mathlib.Core.Logic.{_≢_};
 ghost use mathlib.Core.Bool.{true, false, not, _&&_};
 ghost use mathlib.Core.List.{List};
-ghost use Prim.Native.Nat.{ℕ, _*_, _<_, _≤_};
+ghost use Prim.Native.Nat.{ℕ, _+_, _*_, _<_, _≤_};
 ghost use lib.ListN.{length};
 ghost use Rattle.meaning.specs.Limits.{wordBits};
 ghost use Rattle.meaning.specs.Sets.{some};
 ghost use Rattle.meaning.specs.Task.{State, names, size, value};
-ghost use Rattle.meaning.specs.Feature.{atoms, single};
+ghost use Rattle.meaning.specs.Feature.{atoms, features};
 ghost use Rattle.meaning.specs.Workspace.{has};
 ghost use Rattle.meaning.specs.File.{InLimits};
-ghost use Rattle.meaning.specs.Pair.{paired, idle, closed, holds};
+ghost use Rattle.meaning.specs.Pair.{paired, idle, closed, unclosedPair, holds};
 ghost use Rattle.theory.specs.Slices.{entriesIn};
+ghost use Rattle.theory.specs.Closed.{leaves};
+ghost use Rattle.numbering.specs.Order.{Stands, Contains};
 ghost use Rattle.pairs.specs.Ready.{Listed, Atoms, Ready, Apart, Place, HoldsPossible};
-ghost use Rattle.pairs.specs.Judge.{pairedWithin, clashingIn, valued, unclosedAt};
+ghost use Rattle.pairs.specs.Judge.{pairedWithin, clashingIn, valued};
 ghost use Rattle.pairs.specs.None.{Suffices};
 ghost use Rattle.pairs.specs.Fill.{freeAtoms, Added, Lacks};
+ghost use Rattle.pairs.specs.Walk.{Found};
+use numbering::Block;
 use words::WORD_BITS;
+
+// A listed pair with its block; past the last one, a number that is no feature's.
+pub struct PairAt {
+    pub feature: usize,
+    pub block: Block,
+}
 
 // The first place of a variable; the number of places where it stands nowhere.
 fn place(variables: &[usize], u: usize) -> usize
@@ -226,57 +237,92 @@ pub fn is_idle(
     is_stuck(sizes, variables, possible)
 }
 
-// Whether a possible value of an unnamed variable u is paired with an after atom.
-fn is_uncovered_at(
-    sizes: &[u64],
-    pairs: &[u64],
-    variables: &[usize],
-    afters: &[usize],
-    possible: &[u64],
-    u: usize,
-) -> bool
-    requires { ⌜ Listed (now sizes) (now pairs) × Atoms (now sizes) (now variables) (now afters) × Apart (now variables) (length (now variables)) u
-        × (u < length (now sizes)) × (atoms (now sizes) ≤ wordBits * length (now possible)) ⌝ }
-    ensures { λ r. ⌜ r ≡ some (size (now (sizes .entry)) u) (λ y. has (now (possible .entry)) (single (now (sizes .entry)) u y)
-        && pairedWithin (now (sizes .entry)) (has (now (pairs .entry))) (now (variables .entry)) (now (afters .entry)) (length (now (variables .entry))) u y) ⌝ }
+// The next listed pair from a feature on, with its block, which is looked for from a given one on.
+fn pair_from(sizes: &[u64], pairs: &[u64], end: usize, block: Block, start: usize) -> PairAt
+    requires { ⌜ Listed (now sizes) (now pairs) × (end ≡ features (now sizes)) × Stands (now sizes) block × (block .start ≤ start) × (start ≤ end) ⌝ }
+    ensures { λ r. ⌜ Found (now (sizes .entry)) (now (pairs .entry)) start r ⌝ }
 {
-    let n = looks(sizes, pairs, variables);
-    let start = numbering::single(sizes, u, 0);
-    let d = numbering::size(sizes, u);
-    let mut y = 0;
-    while y < d {
-        if words::has(possible, start + y)
-            && is_paired_among(sizes, pairs, variables, afters, n, u, y)
-        {
-            return true;
-        }
-        y += 1;
+    let f = words::next_member(pairs, start);
+    if f < end {
+        return PairAt {
+            feature: f,
+            block: numbering::block_at(sizes, block, f),
+        };
     }
-    false
+    PairAt {
+        feature: f,
+        block: block,
+    }
 }
 
-// Whether variable u has anything against closure.
-pub fn is_unclosed_at(
+// The first listed pair, where N is given.
+pub fn first_pair(sizes: &[u64], pairs: &[u64], end: usize) -> PairAt
+    requires { ⌜ Listed (now sizes) (now pairs) × (end ≡ features (now sizes)) ⌝ }
+    ensures { λ r. ⌜ Found (now (sizes .entry)) (now (pairs .entry)) (atoms (now (sizes .entry))) r ⌝ }
+{
+    let block = numbering::first_block(sizes);
+    pair_from(sizes, pairs, end, block, block.start)
+}
+
+// The listed pair after another one.
+pub fn next_pair(sizes: &[u64], pairs: &[u64], end: usize, pair: PairAt) -> PairAt
+    requires { ⌜ Listed (now sizes) (now pairs) × (end ≡ features (now sizes)) × (pair .feature < end) × Contains (now sizes) (pair .block) (pair .feature) ⌝ }
+    ensures { λ r. ⌜ Found (now (sizes .entry)) (now (pairs .entry)) (pair .feature + 1) r ⌝ }
+{
+    pair_from(sizes, pairs, end, pair.block, pair.feature + 1)
+}
+
+// Whether the operator leaves value x of variable i.
+fn leaves(
     sizes: &[u64],
     pairs: &[u64],
     variables: &[usize],
     befores: &[usize],
     afters: &[usize],
     possible: &[u64],
-    u: usize,
+    i: usize,
+    x: usize,
 ) -> bool
     requires { ⌜ Ready (now sizes) (now pairs) (now variables) (now befores) (now afters)
-        × HoldsPossible (now sizes) (has (now pairs)) (entriesIn (now variables) (now befores) (now afters)) (now possible) × (u < length (now sizes)) ⌝ }
-    ensures { λ r. ⌜ r ≡ unclosedAt (now (sizes .entry)) (has (now (pairs .entry))) (entriesIn (now (variables .entry)) (now (befores .entry)) (now (afters .entry))) u ⌝ }
+        × HoldsPossible (now sizes) (has (now pairs)) (entriesIn (now variables) (now befores) (now afters)) (now possible)
+        × (i < length (now sizes)) × (x < size (now sizes) i) ⌝ }
+    ensures { λ r. ⌜ r ≡ leaves (now (sizes .entry)) (has (now (pairs .entry))) (entriesIn (now (variables .entry)) (now (befores .entry)) (now (afters .entry))) i x ⌝ }
 {
-    let k = place(variables, u);
+    let k = place(variables, i);
     if k < variables.len() {
-        return is_paired_within(sizes, pairs, variables, afters, k, u, afters[k]);
+        return afters[k] == x;
     }
-    is_uncovered_at(sizes, pairs, variables, afters, possible, u)
+    words::has(possible, numbering::single(sizes, i, x))
 }
 
-// Whether the list is closed under the operator.
+// Whether a pair is unclosed under the operator. One of two variables that the operator doesn't name never is.
+pub fn is_unclosed(
+    sizes: &[u64],
+    pairs: &[u64],
+    variables: &[usize],
+    befores: &[usize],
+    afters: &[usize],
+    possible: &[u64],
+    pair: PairAt,
+) -> bool
+    requires { ⌜ Ready (now sizes) (now pairs) (now variables) (now befores) (now afters)
+        × HoldsPossible (now sizes) (has (now pairs)) (entriesIn (now variables) (now befores) (now afters)) (now possible)
+        × Contains (now sizes) (pair .block) (pair .feature) ⌝ }
+    ensures { λ r. ⌜ r ≡ unclosedPair (now (sizes .entry)) (has (now (pairs .entry)))
+        (entriesIn (now (variables .entry)) (now (befores .entry)) (now (afters .entry))) (pair .feature) ⌝ }
+{
+    let block = pair.block;
+    let i = block.first;
+    let j = block.second;
+    if !names(variables, i) && !names(variables, j) {
+        return false;
+    }
+    let values = numbering::values_in(sizes, block, pair.feature);
+    leaves(sizes, pairs, variables, befores, afters, possible, i, values.first)
+        && leaves(sizes, pairs, variables, befores, afters, possible, j, values.second)
+}
+
+// Whether the list is closed under the operator: a walk over the listed pairs, to the first that is unclosed.
 pub fn is_closed(
     sizes: &[u64],
     pairs: &[u64],
@@ -292,12 +338,13 @@ pub fn is_closed(
     if is_idle(sizes, pairs, variables, befores, afters, possible) {
         return true;
     }
-    let mut u = 0;
-    while u < sizes.len() {
-        if is_unclosed_at(sizes, pairs, variables, befores, afters, possible, u) {
+    let end = numbering::features(sizes);
+    let mut pair = first_pair(sizes, pairs, end);
+    while pair.feature < end {
+        if is_unclosed(sizes, pairs, variables, befores, afters, possible, pair) {
             return false;
         }
-        u += 1;
+        pair = next_pair(sizes, pairs, end, pair);
     }
     true
 }

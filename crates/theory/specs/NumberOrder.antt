@@ -54,7 +54,7 @@ unfolding pairStart sumOf
 pair-first [] = refl
 pair-first (d ∷ ds) = omega arith
 
-pair-step : (sizes : List ℕ) (i j : ℕ) → i < j → pairStart sizes i j + size sizes i * size sizes j ≡ pairStart sizes i (suc j)
+pub pair-step : (sizes : List ℕ) (i j : ℕ) → i < j → pairStart sizes i j + size sizes i * size sizes j ≡ pairStart sizes i (suc j)
 unfolding pairStart
 pair-step [] i j l = omega arith
 pair-step (d ∷ ds) i zero l = absurd (omega arith)
@@ -62,13 +62,13 @@ pair-step (d ∷ ds) zero (suc j) l = sym (mul-add d (sumOf (take j ds)) (size d
 pair-step (d ∷ ds) (suc i) (suc j) l = omega (arith, pair-step ds i j (omega arith))
 
 -- After the last second variable comes the next first variable.
-pair-turn : (sizes : List ℕ) (i : ℕ) → pairStart sizes i (length sizes) ≡ pairStart sizes (suc i) (suc (suc i))
+pub pair-turn : (sizes : List ℕ) (i : ℕ) → pairStart sizes i (length sizes) ≡ pairStart sizes (suc i) (suc (suc i))
 unfolding pairStart
 pair-turn [] i = refl
 pair-turn (d ∷ ds) zero = omega (arith, pair-first ds, ap (λ n. d * sumOf n) (take-length ds))
 pair-turn (d ∷ ds) (suc i) = ap (λ n. d * sumOf ds + n) (pair-turn ds i)
 
-pair-last : (sizes : List ℕ) → pairStart sizes (length sizes) (suc (length sizes)) ≡ pairsOf sizes
+pub pair-last : (sizes : List ℕ) → pairStart sizes (length sizes) (suc (length sizes)) ≡ pairsOf sizes
 unfolding pairStart pairsOf
 pair-last [] = refl
 pair-last (d ∷ ds) = ap (λ n. d * sumOf ds + n) (pair-last ds)

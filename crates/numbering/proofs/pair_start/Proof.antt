@@ -5,10 +5,10 @@ use native.Mathlib.Numerals.{add-one}
 use native.Mathlib.Omega.{arith}
 use lib.ListN.{length, getD}
 use Rattle.meaning.specs.Feature.{pairStart}
-use Rattle.theory.specs.NumberOrder.{pair-first}
+use Rattle.theory.specs.NumberOrder.{pair-first, pair-turn}
 use Rattle.numbering.specs.Sums.{all-atoms}
 use Rattle.numbering.specs.Starts.{starting-number}
-use Rattle.numbering.specs.Blocks.{Block, block, row-next}
+use Rattle.numbering.specs.Blocks.{StartSum, start-sum}
 use Rattle.numbering.proofs.pair_start.Statement.{statement}
 use Rattle.numbering.proofs.pair_start.Tie as tie
 
@@ -22,22 +22,22 @@ abbrev μ-loop : tie.MeasureT-loop
 turn : (c : tie.After-size Inv-loop μ-loop)
     → let a = c .before .before .before .before .args in
     let at = c .before .before .loop in
-    Block (a .sizes .now) (at .k) (length (a .sizes .now)) (c .size .result) (getD (a .starts .now) (at .k) 0) (a .all) (at .sum)
+    StartSum (a .sizes .now) (at .k) (length (a .sizes .now)) (c .size .result) (getD (a .starts .now) (at .k) 0) (a .all) (at .sum)
 turn c =
     let start = c .before .before .before .before in
     let (small, table, total, _, _) = start .pre in
-    block _ _ _ _ _ _ _ small (omega arith) (c .size .ensures) (starting-number _ _ _ small table (omega arith)) (total ∙ sym (all-atoms _))
+    start-sum _ _ _ _ _ _ _ small (omega arith) (c .size .ensures) (starting-number _ _ _ small table (omega arith)) (total ∙ sym (all-atoms _))
     (c .before .before .loop .inv .1)
 
 -- What the last product adds: variable i's size times the atoms between its own and variable j's.
 last : (c : tie.After-size2 Inv-loop μ-loop)
     → let a = c .before .before .before .before .args in
-    Block (a .sizes .now) (a .i) (a .j) (c .size2 .result) (getD (a .starts .now) (a .i) 0) (getD (a .starts .now) (a .j) 0) (c .before .before .loop .sum)
+    StartSum (a .sizes .now) (a .i) (a .j) (c .size2 .result) (getD (a .starts .now) (a .i) 0) (getD (a .starts .now) (a .j) 0) (c .before .before .loop .sum)
 last c =
     let start = c .before .before .before .before in
     let (small, table, _, ordered, _) = start .pre in
     let e : c .before .before .loop .k ≡ start .args .i = omega arith in
-    block _ _ _ _ _ _ _ small ordered (c .size2 .ensures)
+    start-sum _ _ _ _ _ _ _ small ordered (c .size2 .ensures)
     (starting-number _ _ _ small table (omega arith))
     (starting-number _ _ _ small table (omega arith))
     (c .before .before .loop .inv .1 ∙ ap (λ k. pairStart (start .args .sizes .now) k (suc k)) e)
@@ -76,7 +76,7 @@ loop-less : tie.Need-loop-less Inv-loop μ-loop
 loop-less c = omega arith
 
 loop-again : tie.Need-loop-again Inv-loop μ-loop
-loop-again c = (omega arith, rw add-one (turn (c .before) .number ∙ sym (row-next _ _ (omega arith))))
+loop-again c = (omega arith, rw add-one (turn (c .before) .number ∙ pair-turn _ _))
 
 size-requires-2 : tie.Need-size-requires-2 Inv-loop μ-loop
 size-requires-2 c κs = omega arith

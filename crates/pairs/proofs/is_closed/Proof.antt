@@ -1,22 +1,20 @@
--- `is_closed`: the operator is not idle, and none of the first u variables has anything against it.
-use Prim.Native.Nat.{_≤_, _-_}
+-- `is_closed`: the operator is not idle, and none of the listed pairs that the walk has passed is unclosed under it.
+use Prim.Native.Nat.{_-_}
 use mathlib.Core.Path.{_≡_, sym, _∙_}
-use mathlib.Core.Bool.{false}
 use native.Mathlib.Omega.{arith}
-use lib.ListN.{length}
-use Rattle.meaning.specs.Sets.{some}
-use Rattle.meaning.specs.Workspace.{has}
 use Rattle.theory.specs.Slices.{entriesIn}
-use Rattle.pairs.specs.Places.{some-start, some-next, some-done}
-use Rattle.pairs.specs.Judge.{unclosedAt, closed-idle, closed-found, closed-none}
+use Rattle.numbering.specs.Sizes.{limits-small}
+use Rattle.pairs.specs.Ready.{ready-listed}
+use Rattle.pairs.specs.Judge.{closed-idle}
+use Rattle.pairs.specs.Walk.{Reached, reached-first, reached-next, closed-past, closed-broken}
 use Rattle.pairs.proofs.is_closed.Statement.{statement}
 use Rattle.pairs.proofs.is_closed.Tie as tie
 
 abbrev Inv-loop : tie.InvT-loop
-Inv-loop sizes pairs variables befores afters possible u₀ u = (u ≤ length sizes) × (some u (unclosedAt sizes (has pairs) (entriesIn variables befores afters)) ≡ false)
+Inv-loop sizes pairs variables befores afters possible end pair₀ pair = Reached sizes pairs (entriesIn variables befores afters) pair
 
 abbrev μ-loop : tie.MeasureT-loop
-μ-loop sizes pairs variables befores afters possible u₀ u = length sizes - u
+μ-loop sizes pairs variables befores afters possible end pair₀ pair = end - pair .feature
 
 is-idle-requires : tie.Need-is-idle-requires Inv-loop μ-loop
 is-idle-requires c κs = c .before .before .before .before .before .before .pre
@@ -24,32 +22,34 @@ is-idle-requires c κs = c .before .before .before .before .before .before .pre
 returns : tie.Need-returns Inv-loop μ-loop
 returns c = sym (closed-idle _ _ _ (sym (c .before .is-idle .ensures) ∙ c .if1 .taken))
 
-loop-holds : tie.Need-loop-holds Inv-loop μ-loop
-loop-holds c = (omega arith, some-start _)
+features-requires : tie.Need-features-requires Inv-loop μ-loop
+features-requires c κs = limits-small _ (c .before .before .before .before .before .before .before .before .pre .0 .limits)
 
-is-unclosed-at-requires : tie.Need-is-unclosed-at-requires Inv-loop μ-loop
-is-unclosed-at-requires c κs = let (h, t) = c .before .before .before .before .before .before .before .before .before .before .pre in (h, t, c .loop-test .taken)
+first-pair-requires : tie.Need-first-pair-requires Inv-loop μ-loop
+first-pair-requires c κs = (ready-listed _ _ _ _ _ (c .before .before .before .before .before .before .before .before .before .pre .0), c .features .ensures)
+
+loop-holds : tie.Need-loop-holds Inv-loop μ-loop
+loop-holds c = reached-first _ _ _ (ready-listed _ _ _ _ _ (c .before .before .before .before .before .before .before .before .before .before .pre .0)) _ (c .first-pair .ensures)
+
+is-unclosed-requires : tie.Need-is-unclosed-requires Inv-loop μ-loop
+is-unclosed-requires c κs = let (ready, table) = c .before .before .before .before .before .before .before .before .before .before .before .before .before .pre in (ready, table, c .before .before .loop .inv .holds (omega (arith, c .if2 .taken, c .before .before .before .before .features .ensures)))
 
 returns-2 : tie.Need-returns-2 Inv-loop μ-loop
-returns-2 c =
-    sym (closed-found _ _ _ (c .before .before .before .before .before .before .before .before .before .before .before .before .pre .0 .entries) _
-    (sym (c .before .before .before .before .before .is-idle .ensures) ∙ c .before .before .before .before .if1 .left)
-    (c .before .before .loop-test .taken) (sym (c .before .is-unclosed-at .ensures) ∙ c .if2 .taken))
+returns-2 c = sym (closed-broken _ _ _ (c .before .before .before .before .before .before .before .before .before .before .before .before .before .before .before .pre .0 .entries) _ (c .before .before .before .before .loop .inv) (sym (c .before .before .before .before .before .before .before .before .is-idle .ensures) ∙ c .before .before .before .before .before .before .before .if1 .left)
+    (omega (arith, c .before .before .if2 .taken, c .before .before .before .before .before .before .features .ensures)) (sym (c .before .is-unclosed .ensures) ∙ c .if3 .taken))
 
-add-u : tie.Need-add-u Inv-loop μ-loop
-add-u c = omega arith
+next-pair-requires : tie.Need-next-pair-requires Inv-loop μ-loop
+next-pair-requires c κs =
+    (ready-listed _ _ _ _ _ (c .before .before .before .before .before .before .before .before .before .before .before .before .before .before .before .pre .0), c .before .before .before .before .before .before .features .ensures, c .before .before .if2 .taken, c .before .before .before .before .loop .inv .holds (omega (arith, c .before .before .if2 .taken, c .before .before .before .before .before .before .features .ensures)))
 
 loop-less : tie.Need-loop-less Inv-loop μ-loop
-loop-less c = omega arith
+loop-less c = omega (arith, c .next-pair .ensures .next .above, c .before .before .before .if2 .taken)
 
 loop-again : tie.Need-loop-again Inv-loop μ-loop
-loop-again c = (omega arith, some-next _ _ (c .before .before .before .loop .inv .1) (sym (c .before .is-unclosed-at .ensures) ∙ c .if2 .left))
+loop-again c = reached-next _ _ _ (ready-listed _ _ _ _ _ (c .before .before .before .before .before .before .before .before .before .before .before .before .before .before .before .before .pre .0)) _ _ (c .before .before .before .before .before .loop .inv) (sym (c .before .before .is-unclosed .ensures) ∙ c .before .if3 .left) (c .next-pair .ensures)
 
 returns-3 : tie.Need-returns-3 Inv-loop μ-loop
-returns-3 c =
-    sym (closed-none _ _ _ (c .before .before .before .before .before .before .before .before .before .before .pre .0 .entries)
-    (sym (c .before .before .before .is-idle .ensures) ∙ c .before .before .if1 .left)
-    (sym (some-done _ _ _ (omega arith) (omega arith) (c .before .loop .inv .1))))
+returns-3 c = sym (closed-past _ _ _ (c .before .before .before .before .before .before .before .before .before .before .before .before .before .pre .0 .entries) _ (c .before .before .loop .inv) (omega (arith, c .if2 .left, c .before .before .before .before .features .ensures)))
 
 pub is-closed-spec : {M : Type 1} → statement M
 is-closed-spec =
@@ -59,10 +59,12 @@ is-closed-spec =
     μ-loop
     is-idle-requires
     returns
+    features-requires
+    first-pair-requires
     loop-holds
-    is-unclosed-at-requires
+    is-unclosed-requires
     returns-2
-    add-u
+    next-pair-requires
     loop-less
     loop-again
     returns-3)

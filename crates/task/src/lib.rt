@@ -53,11 +53,13 @@ fn operators_at(bytes: &[u8], at: usize, count: usize, sizes: &[u64]) -> Step
     Step::Next(next)
 }
 
-// Whether the list is closed under each of so many operators, as far as they can be read. The first variable that has anything against it decides.
+// Whether the list is closed under each of so many operators, as far as they can be read: a walk over the operators that are not idle, and for each over the
+// listed pairs, to the first that is unclosed.
 fn are_closed(bytes: &[u8], at: usize, count: usize, sizes: &[u64], pairs: &[u64]) -> bool
     requires { ⌜ Listed (now sizes) (now pairs) ⌝ }
     ensures { λ r. ⌜ r ≡ closedFrom (now (sizes .entry)) (has (now (pairs .entry))) count (now (bytes .entry)) at ⌝ }
 {
+    let end = numbering::features(sizes);
     let mut possible = [0u64; MOST_WORDS];
     let mut closed = true;
     let mut next = at;
@@ -77,13 +79,13 @@ fn are_closed(bytes: &[u8], at: usize, count: usize, sizes: &[u64], pairs: &[u64
         let afters = &all_afters[..n];
         pairs::fill_possible(sizes, pairs, variables, befores, afters, &mut possible);
         if !pairs::is_idle(sizes, pairs, variables, befores, afters, &possible) {
-            let mut u = 0;
-            while u < sizes.len() {
-                if pairs::is_unclosed_at(sizes, pairs, variables, befores, afters, &possible, u) {
+            let mut pair = pairs::first_pair(sizes, pairs, end);
+            while pair.feature < end {
+                if pairs::is_unclosed(sizes, pairs, variables, befores, afters, &possible, pair) {
                     closed = false;
                     break 'walk;
                 }
-                u += 1;
+                pair = pairs::next_pair(sizes, pairs, end, pair);
             }
         }
         next = after;

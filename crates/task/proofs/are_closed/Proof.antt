@@ -1,5 +1,5 @@
--- `are_closed`: the operators that are left decide as all of them do; none of the first u variables has anything against an operator that is not idle.
-use Prim.Native.Nat.{ℕ, _≤_, _-_}
+-- `are_closed`: the operators that are left decide as all of them do; none of the listed pairs that the walk has passed is unclosed under an operator that is not idle.
+use Prim.Native.Nat.{ℕ, _≤_, _<_, _-_}
 use mathlib.Core.Path.{_≡_, refl, sym, _∙_}
 use mathlib.Core.Logic.{⊎-elim}
 use mathlib.Core.Bool.{true, false}
@@ -11,56 +11,63 @@ use lib.Seq.{length-take-le}
 use borrow.Author.Needs.{needs}
 use borrow.Author.Tests.{not-true, not-false}
 use Rattle.meaning.specs.Limits.{mostVariables, mostFeatures}
-use Rattle.meaning.specs.Sets.{some}
 use Rattle.meaning.specs.Task.{Operator, IsOperator}
+use Rattle.meaning.specs.Feature.{features}
 use Rattle.meaning.specs.Number.{Read, got}
 use Rattle.meaning.specs.File.{operatorOf}
 use Rattle.meaning.specs.Answer.{operatorIn}
 use Rattle.meaning.specs.Pair.{closed}
 use Rattle.meaning.specs.Workspace.{wordsFor, has}
 use Rattle.theory.specs.Slices.{entriesIn}
-use Rattle.numbering.specs.Sizes.{atoms-limit}
+use Rattle.numbering.specs.Sizes.{limits-small, atoms-limit}
 use Rattle.operator.specs.Records.{recordOf}
 use Rattle.operator.specs.Known.{read-next, read-faulted, Room, operator-is}
-use Rattle.pairs.specs.Places.{some-start, some-next, some-done}
 use Rattle.pairs.specs.Ready.{Ready}
-use Rattle.pairs.specs.Judge.{unclosedAt, closed-idle, closed-found, closed-none}
+use Rattle.pairs.specs.Judge.{closed-idle}
+use Rattle.pairs.specs.Walk.{Reached, reached-first, reached-next, closed-past, closed-broken}
 use Rattle.pairs.specs.Slices.{count-room, slices-read, slices-ready}
 use Rattle.task.specs.Walk.{closedFrom, closed-more, closed-fails, closed-unread, closed-end}
 use Rattle.task.proofs.are_closed.Statement.{statement}
 use Rattle.task.proofs.are_closed.Tie as tie
 
 abbrev Inv-loop : tie.InvT-loop
-Inv-loop bytes at count sizes pairs possible closed₀ next k after n variables befores afters u₀ closed u =
-    (u ≤ length sizes) × (closed ≡ true) × (some u (unclosedAt sizes (has pairs) (entriesIn variables befores afters)) ≡ false)
+Inv-loop bytes at count sizes pairs end possible closed₀ next k after n variables befores afters pair₀ closed pair =
+    (closed ≡ true) × Reached sizes pairs (entriesIn variables befores afters) pair
 
 abbrev μ-loop : tie.MeasureT-loop
-μ-loop bytes at count sizes pairs possible closed₀ next k after n variables befores afters u₀ closed u = length sizes - u
+μ-loop bytes at count sizes pairs end possible closed₀ next k after n variables befores afters pair₀ closed pair = end - pair .feature
 
 abbrev Inv-walk : tie.InvT-walk
-Inv-walk bytes at count sizes pairs possible₀ closed₀ next₀ k₀ possible closed next k =
+Inv-walk bytes at count sizes pairs end possible₀ closed₀ next₀ k₀ possible closed next k =
     (k ≤ count) × (closed ≡ true) × (length possible ≡ wordsFor mostFeatures)
     × (closedFrom sizes (has pairs) count bytes at ≡ closedFrom sizes (has pairs) (count - k) bytes next)
 
 abbrev μ-walk : tie.MeasureT-walk
-μ-walk bytes at count sizes pairs possible₀ closed₀ next₀ k₀ possible closed next k = count - k
+μ-walk bytes at count sizes pairs end possible₀ closed₀ next₀ k₀ possible closed next k = count - k
 
--- At a turn: the arrays of the operator that was read, that it was read, and that its slices are ready to be judged.
-room : (c : tie.After-read-operator Inv-loop μ-loop Inv-walk μ-walk) → Room (c .read-operator .result .operator)
-room c = record { variables = search needs; befores = search needs; afters = search needs }
+-- At a turn: what the call began with, and where the walk over the operators stands.
+abbrev start : tie.After-step Inv-loop μ-loop Inv-walk μ-walk → tie.Start Inv-loop μ-loop Inv-walk μ-walk
+start s = s .before .before .before .before .before .before .before .before .before
+
+abbrev top : tie.After-step Inv-loop μ-loop Inv-walk μ-walk → tie.At-walk Inv-loop μ-loop Inv-walk μ-walk
+top s = s .before .before .before .before
 
 abbrev sizes-of : tie.After-step Inv-loop μ-loop Inv-walk μ-walk → List ℕ
-sizes-of s = s .before .before .before .before .before .before .before .before .args .sizes .now
+sizes-of s = start s .args .sizes .now
 
 abbrev pairs-of : tie.After-step Inv-loop μ-loop Inv-walk μ-walk → List ℕ
-pairs-of s = s .before .before .before .before .before .before .before .before .args .pairs .now
+pairs-of s = start s .args .pairs .now
+
+-- The arrays of the operator that was read, that it was read, and that its slices are ready to be judged.
+room : (c : tie.After-read-operator Inv-loop μ-loop Inv-walk μ-walk) → Room (c .read-operator .result .operator)
+room c = record { variables = search needs; befores = search needs; afters = search needs }
 
 abbrev operator-of : tie.After-step Inv-loop μ-loop Inv-walk μ-walk → Operator
 operator-of s = let o = s .before .before .read-operator .result .operator in entriesIn (take (o .count) (o .variables)) (take (o .count) (o .befores)) (take (o .count) (o .afters))
 
 -- What stands at the turn's place.
 abbrev there : tie.After-step Inv-loop μ-loop Inv-walk μ-walk → Read Operator
-there s = operatorOf (sizes-of s) (s .before .before .before .before .before .before .before .before .args .bytes .now) (s .before .before .before .before .walk .next)
+there s = operatorOf (sizes-of s) (start s .args .bytes .now) (top s .walk .next)
 
 read : (s : tie.After-step Inv-loop μ-loop Inv-walk μ-walk) → there s ≡ got (operatorIn (recordOf (s .before .before .read-operator .result .operator))) (s .step .given .0 .0)
 read s = read-next _ _ _ _ _ (s .before .before .read-operator .ensures) (s .step .given .1)
@@ -69,34 +76,46 @@ is : (s : tie.After-step Inv-loop μ-loop Inv-walk μ-walk) → IsOperator (size
 is s = operator-is _ _ _ _ _ (read s)
 
 parts : (s : tie.After-step Inv-loop μ-loop Inv-walk μ-walk) → there s ≡ got (operator-of s) (s .step .given .0 .0)
-parts s = slices-read (room (s .before .before)) (s .before .before .before .before .before .before .before .before .pre) (is s) _ _ _ (read s)
+parts s = slices-read (room (s .before .before)) (start s .pre) (is s) _ _ _ (read s)
 
 few : (s : tie.After-step Inv-loop μ-loop Inv-walk μ-walk) → s .before .before .read-operator .result .operator .count ≤ mostVariables
-few s = count-room (room (s .before .before)) (s .before .before .before .before .before .before .before .before .pre) (is s)
+few s = count-room (room (s .before .before)) (start s .pre) (is s)
 
 ready : (s : tie.After-step Inv-loop μ-loop Inv-walk μ-walk) → let o = s .before .before .read-operator .result .operator in
     Ready (sizes-of s) (pairs-of s) (take (o .count) (o .variables)) (take (o .count) (o .befores)) (take (o .count) (o .afters))
-ready s = slices-ready (room (s .before .before)) (s .before .before .before .before .before .before .before .before .pre) (is s)
+ready s = slices-ready (room (s .before .before)) (start s .pre) (is s)
+
+-- The end of the inner walk is N.
+all : (s : tie.After-step Inv-loop μ-loop Inv-walk μ-walk) → s .before .before .before .before .before .features .result ≡ features (sizes-of s)
+all s = s .before .before .before .before .before .features .ensures
 
 -- The turn in which it was asked whether an operator is idle.
 abbrev turn : tie.After-is-idle Inv-loop μ-loop Inv-walk μ-walk → tie.After-step Inv-loop μ-loop Inv-walk μ-walk
 turn c = c .before .before .before .before .before .before .before .before .before .before .before .before
 
+-- The turn of a pair.
+abbrev pair-turn : tie.After-is-unclosed Inv-loop μ-loop Inv-walk μ-walk → tie.After-step Inv-loop μ-loop Inv-walk μ-walk
+pair-turn c = turn (c .before .before .before .before .before .before .before)
+
+-- A pair that is judged is below N.
+below : (c : tie.After-is-unclosed Inv-loop μ-loop Inv-walk μ-walk) → c .before .before .before .before .loop .pair .feature < features (sizes-of (pair-turn c))
+below c = omega (arith, c .before .before .if2 .taken, all (pair-turn c))
+
 -- After a turn: no operator was found under which the list is not closed.
 met : (c : tie.Joined1 Inv-loop μ-loop Inv-walk μ-walk) → let s = turn (c .before) in (c .if1 .closed ≡ true) × (closed (sizes-of s) (has (pairs-of s)) (operator-of s) ≡ true)
 met c = let s = turn (c .before) in ⊎-elim
-    (λ x. (
-      x .3 ∙ x .1 .inv .1,
-      closed-none _ _ _ (ready s .entries) (sym (c .before .is-idle .ensures) ∙ not-true _ (x .0 .taken)) (sym (some-done _ _ _ (x .1 .inv .0) (x .2 .left) (x .1 .inv .2))),
-    ))
-    (λ x. (x .1 ∙ s .before .before .before .before .walk .inv .1, closed-idle _ _ _ (sym (c .before .is-idle .ensures) ∙ not-false _ (x .0 .left))))
+    (λ x. (x .5 ∙ x .2 .inv .0, closed-past _ _ _ (ready s .entries) _ (x .2 .inv .1) (omega (arith, x .4 .left, all s))))
+    (λ x. (x .1 ∙ top s .walk .inv .1, closed-idle _ _ _ (sym (c .before .is-idle .ensures) ∙ not-false _ (x .0 .left))))
     (c .if1 .came)
+
+features-requires : tie.Need-features-requires Inv-loop μ-loop Inv-walk μ-walk
+features-requires c κs = limits-small _ (c .before .before .before .pre .limits)
 
 walk-holds : tie.Need-walk-holds Inv-loop μ-loop Inv-walk μ-walk
 walk-holds c = (omega arith, refl, refl, simp sub-zero)
 
 read-operator-requires : tie.Need-read-operator-requires Inv-loop μ-loop Inv-walk μ-walk
-read-operator-requires c κs = omega (arith, c .before .before .before .before .before .pre .limits .variables)
+read-operator-requires c κs = omega (arith, c .before .before .before .before .before .before .pre .limits .variables)
 
 enum-known-step : tie.Need-enum-known-step Inv-loop μ-loop Inv-walk μ-walk
 enum-known-step c = search needs
@@ -104,50 +123,29 @@ enum-known-step c = search needs
 enum-told : tie.Need-enum-told Inv-loop μ-loop Inv-walk μ-walk
 enum-told c = search needs
 
-array-share-prefix-all-variables :
-    tie.Need-array-share-prefix-all-variables Inv-loop μ-loop Inv-walk μ-walk
+array-share-prefix-all-variables : tie.Need-array-share-prefix-all-variables Inv-loop μ-loop Inv-walk μ-walk
 array-share-prefix-all-variables c = omega (arith, few (c .before .before .before .before), room (c .before .before .before .before .before .before) .variables)
 
 slice-aggregate-variables : tie.Need-slice-aggregate-variables Inv-loop μ-loop Inv-walk μ-walk
 slice-aggregate-variables c = sym (length-take-le _ _ (omega (arith, few (c .before .before .before .before .before), room (c .before .before .before .before .before .before .before) .variables)))
 
-array-share-prefix-all-befores :
-    tie.Need-array-share-prefix-all-befores Inv-loop μ-loop Inv-walk μ-walk
+array-share-prefix-all-befores : tie.Need-array-share-prefix-all-befores Inv-loop μ-loop Inv-walk μ-walk
 array-share-prefix-all-befores c = omega (arith, few (c .before .before .before .before .before), room (c .before .before .before .before .before .before .before) .befores)
 
 slice-aggregate-befores : tie.Need-slice-aggregate-befores Inv-loop μ-loop Inv-walk μ-walk
-slice-aggregate-befores c = sym (length-take-le _ _ (omega (
-  arith,
-  few (c .before .before .before .before .before .before),
-  room
-      (c .before .before .before .before .before .before .before .before) .befores,
-)))
+slice-aggregate-befores c = sym (length-take-le _ _ (omega (arith, few (c .before .before .before .before .before .before), room (c .before .before .before .before .before .before .before .before) .befores)))
 
-array-share-prefix-all-afters :
-    tie.Need-array-share-prefix-all-afters Inv-loop μ-loop Inv-walk μ-walk
+array-share-prefix-all-afters : tie.Need-array-share-prefix-all-afters Inv-loop μ-loop Inv-walk μ-walk
 array-share-prefix-all-afters c = omega (arith, few (c .before .before .before .before .before .before), room (c .before .before .before .before .before .before .before .before) .afters)
 
 slice-aggregate-afters : tie.Need-slice-aggregate-afters Inv-loop μ-loop Inv-walk μ-walk
-slice-aggregate-afters c = sym (length-take-le _ _ (omega (
-  arith,
-  few (c .before .before .before .before .before .before .before),
-  room
-      (c .before .before .before .before .before .before .before .before .before) .afters,
-)))
+slice-aggregate-afters c = sym (length-take-le _ _ (omega (arith, few (c .before .before .before .before .before .before .before), room (c .before .before .before .before .before .before .before .before .before) .afters)))
 
-slice-aggregate-fill-possible :
-    tie.Need-slice-aggregate-fill-possible Inv-loop μ-loop Inv-walk μ-walk
+slice-aggregate-fill-possible : tie.Need-slice-aggregate-fill-possible Inv-loop μ-loop Inv-walk μ-walk
 slice-aggregate-fill-possible c = search needs
 
 fill-possible-requires : tie.Need-fill-possible-requires Inv-loop μ-loop Inv-walk μ-walk
-fill-possible-requires c κs = (
-  ready (c .before .before .before .before .before .before .before .before),
-  omega (
-    arith,
-    atoms-limit _ (c .before .before .before .before .before .before .before .before .before .before .before .before .before .before .before .before .pre .limits),
-    c .before .before .before .before .before .before .before .before .before .before .before .before .walk .inv .2,
-  ),
-)
+fill-possible-requires c κs = let s = c .before .before .before .before .before .before .before .before in (ready s, omega (arith, atoms-limit _ (start s .pre .limits), top s .walk .inv .2))
 
 slice-aggregate-is-idle : tie.Need-slice-aggregate-is-idle Inv-loop μ-loop Inv-walk μ-walk
 slice-aggregate-is-idle c = search needs
@@ -155,39 +153,41 @@ slice-aggregate-is-idle c = search needs
 is-idle-requires : tie.Need-is-idle-requires Inv-loop μ-loop Inv-walk μ-walk
 is-idle-requires c κs = (ready (c .before .before .before .before .before .before .before .before .before .before .before), c .before .before .fill-possible .ensures .1)
 
+first-pair-requires : tie.Need-first-pair-requires Inv-loop μ-loop Inv-walk μ-walk
+first-pair-requires c κs = let s = turn (c .before) in (start s .pre, all s)
+
 loop-holds : tie.Need-loop-holds Inv-loop μ-loop Inv-walk μ-walk
-loop-holds c = (omega arith, turn (c .before) .before .before .before .before .walk .inv .1, some-start _)
+loop-holds c = let s = turn (c .before .before) in (top s .walk .inv .1, reached-first _ _ _ (start s .pre) _ (c .first-pair .ensures))
 
-slice-aggregate-is-unclosed-at :
-    tie.Need-slice-aggregate-is-unclosed-at Inv-loop μ-loop Inv-walk μ-walk
-slice-aggregate-is-unclosed-at c = search needs
+slice-aggregate-is-unclosed : tie.Need-slice-aggregate-is-unclosed Inv-loop μ-loop Inv-walk μ-walk
+slice-aggregate-is-unclosed c = search needs
 
-is-unclosed-at-requires : tie.Need-is-unclosed-at-requires Inv-loop μ-loop Inv-walk μ-walk
-is-unclosed-at-requires c κs = (ready (turn (c .before .before .before .before)), c .before .before .before .before .before .before .before .fill-possible .ensures .1, c .before .loop-test .taken)
+is-unclosed-requires : tie.Need-is-unclosed-requires Inv-loop μ-loop Inv-walk μ-walk
+is-unclosed-requires c κs = let s = turn (c .before .before .before .before .before .before) in
+    (ready s, c .before .before .before .before .before .before .before .before .before .fill-possible .ensures .1, c .before .before .before .loop .inv .1 .holds (omega (arith, c .before .if2 .taken, all s)))
 
-add-u : tie.Need-add-u Inv-loop μ-loop Inv-walk μ-walk
-add-u c =
-    let s = turn (c .before .before .before .before .before .before) in
-    omega (arith, c .before .before .before .loop-test .taken, s .before .before .before .before .before .before .before .before .pre .limits .variables)
+next-pair-requires : tie.Need-next-pair-requires Inv-loop μ-loop Inv-walk μ-walk
+next-pair-requires c κs = let s = pair-turn (c .before) in (start s .pre, all s, c .before .before .before .if2 .taken, c .before .before .before .before .before .loop .inv .1 .holds (below (c .before)))
 
 loop-less : tie.Need-loop-less Inv-loop μ-loop Inv-walk μ-walk
-loop-less c = omega arith
+loop-less c = omega (arith, c .next-pair .ensures .next .above, c .before .before .before .before .if2 .taken)
 
 loop-again : tie.Need-loop-again Inv-loop μ-loop Inv-walk μ-walk
-loop-again c = (omega arith, c .before .before .before .before .loop .inv .1, some-next _ _ (c .before .before .before .before .loop .inv .2) (sym (c .before .is-unclosed-at .ensures) ∙ c .if2 .left))
+loop-again c = let (still, reached) = c .before .before .before .before .before .before .loop .inv in
+    (still, reached-next _ _ _ (start (pair-turn (c .before .before)) .pre) _ _ reached (sym (c .before .before .is-unclosed .ensures) ∙ c .before .if3 .left) (c .next-pair .ensures))
 
 add-k : tie.Need-add-k Inv-loop μ-loop Inv-walk μ-walk
-add-k c = omega arith
+add-k c = let s = turn (c .before) in omega (arith, s .before .before .before .walk-test .taken, start s .fits .count)
 
 walk-less : tie.Need-walk-less Inv-loop μ-loop Inv-walk μ-walk
 walk-less c = omega arith
 
 walk-again : tie.Need-walk-again Inv-loop μ-loop Inv-walk μ-walk
 walk-again c = let s = turn (c .before) in (
-  omega arith,
+  omega (arith, s .before .before .before .walk-test .taken),
   met c .0,
-  omega (arith, c .before .before .before .before .fill-possible .ensures .0, s .before .before .before .before .walk .inv .2),
-  s .before .before .before .before .walk .inv .3 ∙ closed-more _ _ _ _ _ _ _ _ (s .before .before .before .walk-test .taken) (parts s) (met c .1),
+  omega (arith, c .before .before .before .before .fill-possible .ensures .0, top s .walk .inv .2),
+  top s .walk .inv .3 ∙ closed-more _ _ _ _ _ _ _ _ (s .before .before .before .walk-test .taken) (parts s) (met c .1),
 )
 
 returns : tie.Need-returns Inv-loop μ-loop Inv-walk μ-walk
@@ -199,10 +199,10 @@ returns-2 c = c .before .before .before .before .walk .inv .1 ∙ sym
     (read-faulted _ _ _ _ _ _ (c .before .before .read-operator .ensures) (c .enum-told .given .1)))
 
 returns-3 : tie.Need-returns-3 Inv-loop μ-loop Inv-walk μ-walk
-returns-3 c = let s = turn (c .before .before .before .before .before .before) in
-    let busy = sym (c .before .before .before .before .before .before .is-idle .ensures) ∙ not-true _ (c .before .before .before .before .before .if1 .taken) in
-    let found = closed-found _ _ _ (ready s .entries) _ busy (c .before .before .before .loop-test .taken) (sym (c .before .is-unclosed-at .ensures) ∙ c .if2 .taken) in
-    sym (s .before .before .before .before .walk .inv .3 ∙ closed-fails _ _ _ _ _ _ _ _ (s .before .before .before .walk-test .taken) (parts s) found)
+returns-3 c = let s = pair-turn (c .before) in
+    let busy = sym (c .before .before .before .before .before .before .before .before .is-idle .ensures) ∙ not-true _ (c .before .before .before .before .before .before .before .if1 .taken) in
+    let found = closed-broken _ _ _ (ready s .entries) _ (c .before .before .before .before .before .loop .inv .1) busy (below (c .before)) (sym (c .before .is-unclosed .ensures) ∙ c .if3 .taken) in
+    sym (top s .walk .inv .3 ∙ closed-fails _ _ _ _ _ _ _ _ (s .before .before .before .walk-test .taken) (parts s) found)
 
 pub are-closed-spec : {M : Type 1} → statement M
 are-closed-spec =
@@ -212,6 +212,7 @@ are-closed-spec =
     μ-loop
     Inv-walk
     μ-walk
+    features-requires
     walk-holds
     read-operator-requires
     enum-known-step
@@ -226,10 +227,11 @@ are-closed-spec =
     fill-possible-requires
     slice-aggregate-is-idle
     is-idle-requires
+    first-pair-requires
     loop-holds
-    slice-aggregate-is-unclosed-at
-    is-unclosed-at-requires
-    add-u
+    slice-aggregate-is-unclosed
+    is-unclosed-requires
+    next-pair-requires
     loop-less
     loop-again
     add-k

@@ -8,7 +8,7 @@ use lib.ListN.{length}
 use Rattle.meaning.specs.Sets.{_⊕_, Set, Slots, listed, anyOf, allOf, twoOf, some, every, count, shared, wholeNumber}
 use Rattle.meaning.specs.Task.{Operator, State, names, applies, applied, value, size}
 use Rattle.meaning.specs.Feature.{sumOf, pairsOf, atoms, features, single, pairStart, double, both, trueIn, parity}
-use Rattle.meaning.specs.Pair.{paired, possible, clashing, stuck, idle, clashingAfter, uncovered, closed, holds}
+use Rattle.meaning.specs.Pair.{paired, possible, clashing, stuck, idle, clashingAfter, uncovered, closed, holds, joinsAfters, joinsPossible, unclosedPair}
 use Rattle.meaning.specs.Slot.{Reduced}
 use Rattle.meaning.specs.Weight.{Considered, Keeps, Allows}
 use Rattle.meaning.specs.Grid.{made, used, kept, effect}
@@ -201,3 +201,22 @@ by-whole-number = (refl, refl)
 bit-in-word : (has (0 ∷ 2 ∷ []) 65 ≡ true) × (has (2 ∷ 0 ∷ []) 65 ≡ false)
 unfolding has
 bit-in-word = (refl, refl)
+
+-- ---- unclosed pairs
+
+-- Feature 7 is that of lift's after atom and the atom (1,1). It is unclosed as long as (1,1) is paired with no before atom; feature 5 pairs it with one.
+unclosed-beside-after : unclosedPair pairOfTwo (listed (7 ∷ [])) lift 7 ≡ true
+unfolding unclosedPair joinsAfters joinsPossible possible paired both double pairStart atoms sumOf listed anyOf twoOf some names
+unclosed-beside-after = refl
+
+covered-beside-before : unclosedPair pairOfTwo (listed (5 ∷ 7 ∷ [])) lift 7 ≡ false
+unfolding unclosedPair joinsAfters joinsPossible possible paired both double pairStart atoms sumOf listed anyOf twoOf some names
+covered-beside-before = refl
+
+-- The operator that takes both variables from 0 to 1: the pair of its after atoms, feature 7, is unclosed, that of its before atoms, feature 4, is not.
+abbrev liftBoth : Operator
+liftBoth = record { variable = 0; before = 0; after = 1 } ∷ record { variable = 1; before = 0; after = 1 } ∷ []
+
+unclosed-afters : (unclosedPair pairOfTwo (listed (4 ∷ 7 ∷ [])) liftBoth 7 ≡ true) × (unclosedPair pairOfTwo (listed (4 ∷ 7 ∷ [])) liftBoth 4 ≡ false)
+unfolding unclosedPair joinsAfters joinsPossible possible paired both double pairStart atoms sumOf listed anyOf twoOf some names
+unclosed-afters = (refl, refl)

@@ -57,8 +57,8 @@ module _ (sizes : List ℕ) (pairs : Set) where
       (λ e. some (length sizes) (λ u. not (names o u) && some (size sizes u) (λ y. eqb f (both sizes (e .variable) (e .after) u y) && possible o u y)))
       o
 
-  -- A pair is unclosed under an operator if what a closed list forbids is its being listed: it is a pair of two after atoms; or of an after atom
-  -- and an atom b of an unnamed variable, and b is paired with no before atom.
+  -- A pair is unclosed under an operator if a closed list cannot have it: two after atoms would be paired; or an after atom with an atom b of an
+  -- unnamed variable, and b is paired with no before atom.
   unfoldable pub unclosedPair : Operator → ℕ → Bool
   unclosedPair o f = joinsAfters o f || joinsPossible o f
 

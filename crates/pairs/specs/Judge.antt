@@ -1,27 +1,21 @@
--- The judgements of an operator by places, by variables, and by the table of its possible atoms.
+-- Whether an operator is idle, by places and by the table of its possible atoms.
 use Prim.Native.Nat.{ℕ, _<_}
-use mathlib.Core.Path.{_≡_, refl, sym, ap, ap₂, _∙_}
-use mathlib.Core.Bool.{Bool, true, false, not, _&&_, _||_, cond}
-use mathlib.Core.List.{List, List·Memᴰ as In}
-use native.Mathlib.Omega.{arith}
-use lib.Dec.{ltb}
+use mathlib.Core.Path.{_≡_, refl, sym, ap, _∙_}
+use mathlib.Core.Bool.{Bool, true, false, not, _&&_, _||_}
+use mathlib.Core.List.{List}
 use lib.ListN.{length, getD}
-use borrow.Author.Tests.{ltb-true, lt-ltb, not-true}
-use Rattle.meaning.specs.Sets.{Set, some, every, anyOf}
-use Rattle.meaning.specs.Task.{Entry, Operator, Entries, names, size}
+use Rattle.meaning.specs.Sets.{Set, some}
+use Rattle.meaning.specs.Task.{Operator, names, size}
 use Rattle.meaning.specs.Feature.{single}
 use Rattle.meaning.specs.Workspace.{has}
-use Rattle.meaning.specs.Pair.{paired, possible, clashing, stuck, idle, clashingAfter, uncovered, closed}
+use Rattle.meaning.specs.Pair.{paired, possible, clashing, stuck, idle, closed}
 use Rattle.meaning.specs.Answer.{operatorIn}
-use Rattle.theory.specs.Truth.{on, off, test, clash, less, same, more, order}
-use Rattle.theory.specs.Search.{and-left, and-right, and-both, and-none-left, and-none-right, or-left, true-together}
-use Rattle.theory.specs.Search.{some-at, some-not, some-none, some-get, some-cong, every-each, every-at, every-not, any-not, any-none, two-none, two-not, earlier-left, earlier-right}
-use Rattle.theory.specs.Flat.{table-in}
-use Rattle.theory.specs.Operators.{afterOf, names-in, entry-of, in-fine, entries-rise, entries-earlier, field-at}
+use Rattle.theory.specs.Truth.{on, off, test}
+use Rattle.theory.specs.Search.{or-left, some-cong}
 use Rattle.theory.specs.Possible.{possible-at}
 use Rattle.theory.specs.Slices.{entriesIn, entryIn}
 use Rattle.pairs.specs.Places.{any-table, two-table}
-use Rattle.pairs.specs.Ready.{Ready, Apart, HoldsPossible, ready-afters, apart-names}
+use Rattle.pairs.specs.Ready.{HoldsPossible}
 
 -- ---- definitions
 

@@ -11,7 +11,7 @@ use Rattle.meaning.specs.Limits.{wordBits}
 use Rattle.meaning.specs.Sets.{Set}
 use Rattle.meaning.specs.Workspace.{has}
 use Rattle.meaning.specs.Pair.{paired, holds}
-use Rattle.theory.specs.Truth.{Test, on, off, test}
+use Rattle.theory.specs.Truth.{on, off, test}
 use Rattle.theory.specs.Search.{some-not}
 use Rattle.words.specs.Next.{Next}
 use Rattle.words.specs.Part.{has-past}

@@ -95,13 +95,6 @@ module _ (sizes pairs variables befores afters : List ℕ) (ready : Ready sizes 
   pub ready-befores : Atoms sizes variables befores
   ready-befores = record { equal = ready .befores-equal; inside = λ k l. (entry-fine ready-given k l .0, entry-fine ready-given k l .1); rise = entries-rise ready-given }
 
-  pub ready-afters : Atoms sizes variables afters
-  ready-afters = record { equal = ready .afters-equal; inside = λ k l. (entry-fine ready-given k l .0, entry-fine ready-given k l .2); rise = entries-rise ready-given }
-
-  -- The value that an operator gives the variable at a place is in its range.
-  pub after-range : (u k : ℕ) → k < length variables → getD variables k 0 ≡ u → getD afters k 0 < size sizes u
-  after-range u k l q = rw q at (entry-fine ready-given k l .2)
-
 -- ---- numbers of atoms
 
 -- The values of a variable count on from its first atom, and their atoms are within the words.

@@ -7,7 +7,7 @@ use native.Mathlib.Omega.{arith}
 use lib.Dec.{eqb}
 use lib.ListN.{length, getD}
 use Rattle.meaning.specs.Limits.{wordBits}
-use Rattle.meaning.specs.Sets.{Set, some}
+use Rattle.meaning.specs.Sets.{some}
 use Rattle.meaning.specs.Task.{Operator, Entries, names, size}
 use Rattle.meaning.specs.Feature.{atoms, features, single}
 use Rattle.meaning.specs.Workspace.{has}

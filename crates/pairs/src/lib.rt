@@ -318,8 +318,10 @@ pub fn is_unclosed(
         return false;
     }
     let values = numbering::values_in(sizes, block, pair.feature);
-    leaves(sizes, pairs, variables, befores, afters, possible, i, values.first)
-        && leaves(sizes, pairs, variables, befores, afters, possible, j, values.second)
+    let x = values.first;
+    let y = values.second;
+    leaves(sizes, pairs, variables, befores, afters, possible, i, x)
+        && leaves(sizes, pairs, variables, befores, afters, possible, j, y)
 }
 
 // Whether the list is closed under the operator: a walk over the listed pairs, to the first that is unclosed.

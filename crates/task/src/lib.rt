@@ -63,8 +63,8 @@ fn are_closed(bytes: &[u8], at: usize, count: usize, sizes: &[u64], pairs: &[u64
     let mut possible = [0u64; MOST_WORDS];
     let mut closed = true;
     let mut next = at;
-    let mut k = 0;
-    'walk: while k < count {
+    let mut judged = 0;
+    'walk: while judged < count {
         let read = operator::read_operator(bytes, next, sizes);
         let step = read.step;
         let Step::Next(after) = step else {
@@ -89,7 +89,7 @@ fn are_closed(bytes: &[u8], at: usize, count: usize, sizes: &[u64], pairs: &[u64
             }
         }
         next = after;
-        k += 1;
+        judged += 1;
     }
     closed
 }

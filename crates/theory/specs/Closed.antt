@@ -6,10 +6,10 @@ use mathlib.Core.Bool.{Bool, true, false, not, _&&_, _||_, cond, and-or-distrib-
 use mathlib.Core.List.{List, List·Memᴰ as In}
 use native.Mathlib.Omega.{arith}
 use native.Mathlib.Nat.{ne-of-lt}
-use lib.Dec.{eqb, ltb}
+use lib.Dec.{eqb}
 use lib.ListN.{length}
 use borrow.Author.Tests.{eqb-true, eq-eqb, ne-eqb, not-true}
-use Rattle.meaning.specs.Sets.{Set, some, anyOf, twoOf}
+use Rattle.meaning.specs.Sets.{Set, some}
 use Rattle.meaning.specs.Task.{Entry, Operator, Entries, names, size}
 use Rattle.meaning.specs.Feature.{atoms, features, both, double}
 use Rattle.meaning.specs.Pair.{paired, possible, idle, clashingAfter, uncovered, closed, joinsAfters, joinsPossible, unclosedPair}
@@ -72,7 +72,7 @@ module _ (sizes : List ℕ) (pairs : Set) (o : Operator) (fine : Entries sizes 0
       some-at (features sizes) _ f (both-below sizes _ _ _ _ (unnamed-apart e u m (not-true _ free)) (in-fine sizes 0 o e m fine .3) j)
       (and-both _ _ (and-left (pairs f) (possible sizes pairs o u y) c)
       (any-at _ o e m (some-at (length sizes) _ u k (and-both _ _ free (some-at (size sizes u) _ y j
-      (and-both _ _ (eq-eqb f _ refl) (and-right (pairs f) (possible sizes pairs o u y) c)))))))) 
+      (and-both _ _ (eq-eqb f _ refl) (and-right (pairs f) (possible sizes pairs o u y) c))))))))
       (λ t. let (f, l, q) = some-get (features sizes) _ t in
       let (e, m, a) = any-get _ o (and-right (pairs f) (joinsPossible sizes pairs o f) q) in
       let (u, k, b) = some-get (length sizes) _ a in
@@ -138,7 +138,7 @@ module _ (sizes : List ℕ) (pairs : Set) (o : Operator) (fine : Entries sizes 0
         let m' = earlier-right r in
         let rise = entries-rise sizes 0 o e e' fine r in
         let (a, b, c, d) = double-only sizes i x j y (e .variable) (e .after) (e' .variable) (e' .after) l rise hx hy (in-fine sizes 0 o e m fine .3) (in-fine sizes 0 o e' m' fine .3)
-            (eqb-true _ _ z ∙ both-less sizes _ _ _ _ rise) in
+        (eqb-true _ _ z ∙ both-less sizes _ _ _ _ rise) in
         joined-by (names-first e m a) (leaves-after e i x m a b) (leaves-after e' j y m' c d)
 
     -- An after atom and a possible one, in one order or the other.

@@ -139,9 +139,6 @@ unfolding anyOf
 any-not p [] h = refl
 any-not p (x ∷ xs) h = or-neither (p x) (anyOf p xs) (h x (here refl)) (any-not p xs (λ a m. h a (there m)))
 
-pub any-none : {A : Type 0} (p : A → Bool) (l : List A) → anyOf p l ≡ false → (a : A) → In a l → p a ≡ false
-any-none p l e a m = elim (test (p a)) [ on q ↦ absurd (clash (any-at p l a m q) e) | off q ↦ q ]
-
 -- An element that passes, or the fact that none does.
 pub data SomeOf {A : Type 0} (p : A → Bool) (l : List A) : Type 0 where
   member : (a : A) → In a l → p a ≡ true → SomeOf p l

@@ -1,6 +1,5 @@
 -- `block_at`: each block on the way stands in its place and begins at f or before.
 use Prim.Native.Nat.{_≤_}
-use mathlib.Core.Path.{_≡_}
 use native.Mathlib.Omega.{arith}
 use Rattle.numbering.specs.Order.{Stands, blocksLeft}
 use Rattle.numbering.proofs.block_at.Statement.{statement}

@@ -2,7 +2,7 @@
 use Prim.Native.Nat.{ℕ, _≤_, _<_, _-_}
 use mathlib.Core.Path.{_≡_, refl, sym, _∙_}
 use mathlib.Core.Logic.{⊎-elim}
-use mathlib.Core.Bool.{true, false}
+use mathlib.Core.Bool.{true}
 use mathlib.Core.List.{List}
 use native.Mathlib.Omega.{arith}
 use native.Mathlib.Nat.{sub-zero}
@@ -31,19 +31,19 @@ use Rattle.task.proofs.are_closed.Statement.{statement}
 use Rattle.task.proofs.are_closed.Tie as tie
 
 abbrev Inv-loop : tie.InvT-loop
-Inv-loop bytes at count sizes pairs end possible closed₀ next k after n variables befores afters pair₀ closed pair =
+Inv-loop bytes at count sizes pairs end possible closed₀ next judged after n variables befores afters pair₀ closed pair =
     (closed ≡ true) × Reached sizes pairs (entriesIn variables befores afters) pair
 
 abbrev μ-loop : tie.MeasureT-loop
-μ-loop bytes at count sizes pairs end possible closed₀ next k after n variables befores afters pair₀ closed pair = end - pair .feature
+μ-loop bytes at count sizes pairs end possible closed₀ next judged after n variables befores afters pair₀ closed pair = end - pair .feature
 
 abbrev Inv-walk : tie.InvT-walk
-Inv-walk bytes at count sizes pairs end possible₀ closed₀ next₀ k₀ possible closed next k =
-    (k ≤ count) × (closed ≡ true) × (length possible ≡ wordsFor mostFeatures)
-    × (closedFrom sizes (has pairs) count bytes at ≡ closedFrom sizes (has pairs) (count - k) bytes next)
+Inv-walk bytes at count sizes pairs end possible₀ closed₀ next₀ judged₀ possible closed next judged =
+    (judged ≤ count) × (closed ≡ true) × (length possible ≡ wordsFor mostFeatures)
+    × (closedFrom sizes (has pairs) count bytes at ≡ closedFrom sizes (has pairs) (count - judged) bytes next)
 
 abbrev μ-walk : tie.MeasureT-walk
-μ-walk bytes at count sizes pairs end possible₀ closed₀ next₀ k₀ possible closed next k = count - k
+μ-walk bytes at count sizes pairs end possible₀ closed₀ next₀ judged₀ possible closed next judged = count - judged
 
 -- At a turn: what the call began with, and where the walk over the operators stands.
 abbrev start : tie.After-step Inv-loop μ-loop Inv-walk μ-walk → tie.Start Inv-loop μ-loop Inv-walk μ-walk
@@ -176,8 +176,8 @@ loop-again : tie.Need-loop-again Inv-loop μ-loop Inv-walk μ-walk
 loop-again c = let (still, reached) = c .before .before .before .before .before .before .loop .inv in
     (still, reached-next _ _ _ (start (pair-turn (c .before .before)) .pre) _ _ reached (sym (c .before .before .is-unclosed .ensures) ∙ c .before .if3 .left) (c .next-pair .ensures))
 
-add-k : tie.Need-add-k Inv-loop μ-loop Inv-walk μ-walk
-add-k c = let s = turn (c .before) in omega (arith, s .before .before .before .walk-test .taken, start s .fits .count)
+add-judged : tie.Need-add-judged Inv-loop μ-loop Inv-walk μ-walk
+add-judged c = let s = turn (c .before) in omega (arith, s .before .before .before .walk-test .taken, start s .fits .count)
 
 walk-less : tie.Need-walk-less Inv-loop μ-loop Inv-walk μ-walk
 walk-less c = omega arith
@@ -234,7 +234,7 @@ are-closed-spec =
     next-pair-requires
     loop-less
     loop-again
-    add-k
+    add-judged
     walk-less
     walk-again
     returns

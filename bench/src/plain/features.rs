@@ -25,6 +25,14 @@ impl Plane {
     }
 }
 
+/// The features of two variables as a block of numbers, from `start` to right before `end`.
+pub struct Block {
+    pub low: usize,
+    pub high: usize,
+    pub start: usize,
+    pub end: usize,
+}
+
 /// The sizes of the variables, with a way to the numbers of their features.
 pub struct Features<N> {
     sizes: Vec<usize>,
@@ -104,5 +112,30 @@ impl<N: Numbering> Features<N> {
     pub fn pair(&self, one: Atom, other: Atom) -> usize {
         self.plane(one.variable, other.variable)
             .number(one.value, other.value)
+    }
+
+    /// The blocks of any two variables, one after the other.
+    pub fn blocks(&self) -> impl Iterator<Item = Block> + '_ {
+        let variables = self.variables();
+        let two = move |low| (low + 1..variables).map(move |high| (low, high));
+        let mut end = self.atoms;
+        (0..variables).flat_map(two).map(move |(low, high)| {
+            let start = end;
+            end += self.size(low) * self.size(high);
+            Block {
+                low,
+                high,
+                start,
+                end,
+            }
+        })
+    }
+
+    /// The two atoms of a feature, by its block.
+    pub fn atoms_in(&self, block: &Block, feature: usize) -> [Atom; 2] {
+        let size = self.size(block.high);
+        let place = feature - block.start;
+        [(block.low, place / size), (block.high, place % size)]
+            .map(|(variable, value)| Atom { variable, value })
     }
 }

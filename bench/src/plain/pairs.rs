@@ -1,6 +1,6 @@
 //! Listed pairs: what an operator leaves possible, whether it is idle, whether the list is closed under it.
 
-use super::features::{Atom, Features};
+use super::features::{Atom, Block, Features};
 use super::numbering::Numbering;
 use super::set;
 use super::task::{Entry, Operator};
@@ -27,11 +27,6 @@ impl<'a, N: Numbering> Pairs<'a, N> {
 
     fn is_paired_before(&self, entries: &[Entry], atom: Atom) -> bool {
         let is_paired = |entry: &Entry| self.are_paired(entry.atom_before(), atom);
-        !self.is_empty && entries.iter().any(is_paired)
-    }
-
-    fn is_paired_after(&self, entries: &[Entry], atom: Atom) -> bool {
-        let is_paired = |entry: &Entry| self.are_paired(entry.atom_after(), atom);
         !self.is_empty && entries.iter().any(is_paired)
     }
 
@@ -67,22 +62,45 @@ impl<'a, N: Numbering> Pairs<'a, N> {
             })
     }
 
+    /// Whether an operator leaves an atom: its variable's after value, or a possible value where the operator does not name it.
+    fn is_left(&self, operator: &Operator, possible: &[u64], atom: Atom) -> bool {
+        match operator.entry_of(atom.variable) {
+            Some(entry) => entry.after == atom.value,
+            None => set::has(possible, self.features.single(atom)),
+        }
+    }
+
+    fn is_unclosed(
+        &self,
+        operator: &Operator,
+        possible: &[u64],
+        block: &Block,
+        pair: usize,
+    ) -> bool {
+        (operator.names(block.low) || operator.names(block.high))
+            && self
+                .features
+                .atoms_in(block, pair)
+                .into_iter()
+                .all(|atom| self.is_left(operator, possible, atom))
+    }
+
+    /// A walk over the listed pairs, to the first that is unclosed.
     pub fn are_closed_under(&self, operator: &Operator) -> bool {
         let possible = self.possible(operator);
         if self.is_idle(operator, &possible) {
             return true;
         }
-        let entries = &operator.entries;
-        let afters_clash = entries
-            .iter()
-            .enumerate()
-            .any(|(place, entry)| self.is_paired_after(&entries[..place], entry.atom_after()));
-        !afters_clash
-            && self.unnamed(operator).all(|variable| {
-                self.features.atoms_of(variable).all(|(atom, number)| {
-                    !(set::has(&possible, number) && self.is_paired_after(entries, atom))
-                })
-            })
+        let mut blocks = self.features.blocks();
+        let Some(mut block) = blocks.next() else {
+            return true;
+        };
+        set::members(self.listed).all(|pair| {
+            while block.end <= pair {
+                block = blocks.next().expect("each pair stands in a block");
+            }
+            !self.is_unclosed(operator, &possible, &block, pair)
+        })
     }
 
     pub fn are_held_by(&self, state: &[usize]) -> bool {

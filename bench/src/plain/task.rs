@@ -37,7 +37,11 @@ pub struct Operator {
 
 impl Operator {
     pub fn names(&self, variable: usize) -> bool {
-        self.entries.iter().any(|entry| entry.variable == variable)
+        self.entry_of(variable).is_some()
+    }
+
+    pub fn entry_of(&self, variable: usize) -> Option<&Entry> {
+        self.entries.iter().find(|entry| entry.variable == variable)
     }
 }
 

@@ -20,7 +20,7 @@
  *   case                      value                             given by
  *   0 FLORUMEJA_DONE          0                                 check: accepted; find: separated; an edit: done
  *                             words due                         open
- *                             bytes written                     build, line, weight_file
+ *                             bytes written                     build, line, weight_file, check_line
  *   1 FLORUMEJA_ENDS_ALIKE    0                                 check: rejected, the parities of start and goal are equal
  *   1 FLORUMEJA_NONE          0                                 find: no weights separate; this is no refusal
  *   2 FLORUMEJA_OPERATOR      the operator's number, from 0     check: rejected, this operator is the first that breaks parity
@@ -69,11 +69,13 @@ static inline uint32_t florumeja_value(uint64_t answer) { return (uint32_t)(answ
 
 /* Room that is never too small. A workspace of v variables and N features has 1 + 3v + W + N*W words and an answer has W, where W is N/64 rounded
  * up; v is at most 64 and N at most 4,096. The task file of a bay of three by three has 2,019 bytes. The longest line has the count and 640
- * features. The longest weight file has the count and 4,096 features, the first 128 of one byte each, the others and the count of two. */
+ * features; the longest line of a verdict has the number of an operator. The longest weight file has the count and 4,096 features, the first 128 of
+ * one byte each, the others and the count of two. */
 #define FLORUMEJA_WORKSPACE_WORDS 262401
 #define FLORUMEJA_ANSWER_WORDS 64
 #define FLORUMEJA_BAY_BYTES 2019
 #define FLORUMEJA_LINE_BYTES 2464
+#define FLORUMEJA_VERDICT_BYTES 24
 #define FLORUMEJA_WEIGHT_BYTES 8066
 
 /* Checks weights against a task: a task file and a weight file. */
@@ -107,6 +109,10 @@ uint64_t florumeja_line(const uint8_t *input, size_t input_length, uint8_t *room
  * of that answer; what stands in further words counts too. A feature of 4,096 or more is refused 3, whatever the room; otherwise a room that is shorter
  * than the file is refused 8. */
 uint64_t florumeja_weight_file(const uint64_t *words, size_t words_length, uint8_t *room, size_t room_length);
+
+/* The line that tells what florumeja_check answers, its line end included: "accepted", "rejected ends alike", "rejected operator J" or "refused N".
+ * Refusals are lines too: case 3 is given only where the room is too small for the line. */
+uint64_t florumeja_check_line(const uint8_t *task, size_t task_length, const uint8_t *weights, size_t weights_length, uint8_t *room, size_t room_length);
 
 #ifdef __cplusplus
 }

@@ -123,8 +123,35 @@ static void weight_files(void) {
     expect(refused(florumeja_weight_file(full, 65, room, 0), FLORUMEJA_RANGE) && SAME(room, sevens), "feature 4,096: refused 3 before the room is judged");
 }
 
+static void check_lines(void) {
+    const uint8_t both[] = {2, 0, 2}, first[] = {1, 0}, third[] = {1, 2};
+    uint8_t room[FLORUMEJA_VERDICT_BYTES + 1];
+    memset(room, 7, sizeof room);
+    expect(refused(florumeja_check_line(task_b, sizeof task_b, both, sizeof both, room, 8), FLORUMEJA_SMALL) && room[0] == 7, "8 bytes are too few for `accepted`");
+    expect(is(florumeja_check_line(task_b, sizeof task_b, both, sizeof both, room, 9), FLORUMEJA_DONE, 9) && memcmp(room, "accepted\n\7", 10) == 0, "B with {0,2}");
+    expect(is(florumeja_check_line(task_b, sizeof task_b, first, sizeof first, room, sizeof room), FLORUMEJA_DONE, 20) && memcmp(room, "rejected ends alike\n\7", 21) == 0, "J's line");
+    expect(is(florumeja_check_line(task_b, sizeof task_b, third, sizeof third, room, sizeof room), FLORUMEJA_DONE, 20) && memcmp(room, "rejected operator 0\n\7", 21) == 0, "K's line");
+    expect(is(florumeja_check_line(task_g, sizeof task_g, first, sizeof first, room, sizeof room), FLORUMEJA_DONE, 10) && memcmp(room, "refused 7\n", 10) == 0, "G's line for a checker");
+}
+
+/* As many operators as a file can count, 16,383: the last one alone, lift, breaks {0}, and its line is the longest. The others set variable 1 from
+ * 0 to 0. */
+static void longest_check_line(void) {
+    static uint8_t task[8 + 2 + 16383 * 4];
+    static const uint8_t head[] = {2, 2, 2, 0, 0, 1, 0, 0, 0xff, 0x7f}, still[] = {1, 1, 0, 0}, lift[] = {1, 0, 0, 1}, first[] = {1, 0};
+    uint8_t room[FLORUMEJA_VERDICT_BYTES];
+    size_t i;
+    memcpy(task, head, sizeof head);
+    for (i = 0; i < 16383; i++) memcpy(task + sizeof head + 4 * i, i < 16382 ? still : lift, 4);
+    expect(is(florumeja_check_line(task, sizeof task, first, sizeof first, room, sizeof room), FLORUMEJA_DONE, sizeof room)
+               && memcmp(room, "rejected operator 16382\n", sizeof room) == 0, "the longest line");
+    expect(refused(florumeja_check_line(task, sizeof task, first, sizeof first, room, sizeof room - 1), FLORUMEJA_SMALL), "a byte too few for the longest line");
+}
+
 int main(void) {
     check_calls();
+    check_lines();
+    longest_check_line();
     open_and_find();
     edits();
     builds_and_lines();

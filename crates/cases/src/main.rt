@@ -1,6 +1,8 @@
 // Checks the cases of standard input, one after another, and prints a line for each.
 ghost use Prim.Native.Nat.{_+_, _≤_};
 ghost use lib.ListN.{length};
+use text::Printed;
+use verdicts::VERDICT_BYTES;
 
 // How many bytes say how long a file is.
 const LENGTH_BYTES: usize = 2;
@@ -23,6 +25,18 @@ fn file_end(bytes: &[u8], at: usize) -> usize
     first + length
 }
 
+// Prints the checker's line for a case.
+fn print(task: &[u8], weights: &[u8]) {
+    let mut room = [0u8; VERDICT_BYTES];
+    match verdicts::line(task, weights, &mut room) {
+        Printed::Printed(end) => {
+            io::write_all(1, &room[..end]);
+        }
+        // The room is long enough for every line.
+        Printed::Refused(_) => {}
+    }
+}
+
 fn main() {
     let mut input = io::large_buffer();
     let n = io::read_full(0, &mut input);
@@ -34,10 +48,10 @@ fn main() {
             return;
         }
         let end = file_end(bytes, middle);
-        verdicts::print(checking::check(
+        print(
             &bytes[at + LENGTH_BYTES..middle],
             &bytes[middle + LENGTH_BYTES..end],
-        ));
+        );
         at = end;
     }
 }

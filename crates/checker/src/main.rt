@@ -1,16 +1,21 @@
-// The checker as a program: a task file and a weight file named as arguments, and one line with the verdict.
+// The checker as a program: a task file and a weight file named as arguments, and one line with the verdict. A task file of more than 1,048,576
+// bytes is refused as 8, whatever its bytes are; accepted ones may be longer, and the library's own call takes them.
 ghost use mathlib.Core.Path.{_≡_};
 ghost use Rattle.io.specs.Counts.{Counts};
 use libc::STDERR_FILENO;
+use libc::STDOUT_FILENO;
+use text::Printed;
+use verdicts::MOST_TASK;
+use verdicts::VERDICT_BYTES;
 
 // The program's own name, and the two files.
 const ARGUMENTS: usize = 3;
 
-// An accepted task file has at most 1 + 3 * 64 + (2 + 2 * 4,096) + (2 + 16,383 * (1 + 3 * 64)) = 3,170,308 bytes: v, sizes, start and goal; pairs;
-// operators. A longer file is refused for a fault that stands within this room, or because bytes are left over: what is not read changes no answer.
-const TASK_BYTES: usize = 4194304;
+// One byte more than the program takes, so that a longer file is seen.
+const TASK_BYTES: usize = MOST_TASK + 1;
 
-// The same holds of a weight file, which has at most 2 + 2 * 4,096 bytes.
+// An accepted weight file has at most 2 + 2 * 4,096 bytes. A longer file is refused for a fault that stands within this room, or because bytes are
+// left over: what is not read changes no answer.
 const WEIGHT_BYTES: usize = 16384;
 
 // How many bytes a file has, as far as there is room for them, if it could be read.
@@ -63,6 +68,18 @@ fn load(argument: usize, bytes: &mut [u8]) -> Loaded
     loaded
 }
 
+// Prints the line for the two files.
+fn print(task: &[u8], weights: &[u8]) {
+    let mut room = [0u8; VERDICT_BYTES];
+    match verdicts::program_line(task, weights, &mut room) {
+        Printed::Printed(end) => {
+            io::write_all(STDOUT_FILENO, &room[..end]);
+        }
+        // The room is long enough for every line.
+        Printed::Refused(_) => {}
+    }
+}
+
 // Checks the second file against the first, in the room that each has.
 fn check(task: &mut [u8], weights: &mut [u8]) {
     let first = load(1, &mut *task);
@@ -75,7 +92,7 @@ fn check(task: &mut [u8], weights: &mut [u8]) {
     }
     let n = first.count;
     let m = second.count;
-    verdicts::print(checking::check(&task[..n], &weights[..m]));
+    print(&task[..n], &weights[..m]);
 }
 
 fn main() {

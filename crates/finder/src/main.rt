@@ -1,6 +1,6 @@
 // The finder as a program: reads a task file on standard input and prints its line.
 use line::LINE_BYTES;
-use line::Printed;
+use text::Printed;
 
 // One byte more than the program takes, so that a longer file is seen.
 const INPUT_BYTES: usize = 8193;

@@ -11,8 +11,9 @@ use Rattle.theory.specs.Determined.{AtMostOne, is-only, checks-only, opens-only
 use Rattle.line.specs.Answer.{Lines, lines-only}
 use Rattle.words.specs.Members.{membersIn}
 use Rattle.writer.specs.Weights.{weightsWritten, Writes}
+use Rattle.verdicts.specs.Answer.{VerdictLines, verdict-lines-only}
 use Rattle.florumeja.specs.Code.{valueEnd, Code, code, numberOf, refusedCase, answerCode, verdictCode, lengthCode, findingCode, editCode, Coded, Left, Leaves}
-use Rattle.florumeja.specs.Fits.{Fits, FitsIn, checks-fit, opens-fit, finds-fit, edits-fit, builds-fit, lines-fit, writes-fit}
+use Rattle.florumeja.specs.Fits.{Fits, FitsIn, checks-fit, opens-fit, finds-fit, edits-fit, builds-fit, lines-fit, verdict-lines-fit, writes-fit}
 
 -- ---- a number and its code
 
@@ -116,6 +117,10 @@ pub weight-file-read : (words room : List ℕ) (left : Left) → Leaves lengthCo
     → Writes (membersIn words) room (outcomeIn length-table left)
 weight-file-read words room = outcome-allowed length-table (Writes (membersIn words) room) (writes-fit (membersIn words) room)
 
+pub check-line-read : (task weights room : List ℕ) (left : Left) → Leaves lengthCode (VerdictLines task weights room) left
+    → VerdictLines task weights room (outcomeIn length-table left)
+check-line-read task weights room = outcome-allowed length-table (VerdictLines task weights room) (verdict-lines-fit task weights room)
+
 -- ---- each call leaves one number and one memory
 
 coded-only : {A : Type 0} (resultCode : A → Code) (Allows : Answer A → Type 0) → AtMostOne Allows → AtMostOne (Coded resultCode Allows)
@@ -146,3 +151,6 @@ line-only input room = leaves-only lengthCode (Lines input room) (lines-only inp
 
 pub weight-file-only : (words room : List ℕ) → AtMostOne (Leaves lengthCode (Writes (membersIn words) room))
 weight-file-only words room = leaves-only lengthCode (Writes (membersIn words) room) (is-only (weightsWritten (membersIn words) room))
+
+pub check-line-only : (task weights room : List ℕ) → AtMostOne (Leaves lengthCode (VerdictLines task weights room))
+check-line-only task weights room = leaves-only lengthCode (VerdictLines task weights room) (verdict-lines-only task weights room)

@@ -1,31 +1,32 @@
 -- Every value that a call can answer fits: it is below 2^32.
 use Prim.Native.Nat.{ℕ, _<_, _≤_}
-use mathlib.Core.Path.{_≡_, refl, sym, subst}
+use mathlib.Core.Path.{_≡_, refl}
 use mathlib.Core.Logic.{_⊎_, inl, inr}
-use mathlib.Core.Bool.{Bool, true, false, cond}
 use mathlib.Core.List.{List, []}
 use native.Mathlib.Omega.{arith}
 use native.Mathlib.Nat.{mul-le-mul}
 use lib.Dec.{ltb}
 use lib.ListN.{length}
-use Rattle.meaning.specs.Limits.{wordBits, numberEnd}
-use Rattle.meaning.specs.Sets.{Set, listed}
-use Rattle.meaning.specs.Task.{Task}
+use Rattle.meaning.specs.Limits.{wordBits}
 use Rattle.meaning.specs.Feature.{features}
-use Rattle.meaning.specs.Number.{Reason, Small, Malformed, refusal, Read, got, fault}
-use Rattle.meaning.specs.File.{judgedTask, judgedWeights, taskBytes, weightBytes, InLimits}
+use Rattle.meaning.specs.Number.{Reason, Small, Malformed, refusal}
+use Rattle.meaning.specs.File.{judgedTask, taskBytes, weightBytes, InLimits}
 use Rattle.meaning.specs.Workspace.{packed, wordsFor, wordsDue, Content, wordsOf, WellFormed}
-use Rattle.meaning.specs.Answer.{Answer, done, refused, Outcome, refuses, writes, delivered, byRead, Verdict, accepted, endsAlike, breaks, Judges, Checks, Opens}
+use Rattle.meaning.specs.Answer.{Answer, done, refused, Outcome, refuses, writes, delivered, Verdict, accepted, endsAlike, breaks, Checks, Opens}
 use Rattle.meaning.specs.Answer.{Finding, none, separated, FindsIn, FindsBy, Finds, Edit, Judged, fine, faulty, editJudged, EditsIn, Edits}
 use Rattle.meaning.specs.Bay.{Bay, judgedBay, bayTask, Builds}
-use Rattle.meaning.specs.Line.{line}
+use Rattle.meaning.specs.Line.{line, verdictLine}
 use Rattle.theory.specs.Accepted.{accepted as task-accepted}
 use Rattle.theory.specs.BayTask.{ReadableBay, accepted-bay}
 use Rattle.theory.specs.Truth.{on, off, test}
 use Rattle.building.specs.Answers.{Sides}
 use Rattle.building.specs.Files.{task-few}
 use Rattle.line.specs.Answer.{Lines}
-use Rattle.line.specs.Fits.{refusal-short, line-short}
+use Rattle.line.specs.Fits.{line-short}
+use Rattle.text.specs.Allowed.{is-good, if-good, read-good}
+use Rattle.text.specs.Parts.{refusal-short}
+use Rattle.verdicts.specs.Answer.{VerdictLines}
+use Rattle.verdicts.specs.Fits.{Short, checks-short, verdict-few}
 use Rattle.writer.specs.Weights.{weightsJudged, weightsWritten, Writes}
 use Rattle.writer.specs.Judging.{fine-few, weights-refused, weights-delivered}
 use Rattle.florumeja.specs.Code.{valueEnd, Code, answerCode, verdictCode, lengthCode, findingCode, editCode}
@@ -39,42 +40,23 @@ FitsIn resultCode outcome = Fits resultCode (outcome .answer)
 refusal-fits : (reason : Reason) → refusal reason < valueEnd
 refusal-fits reason = omega (arith, refusal-short reason)
 
--- ---- how such statements are put together: whatever a relation allows is good
-
+-- What is allowed of a workspace is good, if it is so for each content and where there is none.
 module _ {A : Type 0} (Good : A → Type 0) where
-  is-good : (b : A) → Good b → (a : A) → a ≡ b → Good a
-  is-good b good a e = subst Good (sym e) good
-
-  if-good : (t : Bool) (P Q : A → Type 0) → ((a : A) → P a → Good a) → ((a : A) → Q a → Good a) → (a : A) → cond t (P a) (Q a) → Good a
-  if-good true P Q p q = p
-  if-good false P Q p q = q
-
-  read-good : {B : Type 0} (read : Read B) (P : B → A → Type 0) (bad : Reason → A)
-      → ((b : B) (next : ℕ) → read ≡ got b next → (a : A) → P b a → Good a) → ((reason : Reason) → Good (bad reason)) → (a : A) → byRead read (λ b. P b a) (λ reason. a ≡ bad reason) → Good a
-  read-good (got b next) P bad good refusals = good b next refl
-  read-good (fault reason place) P bad good refusals = is-good (bad reason) (refusals reason)
-
   formed-good : (workspace : List ℕ) (P : Content → A → Type 0) (bad : A) → ((c : Content) (a : A) → P c a → Good a) → Good bad
       → (a : A) → ((WellFormed workspace → ⊥) × (a ≡ bad)) ⊎ ((formed : WellFormed workspace) × P (formed .content) a) → Good a
-  formed-good workspace P bad good refusal a (inl h) = is-good bad refusal a (h .1)
+  formed-good workspace P bad good refusal a (inl h) = is-good Good bad refusal a (h .1)
   formed-good workspace P bad good refusal a (inr h) = good (h .0 .content) a (h .1)
 
--- ---- the checker: an operator's number is below what a file can count
-
-verdict-fits : (T : Task) (weights : Set) (v : Verdict) → length (T .operators) < numberEnd → Judges T weights v → verdictCode v .value < valueEnd
-verdict-fits T weights accepted few h = omega arith
-verdict-fits T weights endsAlike few h = omega arith
-verdict-fits T weights (breaks j) few h = omega (arith, h .counted)
+-- ---- the checker: a number that has few digits
 
 pub checks-fit : (task weights : List ℕ) (answer : Answer Verdict) → Checks task weights answer → Fits verdictCode answer
-checks-fit task weights =
-    let bad : Reason → Answer Verdict = λ reason. refused (refusal reason) in
-    read-good (Fits verdictCode) (judgedTask task) _ bad
-    (λ T next e. read-good (Fits verdictCode) (judgedWeights (features (T .sizes)) weights) _ bad
-    (λ ws end e' answer h. is-good (Fits verdictCode) (done (h .0))
-    (verdict-fits T (listed ws) (h .0) (task-accepted task T next e .countable) (h .2)) answer (h .1))
-    refusal-fits)
-    refusal-fits
+checks-fit task weights answer checks = by answer (checks-short task weights answer checks)
+  where
+    by : (answer : Answer Verdict) → Short answer → Fits verdictCode answer
+    by (done accepted) short = omega arith
+    by (done endsAlike) short = omega arith
+    by (done (breaks j)) short = omega arith
+    by (refused number) short = omega arith
 
 -- ---- opening: the words due for a task within its limits
 
@@ -133,11 +115,15 @@ builds-fit bay room =
         let sides : Sides (b .rows) (b .columns) = (rows .0, rows .1, columns .0, columns .1, slots .0, slots .1) in
         omega (arith, task-few (b .rows) (b .columns) sides _ (b .start) (b .goal) _ refl (bay .start-state) (bay .goal-state) refl)
 
--- ---- the line: it is short
+-- ---- the lines: they are short
 
 pub lines-fit : (input room : List ℕ) (outcome : Outcome ℕ) → Lines input room outcome → FitsIn lengthCode outcome
 lines-fit input room o (answer, prints, e) =
     is-good (FitsIn lengthCode) _ (delivered-fits (line answer) room (omega (arith, line-short input answer prints))) o e
+
+pub verdict-lines-fit : (task weights room : List ℕ) (outcome : Outcome ℕ) → VerdictLines task weights room outcome → FitsIn lengthCode outcome
+verdict-lines-fit task weights room o (answer, checks, e) =
+    is-good (FitsIn lengthCode) _ (delivered-fits (verdictLine answer) room (omega (arith, verdict-few answer))) o e
 
 -- ---- a weight file: it has at most as many features as there are
 

@@ -10,7 +10,9 @@ ghost use Rattle.opening.specs.Answer.{openedOf};
 ghost use Rattle.finding.specs.Found.{foundOf};
 ghost use Rattle.editing.specs.Answers.{editedOf};
 ghost use Rattle.building.specs.Answers.{builtOf};
-ghost use Rattle.line.specs.Answer.{Lines, printedOf};
+ghost use Rattle.text.specs.Answer.{printedOf};
+ghost use Rattle.line.specs.Answer.{Lines};
+ghost use Rattle.verdicts.specs.Answer.{VerdictLines};
 ghost use Rattle.words.specs.Members.{membersIn};
 ghost use Rattle.writer.specs.Weights.{Writes, writtenOf};
 ghost use Rattle.florumeja.specs.Code.{valueEnd, code, numberOf, answerCode, verdictCode, lengthCode, findingCode, editCode, Coded, Leaves};
@@ -21,9 +23,9 @@ use checking::Verdict;
 use editing::Edited;
 use finding::Found;
 use limits::MOST_ENTRIES;
-use line::Printed;
 use opening::Opened;
 use operator::Operator;
+use text::Printed;
 use writer::Written;
 
 // Every value is below this number.
@@ -221,4 +223,12 @@ pub extern "C" fn florumeja_weight_file(words: &[u64], room: &mut [u8]) -> u64
     ensures { λ r. ⌜ Leaves lengthCode (Writes (membersIn (now (words .entry))) (now (room .entry))) (record { number = r; lent = now (room .exit) }) ⌝ }
 {
     written_number(writer::weight_file(words, room))
+}
+
+// The line that tells the verdict on weights for a task.
+#[no_mangle]
+pub extern "C" fn florumeja_check_line(task: &[u8], weights: &[u8], room: &mut [u8]) -> u64
+    ensures { λ r. ⌜ Leaves lengthCode (VerdictLines (now (task .entry)) (now (weights .entry)) (now (room .entry))) (record { number = r; lent = now (room .exit) }) ⌝ }
+{
+    printed_number(verdicts::line(task, weights, room))
 }

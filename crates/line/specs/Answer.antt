@@ -1,28 +1,20 @@
 -- What the call answers in the words of the meaning, and that it has one outcome.
 use Prim.Native.Nat.{ℕ}
-use mathlib.Core.Path.{_≡_, sym, ap, _∙_}
 use mathlib.Core.List.{List}
-use Rattle.meaning.specs.Answer.{Answer, done, refused, Outcome, delivered}
+use Rattle.meaning.specs.Answer.{Answer, done, refused, Outcome}
 use Rattle.meaning.specs.Line as meaning
 use Rattle.theory.specs.Determined.{AtMostOne, prints-only}
 use Rattle.words.specs.Members.{membersIn}
+use Rattle.text.specs.Answer.{LineOf, line-of-only}
 use Rattle.finding.specs.declared.Found.{Found}
 use Rattle.finding.specs.declared.Found.the-variants as found
-use Rattle.line.specs.declared.Printed.{Printed}
-use Rattle.line.specs.declared.Printed.the-variants as printed
 
 -- The line of the program's answer for an input goes to the front of the room; 8 where the room is too short for it.
 abbrev pub Lines : List ℕ → List ℕ → Outcome ℕ → Type 0
-Lines input room outcome =
-    (answer : Answer meaning.Found) × meaning.Prints input answer × (outcome ≡ delivered (meaning.line answer) room)
+Lines input = LineOf (meaning.Prints input) meaning.line
 
 pub lines-only : (input room : List ℕ) → AtMostOne (Lines input room)
-lines-only input room a b (x, p, e) (y, q, f) =
-    e ∙ ap (λ answer. delivered (meaning.line answer) room) (prints-only input x y p q) ∙ sym f
-
-abbrev pub printedOf : Printed → Answer ℕ
-printedOf (printed.Printed n) = done n
-printedOf (printed.Refused number) = refused number
+lines-only input room = line-of-only (meaning.Prints input) meaning.line room (prints-only input)
 
 -- The program's answer, from that of the finder and the words that it left.
 abbrev pub soughtOf : Found → List ℕ → Answer meaning.Found

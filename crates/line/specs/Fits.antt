@@ -1,6 +1,6 @@
 -- What the program may answer, and that every line fits into so many bytes.
 use Prim.Native.Nat.{ℕ, _+_, _*_, _^_, _<_, _≤_}
-use mathlib.Core.Path.{_≡_, sym, ap, _∙_, subst}
+use mathlib.Core.Path.{_≡_, subst}
 use mathlib.Core.Logic.{_⊎_, inl, inr}
 use mathlib.Core.Bool.{true, _||_}
 use mathlib.Core.List.{List, [], _∷_}
@@ -9,23 +9,23 @@ use lib.Dec.{ltb}
 use lib.ListN.{length, length-append}
 use borrow.Author.Tests.{ltb-false}
 use Rattle.meaning.specs.Limits.{mostInput, mostProgramFeatures}
-use Rattle.meaning.specs.Number.{Reason, Ends, Padded, Endless, Limit, Range, Unordered, LeftOver, Held, Unclosed}
-use Rattle.meaning.specs.Number.{Small, Malformed, Mislabelled, refusal, Read, got, fault}
+use Rattle.meaning.specs.Number.{Reason, Small, refusal, Read, got, fault}
 use Rattle.meaning.specs.Task.{Task}
 use Rattle.meaning.specs.Feature.{features}
 use Rattle.meaning.specs.File.{judgedTask}
 use Rattle.meaning.specs.Answer.{Answer, done, refused, Outcome, writes, byRead}
-use Rattle.meaning.specs.Line.{Found as Answered, nothing, separating, Seeks, tooLarge, Prints, mostDigits, word, wordsIn, line}
+use Rattle.meaning.specs.Line.{Found as Answered, nothing, separating, Seeks, tooLarge, Prints, mostDigits, wordsIn, line}
 use Rattle.theory.specs.Truth.{on, off, test, clash}
 use Rattle.theory.specs.Search.{or-right}
 use Rattle.theory.specs.Run.{run-length}
-use Rattle.decimal.specs.Decimal.{wordWidth, word-few, words-few}
-use Rattle.writer.specs.Remains.{delivered-whole}
+use Rattle.decimal.specs.Decimal.{wordWidth, words-few}
+use Rattle.text.specs.Answer.{printedOf, line-of-written, line-of-ends}
+use Rattle.text.specs.Parts.{refused-few, refusal-short}
+use Rattle.text.specs.declared.Printed.{Printed}
+use Rattle.text.specs.declared.Printed.the-variants as printed
 use Rattle.finding.specs.declared.Found.{Found}
 use Rattle.finding.specs.declared.Found.the-variants.{Separated, Nothing, Refused}
-use Rattle.line.specs.declared.Printed.{Printed}
-use Rattle.line.specs.declared.Printed.the-variants as printed
-use Rattle.line.specs.Answer.{Lines, printedOf, soughtOf}
+use Rattle.line.specs.Answer.{Lines, soughtOf}
 
 -- ---- what the program may answer
 
@@ -58,20 +58,6 @@ ShortNumber Separated = Unit {0}
 ShortNumber Nothing = Unit {0}
 ShortNumber (Refused number) = number < 10 ^ mostDigits
 
-pub refusal-short : (reason : Reason) → refusal reason < 10 ^ mostDigits
-refusal-short Ends = omega arith
-refusal-short Padded = omega arith
-refusal-short Endless = omega arith
-refusal-short Limit = omega arith
-refusal-short Range = omega arith
-refusal-short Unordered = omega arith
-refusal-short LeftOver = omega arith
-refusal-short Held = omega arith
-refusal-short Unclosed = omega arith
-refusal-short Small = omega arith
-refusal-short Malformed = omega arith
-refusal-short Mislabelled = omega arith
-
 pub prints-short : (input weights : List ℕ) (found : Found) → Prints input (soughtOf found weights) → ShortNumber found
 prints-short input weights Separated prints = tt
 prints-short input weights Nothing prints = tt
@@ -100,19 +86,14 @@ unfolding line
 line-short input (done (separating fs)) prints =
     omega (arith, length-append (wordsIn (length fs ∷ fs)) (10 ∷ []), words-few (length fs ∷ fs), features-few input fs prints)
 line-short input (done nothing) prints = omega arith
-line-short input (refused number) prints = omega (arith, length-append (word number) (10 ∷ []), word-few number)
+line-short input (refused number) prints = omega (arith, refused-few number)
 
--- A room as long as that is never refused.
-pub lines-written : (input room : List ℕ) (outcome : Outcome ℕ) → lineBytes ≤ length room → Lines input room outcome
-    → (answer : Answer Answered) × Prints input answer × (outcome ≡ writes (length (line answer)) (line answer) room)
-lines-written input room outcome long (answer, prints, e) =
-    (answer, prints, e ∙ delivered-whole (line answer) room (omega (arith, line-short input answer prints)))
+-- A room as long as that is never refused, and the line ends within it.
+module _ (input room : List ℕ) (long : lineBytes ≤ length room) where
+  pub lines-written : (outcome : Outcome ℕ) → Lines input room outcome
+      → (answer : Answer Answered) × Prints input answer × (outcome ≡ writes (length (line answer)) (line answer) room)
+  lines-written = line-of-written (Prints input) line room lineBytes (line-short input) long
 
--- The line ends within it.
-pub line-ends : (input room left : List ℕ) (result : Printed) (end : ℕ) → lineBytes ≤ length room
-    → Lines input room (record { answer = printedOf result; lent = left }) → result ≡ printed.Printed end → end ≤ length room
-line-ends input room left result end long lines is =
-    let (answer, prints, e) = lines-written input room _ long lines in
-    let same : done end ≡ done (length (line answer)) = sym (ap printedOf is) ∙ ap (λ (o : Outcome ℕ). o .answer) e in
-    let at : end ≡ length (line answer) = cc in
-    omega (arith, line-short input answer prints)
+  pub line-ends : (left : List ℕ) (result : Printed) (end : ℕ) → Lines input room (record { answer = printedOf result; lent = left })
+      → result ≡ printed.Printed end → end ≤ length room
+  line-ends = line-of-ends (Prints input) line room lineBytes (line-short input) long

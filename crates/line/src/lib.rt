@@ -1,12 +1,12 @@
 // The finder program's line: what is found for a task file, as text in lent bytes.
 ghost use mathlib.Core.Path.{_≡_};
-ghost use Prim.Native.Nat.{_+_, _^_, _<_, _≤_};
 ghost use lib.ListN.{length, replicate};
-ghost use Rattle.meaning.specs.Line.{separating, Prints, mostDigits, line};
-ghost use Rattle.meaning.specs.Answer.{done, refused, delivered};
+ghost use Rattle.meaning.specs.Line.{separating, Prints, line};
+ghost use Rattle.meaning.specs.Answer.{done};
 ghost use Rattle.decimal.specs.Written.{Written};
 ghost use Rattle.words.specs.Members.{membersIn};
-ghost use Rattle.line.specs.Answer.{Lines, printedOf, soughtOf};
+ghost use Rattle.text.specs.Answer.{printedOf};
+ghost use Rattle.line.specs.Answer.{Lines, soughtOf};
 ghost use Rattle.line.specs.Sought.{mostDue, weightWords};
 ghost use Rattle.line.specs.Fits.{lineBytes, ShortNumber};
 use decimal::WORD_WIDTH;
@@ -14,13 +14,8 @@ use finding::Found;
 use limits::MOST_VARIABLES;
 use number::Reason;
 use opening::Opened;
+use text::Printed;
 use words::WORD_BITS;
-
-// The length of the line, or the paper's number of a refusal.
-pub enum Printed {
-    Printed(usize),
-    Refused(u64),
-}
 
 // "More than 8,192 bytes give 8 before anything is judged"
 const MOST_INPUT: usize = 8192;
@@ -53,39 +48,16 @@ fn seek(input: &[u8], workspace: &mut [u64], weights: &mut [u64]) -> Found
     }
 }
 
-// Puts bytes from a place on, and answers the place after them.
-fn put(text: &mut [u8], at: usize, bytes: &[u8]) -> usize
-    requires { ⌜ at + length (now bytes) ≤ length (now text) ⌝ }
-    ensures { λ r. ⌜ Written (now (text .entry)) at (now (bytes .entry)) r (now (text .exit)) ⌝ }
-{
-    let mut i = 0;
-    while i < bytes.len() {
-        text[at + i] = bytes[i];
-        i += 1;
-    }
-    at + i
-}
-
 // Puts the line for weights that separate.
 fn put_separated(text: &mut [u8], weights: &[u64]) -> usize
     requires { ⌜ (length (now text) ≡ lineBytes) × (length (now weights) ≡ weightWords) ⌝ }
     ensures { λ r. ⌜ Written (now (text .entry)) 0 (line (done (separating (membersIn (now (weights .entry)))))) r (now (text .exit)) ⌝ }
 {
     let count = words::count(weights);
-    let first = put(text, 0, b"separated");
+    let first = text::put(text, 0, b"separated");
     let second = decimal::put_word(text, first, count);
     let third = decimal::put_members(text, second, weights);
-    put(text, third, b"\n")
-}
-
-// Puts the line for a refusal.
-fn put_refused(text: &mut [u8], number: u64) -> usize
-    requires { ⌜ (length (now text) ≡ lineBytes) × (number < 10 ^ mostDigits) ⌝ }
-    ensures { λ r. ⌜ Written (now (text .entry)) 0 (line (refused number)) r (now (text .exit)) ⌝ }
-{
-    let first = put(text, 0, b"refused");
-    let second = decimal::put_word(text, first, number as usize);
-    put(text, second, b"\n")
+    text::put(text, third, b"\n")
 }
 
 // Puts the line for what was found.
@@ -95,19 +67,9 @@ fn put_line(text: &mut [u8], found: Found, weights: &[u64]) -> usize
 {
     match found {
         Found::Separated => put_separated(text, weights),
-        Found::Nothing => put(text, 0, b"none\n"),
-        Found::Refused(number) => put_refused(text, number),
+        Found::Nothing => text::put(text, 0, b"none\n"),
+        Found::Refused(number) => text::put_refused(text, number),
     }
-}
-
-// Puts a text in front of a room that is long enough for it.
-fn deliver(text: &[u8], room: &mut [u8]) -> Printed
-    ensures { λ r. ⌜ record { answer = printedOf r; lent = now (room .exit) } ≡ delivered (now (text .entry)) (now (room .entry)) ⌝ }
-{
-    if room.len() < text.len() {
-        return Printed::Refused(number::refusal(Reason::Small));
-    }
-    Printed::Printed(put(room, 0, text))
 }
 
 // The line for a task file goes to the front of a room that is long enough for it. Any bytes are taken.
@@ -119,5 +81,5 @@ pub fn line(input: &[u8], room: &mut [u8]) -> Printed
     let found = seek(input, &mut workspace, &mut weights);
     let mut text = [0u8; LINE_BYTES];
     let end = put_line(&mut text, found, &weights);
-    deliver(&text[..end], room)
+    text::deliver(&text[..end], room)
 }

@@ -16,8 +16,9 @@ use Rattle.meaning.specs.Number.{Padded, Endless, Range, LeftOver}
 use Rattle.meaning.specs.Number.{got, fault, groups, number}
 use Rattle.meaning.specs.File.{item, judge, rising, ended, sizesOf, header, valuesOf, featuresOf, featureList, operatorsOf, taskOf, judgedTask}
 use Rattle.meaning.specs.Workspace.{has}
-use Rattle.meaning.specs.Answer.{fine, faulty, entriesJudged}
+use Rattle.meaning.specs.Answer.{done, refused, accepted, endsAlike, breaks, fine, faulty, entriesJudged}
 use Rattle.meaning.specs.Bay.{neighbours}
+use Rattle.meaning.specs.Line.{digits, word, refusedLine, verdictLine}
 
 -- States, value by value.
 pub state-none : State [] []
@@ -220,3 +221,25 @@ liftBoth = record { variable = 0; before = 0; after = 1 } ∷ record { variable 
 unclosed-afters : (unclosedPair pairOfTwo (listed (4 ∷ 7 ∷ [])) liftBoth 7 ≡ true) × (unclosedPair pairOfTwo (listed (4 ∷ 7 ∷ [])) liftBoth 4 ≡ false)
 unfolding unclosedPair joinsAfters joinsPossible possible paired both double pairStart atoms sumOf listed anyOf twoOf some names
 unclosed-afters = (refl, refl)
+
+-- The checker's lines, byte for byte: `accepted`.
+accepted-line : verdictLine (done accepted) ≡ 97 ∷ 99 ∷ 99 ∷ 101 ∷ 112 ∷ 116 ∷ 101 ∷ 100 ∷ 10 ∷ []
+unfolding verdictLine
+accepted-line = refl
+
+-- `rejected ends alike`.
+alike-line : verdictLine (done endsAlike)
+    ≡ 114 ∷ 101 ∷ 106 ∷ 101 ∷ 99 ∷ 116 ∷ 101 ∷ 100 ∷ 32 ∷ 101 ∷ 110 ∷ 100 ∷ 115 ∷ 32 ∷ 97 ∷ 108 ∷ 105 ∷ 107 ∷ 101 ∷ 10 ∷ []
+unfolding verdictLine
+alike-line = refl
+
+-- `rejected operator 16382`: the last operator of the longest list.
+operator-line : verdictLine (done (breaks 16382))
+    ≡ 114 ∷ 101 ∷ 106 ∷ 101 ∷ 99 ∷ 116 ∷ 101 ∷ 100 ∷ 32 ∷ 111 ∷ 112 ∷ 101 ∷ 114 ∷ 97 ∷ 116 ∷ 111 ∷ 114 ∷ 32 ∷ 49 ∷ 54 ∷ 51 ∷ 56 ∷ 50 ∷ 10 ∷ []
+unfolding verdictLine word digits
+operator-line = refl
+
+-- `refused 7`.
+refused-line : verdictLine (refused 7) ≡ 114 ∷ 101 ∷ 102 ∷ 117 ∷ 115 ∷ 101 ∷ 100 ∷ 32 ∷ 55 ∷ 10 ∷ []
+unfolding verdictLine refusedLine word digits
+refused-line = refl

@@ -54,3 +54,7 @@ mostInput = 8192
 
 abbrev pub mostProgramFeatures : ℕ
 mostProgramFeatures = 640
+
+-- The checker program: a task file of more bytes gives 8.
+abbrev pub mostTask : ℕ
+mostTask = 1048576

@@ -1,4 +1,4 @@
--- The finder as a program: what it says of a task file, and the line that it prints.
+-- The finder and the checker as programs: what they say of their files, and the lines that they print.
 use Prim.Native.Nat.{ℕ, zero, suc, _+_, _/_, _%_}
 use mathlib.Core.Path.{_≡_}
 use mathlib.Core.Bool.{Bool, false, _||_, cond}
@@ -6,13 +6,15 @@ use mathlib.Core.List.{List, [], _∷_, _++_}
 use lib.ListN.{length}
 use lib.Dec.{ltb}
 use Rattle.meaning.specs.Sets.{Set, listed}
-use Rattle.meaning.specs.Limits.{mostInput, mostProgramFeatures}
+use Rattle.meaning.specs.Limits.{mostInput, mostProgramFeatures, mostTask}
 use Rattle.meaning.specs.Task.{Task, Run}
 use Rattle.meaning.specs.Feature.{features}
 use Rattle.meaning.specs.Weight.{Separates, LeastOf}
 use Rattle.meaning.specs.Number.{Small, refusal, Read, got, fault}
 use Rattle.meaning.specs.File.{judgedTask}
-use Rattle.meaning.specs.Answer.{Answer, done, refused, byRead}
+use Rattle.meaning.specs.Answer.{Answer, done, refused, byRead, Verdict, accepted, endsAlike, breaks, Checks}
+
+-- ---- the finder's answer
 
 -- The least separating set as a list of features; or none.
 pub data Found : Type 0 where
@@ -40,6 +42,8 @@ abbrev pub Prints : List ℕ → Answer Found → Type 0
 Prints input answer =
     cond (ltb mostInput (length input) || tooLarge (judgedTask input)) (answer ≡ refused (refusal Small)) (Says input answer)
 
+-- ---- the parts of a line: "numbers are decimal; one blank between", and one line feed
+
 -- Five decimal digits hold every number of a file.
 abbrev pub mostDigits : ℕ
 mostDigits = 5
@@ -56,8 +60,30 @@ unfoldable pub wordsIn : List ℕ → List ℕ
 wordsIn [] = []
 wordsIn (n ∷ ns) = word n ++ wordsIn ns
 
+-- "`refused` and the number", of the finder and of the checker.
+unfoldable pub refusedLine : ℕ → List ℕ
+refusedLine n = (114 ∷ 101 ∷ 102 ∷ 117 ∷ 115 ∷ 101 ∷ 100 ∷ []) ++ (word n ++ (10 ∷ []))
+
+-- ---- the finder's line
+
 -- "It prints one line: `separated`, the count and the features, increasing; or `none`; or `refused` and the number."
 unfoldable pub line : Answer Found → List ℕ
 line (done (separating fs)) = (115 ∷ 101 ∷ 112 ∷ 97 ∷ 114 ∷ 97 ∷ 116 ∷ 101 ∷ 100 ∷ []) ++ (wordsIn (length fs ∷ fs) ++ (10 ∷ []))
 line (done nothing) = 110 ∷ 111 ∷ 110 ∷ 101 ∷ 10 ∷ []
-line (refused n) = (114 ∷ 101 ∷ 102 ∷ 117 ∷ 115 ∷ 101 ∷ 100 ∷ []) ++ (word n ++ (10 ∷ []))
+line (refused n) = refusedLine n
+
+-- ---- the checker's line
+
+-- The checker program's answer: a task file of more than 1,048,576 bytes gives 8 before anything is judged.
+abbrev pub ChecksFiles : List ℕ → List ℕ → Answer Verdict → Type 0
+ChecksFiles task weights answer =
+    cond (ltb mostTask (length task)) (answer ≡ refused (refusal Small)) (Checks task weights answer)
+
+-- `accepted`; or `rejected ends alike`; or `rejected operator` and its number; or `refused` and the number.
+unfoldable pub verdictLine : Answer Verdict → List ℕ
+verdictLine (done accepted) = 97 ∷ 99 ∷ 99 ∷ 101 ∷ 112 ∷ 116 ∷ 101 ∷ 100 ∷ 10 ∷ []
+verdictLine (done endsAlike) =
+    114 ∷ 101 ∷ 106 ∷ 101 ∷ 99 ∷ 116 ∷ 101 ∷ 100 ∷ 32 ∷ 101 ∷ 110 ∷ 100 ∷ 115 ∷ 32 ∷ 97 ∷ 108 ∷ 105 ∷ 107 ∷ 101 ∷ 10 ∷ []
+verdictLine (done (breaks j)) =
+    (114 ∷ 101 ∷ 106 ∷ 101 ∷ 99 ∷ 116 ∷ 101 ∷ 100 ∷ 32 ∷ 111 ∷ 112 ∷ 101 ∷ 114 ∷ 97 ∷ 116 ∷ 111 ∷ 114 ∷ []) ++ (word j ++ (10 ∷ []))
+verdictLine (refused n) = refusedLine n

@@ -29,13 +29,13 @@ fn guarded<Kind: Item>(
     (Outcome { number, memory }, lent.guards_stand())
 }
 
-/// The line's first word, with the number where it is refused.
+/// The line's first word, with the next where it is refused or rejected.
 fn line_answer(outcome: &Outcome<u8>) -> String {
     if outcome.number >> 32 != 0 {
         return answer(outcome.number);
     }
     let line = String::from_utf8_lossy(&outcome.memory[..outcome.number as usize]);
-    let words = if line.starts_with("refused") { 2 } else { 1 };
+    let words = if line.starts_with("re") { 2 } else { 1 };
     let first: Vec<&str> = line.split_whitespace().take(words).collect();
     format!("line {}", first.join(" "))
 }
@@ -163,6 +163,28 @@ impl Both<'_> {
         let kept = guards && input.still_holds(words);
         let inputs = || vec![("words", shown(words)), ("room", shown(room))];
         self.judge("weight_file", &inputs, &expected, &found, kept);
+        expected
+    }
+
+    pub fn check_line(&mut self, task: &[u8], weights: &[u8], room: &[u8]) -> Outcome<u8> {
+        let expected = Outcome::of(room, |room| calls::check_line(task, weights, room));
+        let lent = (Lent::new(task), Lent::new(weights));
+        let (found, guards) = guarded(room, |room| library::check_line(&lent.0, &lent.1, room));
+        let inputs = || {
+            vec![
+                ("task", shown(task)),
+                ("weights", shown(weights)),
+                ("room", shown(room)),
+            ]
+        };
+        let comparison = Comparison {
+            kind: "check_line",
+            answer: line_answer(&expected),
+            source: &self.source,
+            inputs: &inputs,
+            outside_kept: guards && lent.0.still_holds(task) && lent.1.still_holds(weights),
+        };
+        self.tally.judge(&comparison, &expected, &found);
         expected
     }
 

@@ -59,6 +59,14 @@ extern "C" {
         room: *mut u8,
         room_length: usize,
     ) -> u64;
+    fn florumeja_check_line(
+        task: *const u8,
+        task_length: usize,
+        weights: *const u8,
+        weights_length: usize,
+        room: *mut u8,
+        room_length: usize,
+    ) -> u64;
 }
 
 pub fn check(task: &Lent<u8>, weights: &Lent<u8>) -> u64 {
@@ -174,6 +182,20 @@ pub fn weight_file(words: &Lent<u64>, room: &mut Lent<u8>) -> u64 {
         florumeja_weight_file(
             words.pointer(),
             words.length(),
+            room.pointer_for_writing(),
+            room.length(),
+        )
+    }
+}
+
+pub fn check_line(task: &Lent<u8>, weights: &Lent<u8>, room: &mut Lent<u8>) -> u64 {
+    // SAFETY: all slices are alive and apart; only the room is lent for writing.
+    unsafe {
+        florumeja_check_line(
+            task.pointer(),
+            task.length(),
+            weights.pointer(),
+            weights.length(),
             room.pointer_for_writing(),
             room.length(),
         )

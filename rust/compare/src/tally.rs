@@ -5,7 +5,7 @@ use std::collections::BTreeMap;
 use std::fmt::Write;
 
 /// The kinds of comparison, in the order of the report.
-pub const KINDS: [&str; 10] = [
+pub const KINDS: [&str; 11] = [
     "check",
     "open",
     "find",
@@ -15,6 +15,7 @@ pub const KINDS: [&str; 10] = [
     "build",
     "line",
     "weight_file",
+    "check_line",
     "fresh",
 ];
 

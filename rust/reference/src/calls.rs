@@ -2,11 +2,11 @@
 
 use crate::bay::read_bay;
 use crate::feature_set::{words_for, FeatureSet};
-use crate::line::line as finder_line;
+use crate::line::{check_line as checker_line, line as finder_line};
 use crate::refusal::Refusal;
-use crate::separation::{verdict, Verdict};
+use crate::separation::{judged, Verdict};
 use crate::task::{read_task, MOST_FEATURES};
-use crate::weights::{read_weights, weight_file as file_of};
+use crate::weights::weight_file as file_of;
 use crate::workspace::{Record, Workspace};
 
 /// One step between the cases of a result.
@@ -47,9 +47,7 @@ pub fn check(task: &[u8], weights: &[u8]) -> u64 {
 }
 
 fn try_check(task: &[u8], weights: &[u8]) -> Result<u64, Refusal> {
-    let task = read_task(task)?;
-    let weights = read_weights(weights, task.pairing().features.count())?;
-    Ok(match verdict(&task, &weights) {
+    Ok(match judged(task, weights)? {
         Verdict::Accepted => done(0),
         Verdict::EndsAlike => denied(),
         Verdict::Operator(place) => broken(place),
@@ -126,7 +124,15 @@ fn try_build(bay: &[u8], room: &mut [u8]) -> Result<u64, Refusal> {
 }
 
 pub fn line(input: &[u8], room: &mut [u8]) -> u64 {
-    let text = finder_line(input);
+    deliver(&finder_line(input), room)
+}
+
+pub fn check_line(task: &[u8], weights: &[u8], room: &mut [u8]) -> u64 {
+    deliver(&checker_line(task, weights), room)
+}
+
+/// Puts a line into lent room.
+fn deliver(text: &str, room: &mut [u8]) -> u64 {
     settle(fill(room, text.as_bytes()).map(|()| done(text.len())))
 }
 

@@ -1,8 +1,9 @@
-//! The finder program's line.
+//! The lines of the finder and of the checker.
 
 use crate::feature_set::FeatureSet;
 use crate::features::count_features;
 use crate::refusal::Refusal;
+use crate::separation::{judged, Verdict};
 use crate::task::read_task;
 use crate::weights::weight_numbers;
 use crate::workspace::Workspace;
@@ -22,7 +23,12 @@ fn answer(input: &[u8]) -> Result<Option<FeatureSet>, Refusal> {
     Ok(Workspace::of(&task).find())
 }
 
-/// The line with its line feed.
+/// The line of a refusal, in both programs.
+fn refused(refusal: Refusal) -> String {
+    format!("refused {}\n", refusal.number())
+}
+
+/// The finder's line with its line feed.
 pub fn line(input: &[u8]) -> String {
     match answer(input) {
         Ok(Some(weights)) => {
@@ -31,6 +37,16 @@ pub fn line(input: &[u8]) -> String {
             format!("separated {}\n", words.join(" "))
         }
         Ok(None) => "none\n".to_string(),
-        Err(refusal) => format!("refused {}\n", refusal.number()),
+        Err(refusal) => refused(refusal),
+    }
+}
+
+/// The checker's line with its line feed.
+pub fn check_line(task: &[u8], weights: &[u8]) -> String {
+    match judged(task, weights) {
+        Ok(Verdict::Accepted) => "accepted\n".to_string(),
+        Ok(Verdict::EndsAlike) => "rejected ends alike\n".to_string(),
+        Ok(Verdict::Operator(place)) => format!("rejected operator {place}\n"),
+        Err(refusal) => refused(refusal),
     }
 }

@@ -5,7 +5,9 @@ use crate::features::Features;
 use crate::operators::{
     changes_from, combined_states, deviating_states, few_states, Operator, Pairing,
 };
-use crate::task::Task;
+use crate::refusal::Refusal;
+use crate::task::{read_task, Task};
+use crate::weights::read_weights;
 
 /// The checker's answer for an accepted task and weight file.
 #[derive(Clone, Copy, Debug, PartialEq, Eq)]
@@ -68,4 +70,11 @@ pub fn verdict(task: &Task, weights: &FeatureSet) -> Verdict {
 
 pub fn separates(task: &Task, weights: &FeatureSet) -> bool {
     verdict(task, weights) == Verdict::Accepted
+}
+
+/// The verdict on two files: the weights are read after a fully accepted task.
+pub fn judged(task: &[u8], weights: &[u8]) -> Result<Verdict, Refusal> {
+    let task = read_task(task)?;
+    let weights = read_weights(weights, task.pairing().features.count())?;
+    Ok(verdict(&task, &weights))
 }

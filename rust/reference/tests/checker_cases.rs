@@ -1,6 +1,7 @@
 //! The hand-written cases of the program `cases`: the reference answers each as its line says.
 
 use reference::calls;
+use reference::line::check_line;
 
 const CASES: &str = include_str!("../../../crates/cases/cases.txt");
 
@@ -31,8 +32,10 @@ fn every_case_is_answered_as_written() {
     let mut count = 0;
     for line in CASES.lines().filter(|line| !line.starts_with('#')) {
         let parts: Vec<&str> = line.split('|').collect();
-        let answer = words(calls::check(&bytes(parts[0]), &bytes(parts[1])));
+        let (task, weights) = (bytes(parts[0]), bytes(parts[1]));
+        let answer = words(calls::check(&task, &weights));
         assert_eq!(answer, parts[2].trim(), "{}", parts[3].trim());
+        assert_eq!(check_line(&task, &weights), answer + "\n");
         count += 1;
     }
     assert!(count > 60, "the table of cases was not read");

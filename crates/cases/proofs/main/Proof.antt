@@ -45,32 +45,29 @@ returns c = search needs
 file-end-requires-2 : tie.Need-file-end-requires-2 Inv-loop μ-loop
 file-end-requires-2 c κs = search needs
 
-add-check : tie.Need-add-check Inv-loop μ-loop
-add-check c = search needs
+add-print : tie.Need-add-print Inv-loop μ-loop
+add-print c = search needs
 
-sub-check : tie.Need-sub-check Inv-loop μ-loop
-sub-check c = search needs
+sub-print : tie.Need-sub-print Inv-loop μ-loop
+sub-print c = search needs
 
-part-check-start : tie.Need-part-check-start Inv-loop μ-loop
-part-check-start c = search needs
+part-print-start : tie.Need-part-print-start Inv-loop μ-loop
+part-print-start c = search needs
 
-part-check-end : tie.Need-part-check-end Inv-loop μ-loop
-part-check-end c = search needs
+part-print-end : tie.Need-part-print-end Inv-loop μ-loop
+part-print-end c = search needs
 
-add-check-2 : tie.Need-add-check-2 Inv-loop μ-loop
-add-check-2 c = search needs
+add-print-2 : tie.Need-add-print-2 Inv-loop μ-loop
+add-print-2 c = search needs
 
-sub-check-2 : tie.Need-sub-check-2 Inv-loop μ-loop
-sub-check-2 c = search needs
+sub-print-2 : tie.Need-sub-print-2 Inv-loop μ-loop
+sub-print-2 c = search needs
 
-part-check-start-2 : tie.Need-part-check-start-2 Inv-loop μ-loop
-part-check-start-2 c = search needs
+part-print-start-2 : tie.Need-part-print-start-2 Inv-loop μ-loop
+part-print-start-2 c = search needs
 
-part-check-end-2 : tie.Need-part-check-end-2 Inv-loop μ-loop
-part-check-end-2 c = search needs
-
-check-requires : tie.Need-check-requires Inv-loop μ-loop
-check-requires c κs = search needs
+part-print-end-2 : tie.Need-part-print-end-2 Inv-loop μ-loop
+part-print-end-2 c = search needs
 
 print-requires : tie.Need-print-requires Inv-loop μ-loop
 print-requires c κs = search needs
@@ -101,15 +98,14 @@ main-spec =
     add-if1
     returns
     file-end-requires-2
-    add-check
-    sub-check
-    part-check-start
-    part-check-end
-    add-check-2
-    sub-check-2
-    part-check-start-2
-    part-check-end-2
-    check-requires
+    add-print
+    sub-print
+    part-print-start
+    part-print-end
+    add-print-2
+    sub-print-2
+    part-print-start-2
+    part-print-end-2
     print-requires
     loop-less
     loop-again

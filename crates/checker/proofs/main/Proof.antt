@@ -19,7 +19,7 @@ returns : tie.Need-returns
 returns c = search needs
 
 slice-aggregate-check : tie.Need-slice-aggregate-check
-slice-aggregate-check c = sym (length-replicate {A = ℕ} 4194304 0)
+slice-aggregate-check c = sym (length-replicate {A = ℕ} 1048577 0)
 
 slice-aggregate-check-2 : tie.Need-slice-aggregate-check-2
 slice-aggregate-check-2 c = search needs

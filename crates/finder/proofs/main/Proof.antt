@@ -16,7 +16,7 @@ ends c =
     let printed = c .before .before .before .line in
     let room = replicate {A = ℕ} lineBytes 0 in
     let long : lineBytes ≤ length room = omega (arith, length-replicate {A = ℕ} lineBytes 0) in
-    line-ends (take (read .result) (read .last .1 .0)) room _ (printed .result) _ long (printed .ensures) (c .end .given .1)
+    line-ends (take (read .result) (read .last .1 .0)) room long _ (printed .result) _ (printed .ensures) (c .end .given .1)
 
 slice-aggregate-read-full : tie.Need-slice-aggregate-read-full
 slice-aggregate-read-full c = search needs

@@ -1,5 +1,5 @@
 -- `florumeja_line`: the value fits, so that the number says the answer.
-use Rattle.line.specs.Answer.{printedOf}
+use Rattle.text.specs.Answer.{printedOf}
 use Rattle.florumeja.specs.Fits.{lines-fit}
 use borrow.Author.Needs.{needs}
 use Rattle.florumeja.proofs.florumeja_line.Statement.{statement}

@@ -1,7 +1,7 @@
 -- `printed_number`: each case has the number that the table gives it.
 use mathlib.Core.Path.{ap, sym, _∙_, subst}
 use native.Mathlib.Omega.{arith}
-use Rattle.line.specs.Answer.{printedOf}
+use Rattle.text.specs.Answer.{printedOf}
 use Rattle.florumeja.specs.Code.{numberOf, answerCode, lengthCode}
 use Rattle.florumeja.specs.Fits.{Fits}
 use borrow.Author.Needs.{needs}

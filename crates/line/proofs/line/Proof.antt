@@ -4,7 +4,7 @@ use native.Mathlib.Omega.{arith}
 use lib.Seq.{length-take-le}
 use Rattle.meaning.specs.Answer.{delivered}
 use Rattle.line.specs.Fits.{prints-short}
-use Rattle.line.specs.Text.{written-front, written-within}
+use Rattle.text.specs.Parts.{written-front, written-within}
 use borrow.Author.Needs.{needs}
 use Rattle.line.proofs.line.Statement.{statement}
 use Rattle.line.proofs.line.Tie as tie

@@ -45,6 +45,7 @@ same-length-3 : tie.Need-same-length-3
 same-length-3 c = search needs
 
 returns-3 : tie.Need-returns-3
+unfolding line
 returns-3 c = rw (c .before .before .before .before .before .found .given .1) (c .before .before .put-refused .ensures)
 
 pub put-line-spec : {M : Type 1} → statement M

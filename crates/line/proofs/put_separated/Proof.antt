@@ -6,7 +6,8 @@ use Rattle.meaning.specs.Limits.{wordBits}
 use Rattle.meaning.specs.Workspace.{has}
 use Rattle.words.specs.Members.{members-few}
 use Rattle.decimal.specs.Members.{words-members-few}
-use Rattle.line.specs.Text.{word-ends, separated-written}
+use Rattle.text.specs.Parts.{word-ends}
+use Rattle.line.specs.Text.{separated-written}
 use borrow.Author.Needs.{needs}
 use Rattle.line.proofs.put_separated.Statement.{statement}
 use Rattle.line.proofs.put_separated.Tie as tie

@@ -50,6 +50,10 @@ pub enum Fault {
     RoomBeforeLabels,
     /// The line has no line feed.
     NoLineFeed,
+    /// The checker's line counts operators from 1.
+    OperatorsFromOne,
+    /// The checker's line has a comma behind its first word.
+    CommaInLine,
     /// The program's limit of features is judged before the pairs.
     FeaturesBeforePairs,
     /// One byte more than the program's limit is let pass.
@@ -84,7 +88,7 @@ pub enum Fault {
 
 use Fault::*;
 
-pub const FAULTS: [Fault; 37] = [
+pub const FAULTS: [Fault; 39] = [
     AcceptsAlike,
     CountsLiveOperators,
     LastOperator,
@@ -107,6 +111,8 @@ pub const FAULTS: [Fault; 37] = [
     NeighboursAcrossRows,
     RoomBeforeLabels,
     NoLineFeed,
+    OperatorsFromOne,
+    CommaInLine,
     FeaturesBeforePairs,
     OneByteMore,
     UnusedBitsPass,

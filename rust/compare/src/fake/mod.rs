@@ -13,7 +13,7 @@ use faults::{planted, Fault::*};
 use files::{check, open};
 use reference::workspace::Record;
 use words::{add_operator, find, replace_goal, replace_start};
-use written::{build, print, weight_file};
+use written::{build, print, print_check, weight_file};
 
 /// Refused 8.
 const NO_ROOM: u64 = (3 << 32) + 8;
@@ -154,6 +154,22 @@ unsafe extern "C" fn florumeja_weight_file(
 ) -> u64 {
     weight_file(
         lent(words, words_length),
+        lent_for_writing(room, room_length),
+    )
+}
+
+#[no_mangle]
+unsafe extern "C" fn florumeja_check_line(
+    task: *const u8,
+    task_length: usize,
+    weights: *const u8,
+    weights_length: usize,
+    room: *mut u8,
+    room_length: usize,
+) -> u64 {
+    print_check(
+        lent(task, task_length),
+        lent(weights, weights_length),
         lent_for_writing(room, room_length),
     )
 }

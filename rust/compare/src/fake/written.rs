@@ -1,4 +1,4 @@
-//! The bay builder, the program's line and weight files with faults.
+//! The bay builder, the lines and weight files with faults.
 
 use super::faults::{planted, Fault::*};
 use super::NO_ROOM;
@@ -57,8 +57,29 @@ fn faulty_line(input: &[u8]) -> String {
     text
 }
 
+fn faulty_check_line(task: &[u8], weights: &[u8]) -> String {
+    let text = line::check_line(task, weights);
+    if planted(CommaInLine) {
+        return text.replacen("rejected ", "rejected, ", 1);
+    }
+    match text.trim_end().strip_prefix("rejected operator ") {
+        Some(place) if planted(OperatorsFromOne) => {
+            let place: usize = place.parse().expect("a number");
+            format!("rejected operator {}\n", place + 1)
+        }
+        _ => text,
+    }
+}
+
 pub fn print(input: &[u8], room: &mut [u8]) -> u64 {
-    let text = faulty_line(input);
+    deliver(&faulty_line(input), room)
+}
+
+pub fn print_check(task: &[u8], weights: &[u8], room: &mut [u8]) -> u64 {
+    deliver(&faulty_check_line(task, weights), room)
+}
+
+fn deliver(text: &str, room: &mut [u8]) -> u64 {
     if room.len() < text.len() {
         return NO_ROOM;
     }

@@ -1,6 +1,6 @@
 //! Task and weight files: the checker and openings.
 
-use super::{ample_room, room, some_sizes, task};
+use super::{ample_room, check_line, room, some_sizes, task};
 use crate::both::Both;
 use reference::calls;
 use reference::feature_set::{words_for, FeatureSet};
@@ -66,6 +66,7 @@ pub fn weights(both: &mut Both, generator: &mut Generator) {
         }
     }
     both.check(&task.file(), &weight_file(&weights));
+    check_line(both, generator, &task.file(), &weight_file(&weights));
 }
 
 /// Weight files with faults, sometimes next to a faulty task file.
@@ -84,8 +85,10 @@ pub fn damaged_weights(both: &mut Both, generator: &mut Generator) {
     if generator.once_in(8) {
         let task = damaged_file(generator, &task.numbers());
         both.check(&task, &file);
+        check_line(both, generator, &task, &file);
     } else {
         both.check(&task.file(), &file);
+        check_line(both, generator, &task.file(), &file);
     }
 }
 

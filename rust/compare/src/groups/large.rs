@@ -1,7 +1,7 @@
 //! Many operators, many variables, tasks up to the limit of features, bays of nine slots.
 
 use super::bays::whole_way;
-use super::{ample_room, room};
+use super::{ample_room, check_line, room};
 use crate::both::Both;
 use reference::feature_set::words_for;
 use reference::features::count_features;
@@ -35,6 +35,7 @@ pub fn many_operators(both: &mut Both, generator: &mut Generator) {
     }
     let file = task.file();
     both.check(&file, &weight_file(&weights));
+    check_line(both, generator, &file, &weight_file(&weights));
     let room = ample_room(generator, words_due(&task.sizes));
     both.open(&file, &room);
     let room = generator.bytes(100);

@@ -9,6 +9,7 @@ mod sets;
 mod words;
 
 use crate::both::Both;
+use reference::line;
 use reference::sample::tasks::{Scale, MEDIUM, SMALL, TINY, WORD_EDGES};
 use reference::sample::{tasks, Generator};
 use reference::task::Task;
@@ -181,4 +182,11 @@ fn ample_room(generator: &mut Generator, due: usize) -> Vec<u64> {
 fn byte_room(generator: &mut Generator, due: usize) -> Vec<u8> {
     let length = room_length(generator, due);
     generator.bytes(length)
+}
+
+/// The checker's line in all kinds of room.
+fn check_line(both: &mut Both, generator: &mut Generator, task: &[u8], weights: &[u8]) {
+    let due = line::check_line(task, weights).len();
+    let room = byte_room(generator, due);
+    both.check_line(task, weights, &room);
 }

@@ -1,12 +1,9 @@
--- `put_refused`: three parts one behind the other.
+-- `put_numbered`: three parts one behind the other.
 use native.Mathlib.Omega.{arith}
-use Rattle.line.specs.Text.{word-ends, refused-written}
+use Rattle.text.specs.Parts.{word-ends, numbered-written}
 use borrow.Author.Needs.{needs}
-use Rattle.line.proofs.put_refused.Statement.{statement}
-use Rattle.line.proofs.put_refused.Tie as tie
-
-slice-aggregate-put : tie.Need-slice-aggregate-put
-slice-aggregate-put c = search needs
+use Rattle.text.proofs.put_numbered.Statement.{statement}
+use Rattle.text.proofs.put_numbered.Tie as tie
 
 put-requires : tie.Need-put-requires
 put-requires c κs = search needs
@@ -14,8 +11,8 @@ put-requires c κs = search needs
 put-word-requires : tie.Need-put-word-requires
 put-word-requires c κs = search needs
 
-slice-aggregate-put-2 : tie.Need-slice-aggregate-put-2
-slice-aggregate-put-2 c = search needs
+slice-aggregate-put : tie.Need-slice-aggregate-put
+slice-aggregate-put c = search needs
 
 put-requires-2 : tie.Need-put-requires-2
 put-requires-2 c κs =
@@ -30,16 +27,15 @@ returns c =
     let number = c .before .before .before .before .before .before .before .before .before .before .before .before .before .before .before .args .number in
     let first = c .before .before .before .before .before .before .before .before .before .before .before .put .ensures in
     let word = c .before .before .before .before .before .before .before .put-word .ensures in
-    refused-written number (omega (arith, first .place)) first (record { place = word .0; stands = word .1 }) (c .before .before .put2 .ensures)
+    numbered-written _ number (omega (arith, first .place)) first (record { place = word .0; stands = word .1 }) (c .before .before .put2 .ensures)
 
-pub put-refused-spec : {M : Type 1} → statement M
-put-refused-spec =
+pub put-numbered-spec : {M : Type 1} → statement M
+put-numbered-spec =
     tie.close
     (tie.spec
-    slice-aggregate-put
     put-requires
     put-word-requires
-    slice-aggregate-put-2
+    slice-aggregate-put
     put-requires-2
     same-length
     returns)

@@ -3,8 +3,8 @@ use mathlib.Core.Path.{sym, ap, _∙_}
 use Rattle.meaning.specs.Answer.{refused}
 use Rattle.writer.specs.Remains.{delivered-small, delivered-done}
 use borrow.Author.Needs.{needs}
-use Rattle.line.proofs.deliver.Statement.{statement}
-use Rattle.line.proofs.deliver.Tie as tie
+use Rattle.text.proofs.deliver.Statement.{statement}
+use Rattle.text.proofs.deliver.Tie as tie
 
 refusal-requires : tie.Need-refusal-requires
 refusal-requires c κs = search needs

@@ -4,9 +4,9 @@ use mathlib.Core.Path.{_≡_, refl}
 use native.Mathlib.Omega.{arith}
 use lib.ListN.{length, length-set}
 use lib.Seq.{paste, paste-zero}
-use Rattle.line.specs.Text.{copied-next, copied-all}
-use Rattle.line.proofs.put.Statement.{statement}
-use Rattle.line.proofs.put.Tie as tie
+use Rattle.text.specs.Parts.{copied-next, copied-all}
+use Rattle.text.proofs.put.Statement.{statement}
+use Rattle.text.proofs.put.Tie as tie
 
 abbrev Inv-loop : tie.InvT-loop
 Inv-loop text₀ at bytes i₀ text i = (i ≤ length bytes) × (length text ≡ length text₀) × (text ≡ paste text₀ at bytes i)

@@ -1,0 +1,75 @@
+-- Bytes copied into a text, the parts of a line one behind the other, and how long a refusal's line is.
+use Prim.Native.Nat.{ℕ, _+_, _^_, _<_, _≤_}
+use mathlib.Core.Path.{_≡_, sym, ap, _∙_}
+use mathlib.Core.List.{List, [], _∷_, _++_, append-assoc}
+use native.Mathlib.Omega.{arith}
+use native.Mathlib.Numerals.{add-one}
+use lib.ListN.{length, getD, set, take, drop, length-append}
+use lib.Seq.{paste, paste-suc, take-all, take-at}
+use Rattle.meaning.specs.Number.{Reason, Ends, Padded, Endless, Limit, Range, Unordered, LeftOver, Held, Unclosed}
+use Rattle.meaning.specs.Number.{Small, Malformed, Mislabelled, refusal}
+use Rattle.meaning.specs.Line.{mostDigits, word, refusedLine}
+use Rattle.decimal.specs.Decimal.{wordWidth, word-few}
+use Rattle.decimal.specs.Written.{Written, written-behind}
+
+-- ---- bytes copied
+
+module _ (text₀ : List ℕ) (at : ℕ) (bytes : List ℕ) (i : ℕ) (text : List ℕ) (so-far : text ≡ paste text₀ at bytes i) where
+  pub copied-next : at + length bytes ≤ length text₀ → i < length bytes → set text (at + i) (getD bytes i 0) ≡ paste text₀ at bytes (i + 1)
+  copied-next fits more =
+      ap (λ l. set l (at + i) (getD bytes i 0)) so-far
+      ∙ paste-suc text₀ at bytes i 0 (omega arith) more
+      ∙ ap (paste text₀ at bytes) (sym (add-one i))
+
+  pub copied-all : i ≡ length bytes → Written text₀ at bytes (at + i) text
+  copied-all all = record {
+    place = omega arith;
+    stands = so-far ∙ append-assoc (take at text₀) (take i bytes) (drop (at + i) text₀)
+        ∙ ap (λ l. take at text₀ ++ (l ++ drop (at + i) text₀)) (take-all i bytes (omega arith));
+  }
+
+-- ---- the parts of a line
+
+-- A text written from the front on is the front.
+pub written-front : (entry part exit : List ℕ) (after : ℕ) → Written entry 0 part after exit → take after exit ≡ part
+written-front entry part exit after w = ap (take after) (w .stands) ∙ take-at part (drop after entry) after (omega (arith, w .place))
+
+pub written-within : (entry part exit : List ℕ) (after : ℕ) → Written entry 0 part after exit → after ≤ length exit
+written-within entry part exit after w = omega (arith, w .place, ap length (w .stands), length-append part (drop after entry))
+
+-- A word has few bytes.
+pub word-ends : (at n after : ℕ) → after ≡ at + length (word n) → after ≤ at + wordWidth
+word-ends at n after e = omega (arith, word-few n)
+
+-- A line of some bytes, one number and the line's end.
+pub numbered-written : (bytes : List ℕ) (number : ℕ) {text line₁ line₂ line₃ : List ℕ} {first second end : ℕ} → first ≤ length line₁
+    → Written text 0 bytes first line₁
+    → Written line₁ first (word number) second line₂
+    → Written line₂ second (10 ∷ []) end line₃
+    → Written text 0 (bytes ++ (word number ++ (10 ∷ []))) end line₃
+numbered-written bytes number h a b c = written-behind (omega arith) a (written-behind h b c)
+
+-- ---- a refusal's line
+
+-- `refused`, a number and the line's end.
+abbrev pub refusedBytes : ℕ
+refusedBytes = 7 + wordWidth + 1
+
+pub refused-few : (number : ℕ) → length (refusedLine number) ≤ refusedBytes
+unfolding refusedLine
+refused-few number = omega (arith, length-append (word number) (10 ∷ []), word-few number)
+
+-- A refusal's number has few enough digits for a line.
+pub refusal-short : (reason : Reason) → refusal reason < 10 ^ mostDigits
+refusal-short Ends = omega arith
+refusal-short Padded = omega arith
+refusal-short Endless = omega arith
+refusal-short Limit = omega arith
+refusal-short Range = omega arith
+refusal-short Unordered = omega arith
+refusal-short LeftOver = omega arith
+refusal-short Held = omega arith
+refusal-short Unclosed = omega arith
+refusal-short Small = omega arith
+refusal-short Malformed = omega arith
+refusal-short Mislabelled = omega arith

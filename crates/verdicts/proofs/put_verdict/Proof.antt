@@ -1,0 +1,73 @@
+-- `put_verdict`: each verdict has its line.
+use mathlib.Core.Path.{subst}
+use native.Mathlib.Omega.{arith}
+use Rattle.meaning.specs.Line.{verdictLine}
+use Rattle.checking.specs.Answer.{verdictOf}
+use Rattle.verdicts.specs.Fits.{Short}
+use borrow.Author.Needs.{needs}
+use Rattle.verdicts.proofs.put_verdict.Statement.{statement}
+use Rattle.verdicts.proofs.put_verdict.Tie as tie
+
+enum-told : tie.Need-enum-told
+enum-told c = search needs
+
+slice-aggregate-put : tie.Need-slice-aggregate-put
+slice-aggregate-put c = search needs
+
+put-requires : tie.Need-put-requires
+put-requires c κs = search needs
+
+enum-told-2 : tie.Need-enum-told-2
+enum-told-2 c = search needs
+
+slice-aggregate-put-2 : tie.Need-slice-aggregate-put-2
+slice-aggregate-put-2 c = search needs
+
+put-requires-2 : tie.Need-put-requires-2
+put-requires-2 c κs = search needs
+
+enum-known-verdict : tie.Need-enum-known-verdict
+enum-known-verdict c = search needs
+
+slice-aggregate-put-numbered : tie.Need-slice-aggregate-put-numbered
+slice-aggregate-put-numbered c = search needs
+
+put-numbered-requires : tie.Need-put-numbered-requires
+put-numbered-requires c κs = (omega arith, subst (λ v. Short (verdictOf v)) (c .before .before .before .verdict .given .1) (c .before .before .before .before .before .before .pre .1))
+
+enum-known-verdict-2 : tie.Need-enum-known-verdict-2
+enum-known-verdict-2 c = search needs
+
+put-refused-requires : tie.Need-put-refused-requires
+put-refused-requires c κs = (omega arith, subst (λ v. Short (verdictOf v)) (c .before .before .verdict2 .given .1) (c .before .before .before .before .before .pre .1))
+
+same-length : tie.Need-same-length
+same-length c = search needs
+
+returns : tie.Need-returns
+unfolding verdictLine
+returns c = rw (c .before .before .before .before .before .enum-told .given .1) (c .before .before .put .ensures)
+
+same-length-2 : tie.Need-same-length-2
+same-length-2 c = search needs
+
+returns-2 : tie.Need-returns-2
+unfolding verdictLine
+returns-2 c = rw (c .before .before .before .before .before .enum-told2 .given .1) (c .before .before .put2 .ensures)
+
+same-length-3 : tie.Need-same-length-3
+same-length-3 c = search needs
+
+returns-3 : tie.Need-returns-3
+unfolding verdictLine
+returns-3 c = rw (c .before .before .before .before .before .before .verdict .given .1) (c .before .before .put-numbered .ensures)
+
+same-length-4 : tie.Need-same-length-4
+same-length-4 c = search needs
+
+returns-4 : tie.Need-returns-4
+unfolding verdictLine
+returns-4 c = rw (c .before .before .before .before .before .verdict2 .given .1) (c .before .before .put-refused .ensures)
+
+pub put-verdict-spec : {M : Type 1} → statement M
+put-verdict-spec = tie.close (tie.spec enum-told slice-aggregate-put put-requires enum-told-2 slice-aggregate-put-2 put-requires-2 enum-known-verdict slice-aggregate-put-numbered put-numbered-requires enum-known-verdict-2 put-refused-requires same-length returns same-length-2 returns-2 same-length-3 returns-3 same-length-4 returns-4)

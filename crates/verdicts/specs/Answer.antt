@@ -1,0 +1,27 @@
+-- What the calls answer in the words of the meaning, and that each has one outcome.
+use Prim.Native.Nat.{ℕ}
+use mathlib.Core.List.{List}
+use lib.Dec.{ltb}
+use lib.ListN.{length}
+use Rattle.meaning.specs.Limits.{mostTask}
+use Rattle.meaning.specs.Number.{Small, refusal}
+use Rattle.meaning.specs.Answer.{refused, Outcome, Checks}
+use Rattle.meaning.specs.Line.{ChecksFiles, verdictLine}
+use Rattle.theory.specs.Determined.{AtMostOne, is-only, if-only, checks-only}
+use Rattle.text.specs.Answer.{LineOf, line-of-only}
+
+-- The line of the checker's answer goes to the front of the room; 8 where the room is too short for it.
+abbrev pub VerdictLines : List ℕ → List ℕ → List ℕ → Outcome ℕ → Type 0
+VerdictLines task weights = LineOf (Checks task weights) verdictLine
+
+pub verdict-lines-only : (task weights room : List ℕ) → AtMostOne (VerdictLines task weights room)
+verdict-lines-only task weights room = line-of-only (Checks task weights) verdictLine room (checks-only task weights)
+
+-- The same for the program's answer.
+abbrev pub FileLines : List ℕ → List ℕ → List ℕ → Outcome ℕ → Type 0
+FileLines task weights = LineOf (ChecksFiles task weights) verdictLine
+
+pub file-lines-only : (task weights room : List ℕ) → AtMostOne (FileLines task weights room)
+file-lines-only task weights room =
+    line-of-only (ChecksFiles task weights) verdictLine room
+    (if-only (ltb mostTask (length task)) _ _ (is-only (refused (refusal Small))) (checks-only task weights))

@@ -1,0 +1,83 @@
+-- The numbers of the checker's answers are short, and every line of it fits into so many bytes.
+use Prim.Native.Nat.{ℕ, _+_, _^_, _<_, _≤_}
+use mathlib.Core.Path.{_≡_}
+use mathlib.Core.List.{List, [], _∷_}
+use native.Mathlib.Omega.{arith}
+use lib.Dec.{ltb}
+use lib.ListN.{length, length-append}
+use Rattle.meaning.specs.Limits.{numberEnd, mostTask}
+use Rattle.meaning.specs.Sets.{Set, listed}
+use Rattle.meaning.specs.Task.{Task}
+use Rattle.meaning.specs.Feature.{features}
+use Rattle.meaning.specs.Number.{Reason, Small, refusal}
+use Rattle.meaning.specs.File.{judgedTask, judgedWeights}
+use Rattle.meaning.specs.Answer.{Answer, done, refused, Outcome, writes, Verdict, accepted, endsAlike, breaks, Judges, Checks}
+use Rattle.meaning.specs.Line.{mostDigits, word, ChecksFiles, verdictLine}
+use Rattle.theory.specs.Accepted as theory
+use Rattle.decimal.specs.Decimal.{wordWidth, word-few}
+use Rattle.text.specs.Allowed.{is-good, if-good, read-good}
+use Rattle.text.specs.Answer.{printedOf, line-of-written, line-of-ends}
+use Rattle.text.specs.Parts.{refused-few, refusal-short}
+use Rattle.text.specs.declared.Printed.{Printed}
+use Rattle.text.specs.declared.Printed.the-variants as printed
+use Rattle.verdicts.specs.Answer.{VerdictLines, FileLines}
+
+-- ---- numbers
+
+-- The number of an answer, if it has one, has few enough digits for a line.
+abbrev pub Short : Answer Verdict → Type 0
+Short (done accepted) = Unit {0}
+Short (done endsAlike) = Unit {0}
+Short (done (breaks j)) = j < 10 ^ mostDigits
+Short (refused number) = number < 10 ^ mostDigits
+
+-- An operator's number is below what a file can count.
+verdict-short : (T : Task) (weights : Set) (v : Verdict) → length (T .operators) < numberEnd → Judges T weights v → Short (done v)
+verdict-short T weights accepted few h = tt
+verdict-short T weights endsAlike few h = tt
+verdict-short T weights (breaks j) few h = omega (arith, h .counted)
+
+pub checks-short : (task weights : List ℕ) (answer : Answer Verdict) → Checks task weights answer → Short answer
+checks-short task weights =
+    let bad : Reason → Answer Verdict = λ reason. refused (refusal reason) in
+    read-good Short (judgedTask task) _ bad
+    (λ T next e. read-good Short (judgedWeights (features (T .sizes)) weights) _ bad
+    (λ ws end e' answer h. is-good Short (done (h .0))
+    (verdict-short T (listed ws) (h .0) (theory.accepted task T next e .countable) (h .2)) answer (h .1))
+    refusal-short)
+    refusal-short
+
+pub files-short : (task weights : List ℕ) (answer : Answer Verdict) → ChecksFiles task weights answer → Short answer
+files-short task weights =
+    if-good Short (ltb mostTask (length task)) _ _ (is-good Short (refused (refusal Small)) (refusal-short Small)) (checks-short task weights)
+
+-- ---- the longest line
+
+-- `rejected operator`, its number, and the line's end.
+abbrev pub verdictBytes : ℕ
+verdictBytes = 17 + wordWidth + 1
+
+pub verdict-few : (answer : Answer Verdict) → length (verdictLine answer) ≤ verdictBytes
+unfolding verdictLine
+verdict-few (done accepted) = omega arith
+verdict-few (done endsAlike) = omega arith
+verdict-few (done (breaks j)) = omega (arith, length-append (word j) (10 ∷ []), word-few j)
+verdict-few (refused number) = omega (arith, refused-few number)
+
+-- A room as long as that is never refused, and the line ends within it.
+module _ (task weights room : List ℕ) (long : verdictBytes ≤ length room) where
+  pub verdict-lines-written : (outcome : Outcome ℕ) → VerdictLines task weights room outcome
+      → (answer : Answer Verdict) × Checks task weights answer × (outcome ≡ writes (length (verdictLine answer)) (verdictLine answer) room)
+  verdict-lines-written = line-of-written (Checks task weights) verdictLine room verdictBytes (λ answer h. verdict-few answer) long
+
+  pub verdict-line-ends : (left : List ℕ) (result : Printed) (end : ℕ) → VerdictLines task weights room (record { answer = printedOf result; lent = left })
+      → result ≡ printed.Printed end → end ≤ length room
+  verdict-line-ends = line-of-ends (Checks task weights) verdictLine room verdictBytes (λ answer h. verdict-few answer) long
+
+  pub file-lines-written : (outcome : Outcome ℕ) → FileLines task weights room outcome
+      → (answer : Answer Verdict) × ChecksFiles task weights answer × (outcome ≡ writes (length (verdictLine answer)) (verdictLine answer) room)
+  file-lines-written = line-of-written (ChecksFiles task weights) verdictLine room verdictBytes (λ answer h. verdict-few answer) long
+
+  pub file-line-ends : (left : List ℕ) (result : Printed) (end : ℕ) → FileLines task weights room (record { answer = printedOf result; lent = left })
+      → result ≡ printed.Printed end → end ≤ length room
+  file-line-ends = line-of-ends (ChecksFiles task weights) verdictLine room verdictBytes (λ answer h. verdict-few answer) long

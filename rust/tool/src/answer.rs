@@ -5,18 +5,19 @@ use crate::picture;
 use crate::question::{Answered, Proof};
 use crate::words::{counted, parity};
 
-pub const NO_PROOF: &str = "NO PARITY PROOF. This does not mean that the order can be done.";
+/// What has to stand wherever there is no proof.
+pub const NOT_DONE: &str = "This does not mean that the order can be done.";
 
 /// Both bays and the answer, in full.
 pub fn full(name: &str, answered: &Answered) -> String {
     let bay = &answered.bay;
-    let (rows, columns) = (bay.rows, bay.columns);
+    let shape = bay.shape();
     let pictures = picture::both(bay);
     let words = match &answered.proof {
         Some(proof) => impossible(proof),
         None => no_proof(bay.start == bay.goal),
     };
-    format!("{name}: a bay of {rows} by {columns}\n\n{pictures}\n{words}")
+    format!("{name}: a bay of {shape}\n\n{pictures}\n{words}")
 }
 
 fn impossible(proof: &Proof) -> String {
@@ -45,19 +46,22 @@ fn no_proof(alike: bool) -> String {
     } else {
         "No list of features separates the two bays by odd and even. That is all that is known.\n"
     };
-    format!("{NO_PROOF}\n{note}")
+    format!("NO PARITY PROOF. {NOT_DONE}\n{note}")
 }
 
 /// The answer in one line.
 pub fn line(answered: &Answered) -> String {
+    let shape = answered.bay.shape();
     match &answered.proof {
         Some(proof) => format!(
-            "IMPOSSIBLE ({}, start {}, goal {}, accepted by the checker)",
+            "IMPOSSIBLE ({shape}, {}, start {}, goal {}, accepted by the checker)",
             counted(proof.weights.len(), "weight"),
             parity(proof.true_at_start.len()),
             parity(proof.true_at_goal.len())
         ),
-        None => "NO PARITY PROOF (this does not mean that the order can be done)".to_string(),
+        None => {
+            format!("NO PARITY PROOF ({shape}; this does not mean that the order can be done)")
+        }
     }
 }
 
@@ -68,6 +72,7 @@ pub fn json(name: &str, answered: &Answered) -> Json {
         |labels: &[usize]| Json::List(labels.chunks(bay.columns).map(Json::numbers).collect());
     let mut fields = vec![
         ("file", Json::text(name)),
+        ("shape", Json::Text(bay.shape())),
         ("rows", Json::number(bay.rows)),
         ("columns", Json::number(bay.columns)),
         ("start", grid(&bay.start)),
@@ -80,11 +85,15 @@ pub fn json(name: &str, answered: &Answered) -> Json {
         }
         None => {
             fields.push(("answer", Json::text("no parity proof")));
-            let note = "This does not mean that the order can be done.";
-            fields.push(("note", Json::text(note)));
+            fields.push(note());
         }
     }
     Json::Object(fields)
+}
+
+/// What has to stand with an answer that is no proof, for a program.
+pub fn note() -> (&'static str, Json) {
+    ("note", Json::text(NOT_DONE))
 }
 
 fn proof_json(proof: &Proof) -> Json {

@@ -17,6 +17,11 @@ impl Bay {
         self.rows * self.columns
     }
 
+    /// The shape as every answer names it.
+    pub fn shape(&self) -> String {
+        format!("{} by {}", self.rows, self.columns)
+    }
+
     /// The bay file that the library's builder reads.
     pub fn file(&self) -> Vec<u8> {
         let mut bytes = Vec::new();

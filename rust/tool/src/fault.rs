@@ -1,10 +1,12 @@
 //! What can go wrong, in words and by number.
 
+use crate::characters::is_plain;
 use crate::json::Json;
 
 /// How much of a long line is shown, and how much of it before the place.
 const WIDEST_PART: usize = 70;
 const MOST_BEFORE: usize = 60;
+const TEXT: &str = "this looks like text; florumeja ask takes a bay as text";
 
 /// Why no answer was given.
 #[derive(Debug)]
@@ -13,6 +15,8 @@ pub enum Fault {
     Text(TextFault),
     /// The library refused, by this number.
     Refused(u32),
+    /// The same, of a file that looks like text.
+    TextInstead(u32),
     /// Files, the command line, or answers that do not fit together.
     Failure(String),
 }
@@ -30,11 +34,26 @@ pub struct TextFault {
 }
 
 impl Fault {
+    /// Points out that the refused bytes look like text, if they do.
+    pub fn about(self, bytes: &[u8]) -> Fault {
+        let typed = |character: char| is_plain(character) || character.is_ascii_whitespace();
+        let text = std::str::from_utf8(bytes);
+        match self {
+            Fault::Refused(number)
+                if text.is_ok_and(|text| !text.is_empty() && text.chars().all(typed)) =>
+            {
+                Fault::TextInstead(number)
+            }
+            other => other,
+        }
+    }
+
     /// One line that says what is wrong.
     pub fn words(&self) -> String {
         match self {
             Fault::Text(fault) => fault.words(),
             Fault::Refused(number) => refusal_words(*number),
+            Fault::TextInstead(number) => format!("{} ({TEXT})", refusal_words(*number)),
             Fault::Failure(words) => words.clone(),
         }
     }
@@ -67,7 +86,9 @@ impl Fault {
         ];
         match self {
             Fault::Text(fault) => fields.extend(fault.fields()),
-            Fault::Refused(number) => fields.push(("refusal", refusal_json(*number))),
+            Fault::Refused(number) | Fault::TextInstead(number) => {
+                fields.push(("refusal", refusal_json(*number)))
+            }
             Fault::Failure(_) => {}
         }
         Json::Object(fields)
@@ -139,7 +160,7 @@ fn refusal_json(number: u32) -> Json {
 fn plain(character: char) -> char {
     match character {
         '\t' => ' ',
-        c if c.is_control() => '?',
-        c => c,
+        c if is_plain(c) => c,
+        _ => '?',
     }
 }

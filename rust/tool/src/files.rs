@@ -1,10 +1,11 @@
-//! Reads what the command line names, and keeps what it asks to keep.
+//! Reads what the command line names: files, standard input, folders.
 
 use crate::fault::Fault;
-use crate::words::{reason, shown};
+use crate::words::reason;
 use std::ffi::{OsStr, OsString};
 use std::fs::{self, File};
 use std::io::{self, Read};
+use std::os::unix::fs::MetadataExt;
 use std::path::{Path, PathBuf};
 
 /// The name that stands for standard input or output.
@@ -45,21 +46,16 @@ fn read_from(source: impl Read, most: u64) -> io::Result<Vec<u8>> {
     Ok(bytes)
 }
 
-/// Writes a file, unless it would write over one of the inputs.
-pub fn keep(name: &OsStr, bytes: &[u8], inputs: &[OsString]) -> Result<(), Fault> {
-    let failure = |words: String| Err(Fault::Failure(words));
-    if inputs.iter().any(|input| same(input, name)) {
-        return failure(format!("{} would be written over", shown(name)));
-    }
-    match fs::write(name, bytes) {
-        Ok(()) => Ok(()),
-        Err(error) => failure(format!("cannot write {}: {}", shown(name), reason(&error))),
-    }
-}
-
 /// Whether two names lead to one file, be it there already or not.
 pub fn same(one: &OsStr, two: &OsStr) -> bool {
-    !is_standard(one) && !is_standard(two) && place(one).is_some() && place(one) == place(two)
+    if is_standard(one) || is_standard(two) {
+        return false;
+    }
+    match (fs::metadata(one), fs::metadata(two)) {
+        // Two links may be one file.
+        (Ok(one), Ok(two)) => (one.dev(), one.ino()) == (two.dev(), two.ino()),
+        _ => place(one).is_some() && place(one) == place(two),
+    }
 }
 
 // A file that is not there yet has the place of its folder.
@@ -84,46 +80,70 @@ pub fn is_folder(name: &OsStr) -> bool {
 }
 
 /// What a folder holds: bays in the order of their names, and how many other files.
+#[derive(Default)]
 pub struct Folder {
-    pub bays: Vec<OsString>,
+    pub bays: Vec<Named>,
     pub others: usize,
 }
 
-/// Lists a folder and the folders inside it.
-pub fn folder(name: &OsStr) -> Result<Folder, Fault> {
-    let mut folder = Folder {
-        bays: Vec::new(),
-        others: 0,
-    };
-    walk(Path::new(name), &mut folder)?;
-    Ok(folder)
+/// A file, or why it or the folder of this name cannot be read.
+pub struct Named {
+    pub name: OsString,
+    pub fault: Option<Fault>,
 }
 
-fn walk(path: &Path, folder: &mut Folder) -> Result<(), Fault> {
-    let paths = entries(path).map_err(|error| {
-        let name = shown(path.as_os_str());
-        let reason = reason(&error);
-        Fault::Failure(format!("cannot read the folder {name}: {reason}"))
-    })?;
-    for path in paths {
-        if is_hidden(&path) {
-            continue;
-        }
-        // A link to a folder could lead round in a circle.
-        if path.is_dir() && !path.is_symlink() {
-            walk(&path, folder)?;
-        } else if path.extension() == Some(OsStr::new(BAY_ENDING)) {
-            folder.bays.push(path.into_os_string());
-        } else {
-            folder.others += 1;
+/// Lists a folder and the folders inside it. What cannot be read is listed with its fault.
+pub fn folder(name: &OsStr) -> Folder {
+    let mut folder = Folder::default();
+    folder.walk(Path::new(name));
+    folder
+}
+
+impl Folder {
+    fn walk(&mut self, path: &Path) {
+        match entries(path) {
+            Ok(paths) => paths.iter().for_each(|path| self.take(path)),
+            Err(error) => {
+                let words = format!("cannot read the folder: {}", reason(&error));
+                self.list(path, Some(words));
+            }
         }
     }
-    Ok(())
+
+    fn take(&mut self, path: &Path) {
+        // A link to a folder could lead round in a circle.
+        if path.is_dir() && !path.is_symlink() {
+            self.walk(path);
+        } else if is_bay(path) {
+            self.list(path, odd_kind(path));
+        } else {
+            self.others += 1;
+        }
+    }
+
+    fn list(&mut self, path: &Path, fault: Option<String>) {
+        let name = path.as_os_str().to_os_string();
+        let fault = fault.map(Fault::Failure);
+        self.bays.push(Named { name, fault });
+    }
+}
+
+fn is_bay(path: &Path) -> bool {
+    let ending = path.extension().unwrap_or_default();
+    ending.eq_ignore_ascii_case(BAY_ENDING)
+}
+
+// Nobody may ever write to a pipe that lies in a folder, so it is not waited for.
+fn odd_kind(path: &Path) -> Option<String> {
+    let kind = fs::metadata(path).ok()?.file_type();
+    let odd = !kind.is_file() && !kind.is_dir();
+    odd.then(|| "cannot read: it is a pipe, a socket or a device, not a file".to_string())
 }
 
 fn entries(path: &Path) -> io::Result<Vec<PathBuf>> {
     let entries: io::Result<Vec<fs::DirEntry>> = fs::read_dir(path)?.collect();
     let mut paths: Vec<PathBuf> = entries?.iter().map(fs::DirEntry::path).collect();
+    paths.retain(|path| !is_hidden(path));
     paths.sort();
     Ok(paths)
 }

@@ -17,8 +17,9 @@ pub fn tool() -> String {
          word is a FILE, whatever it begins with.\n\
          florumeja --version shows the version.\n\
          \n\
-         Exit status: 0 impossible (or separated, accepted, opened, built),\n\
-         1 no proof (or none, rejected), 2 refused or an error.\n",
+         Exit status: 0 IMPOSSIBLE (or separated, accepted, opened, built),\n\
+         1 no proof (or none, rejected), 2 refused or an error. In scripts take care that 0\n\
+         means IMPOSSIBLE.\n",
         table(names.collect())
     )
 }

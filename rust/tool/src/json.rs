@@ -1,5 +1,6 @@
 //! A writer of JSON, as much of it as the tool needs.
 
+use crate::characters::is_plain;
 use std::fmt::{self, Display, Formatter, Write};
 
 pub enum Json {
@@ -59,11 +60,19 @@ fn write_text(out: &mut Formatter, words: &str) -> fmt::Result {
             '"' => out.write_str("\\\"")?,
             '\\' => out.write_str("\\\\")?,
             '\n' => out.write_str("\\n")?,
-            c if c.is_control() => write!(out, "\\u{:04x}", c as u32)?,
-            c => out.write_char(c)?,
+            c if is_plain(c) => out.write_char(c)?,
+            c => write_escaped(out, c)?,
         }
     }
     out.write_char('"')
+}
+
+// JSON names a character beyond the first 65,536 by two numbers.
+fn write_escaped(out: &mut Formatter, character: char) -> fmt::Result {
+    for unit in character.encode_utf16(&mut [0; 2]) {
+        write!(out, "\\u{unit:04x}")?;
+    }
+    Ok(())
 }
 
 #[cfg(test)]
@@ -73,10 +82,10 @@ mod tests {
     #[test]
     fn text_is_escaped() {
         let json = Json::Object(vec![
-            ("words", Json::text("a \"b\"\\\n\u{1}é")),
+            ("words", Json::text("a \"b\"\\\n\u{1}é\u{202e}\u{e0001}")),
             ("numbers", Json::numbers(&[1, 2])),
         ]);
-        let expected = r#"{"words": "a \"b\"\\\n\u0001é", "numbers": [1, 2]}"#;
+        let expected = r#"{"words": "a \"b\"\\\n\u0001é\u202e\udb40\udc01", "numbers": [1, 2]}"#;
         assert_eq!(json.to_string(), expected);
     }
 }

@@ -4,12 +4,16 @@ mod answer;
 mod args;
 mod bay;
 mod bay_text;
+mod characters;
 mod commands;
+mod date;
+mod digest;
 mod fault;
 mod features;
 mod files;
 mod help;
 mod json;
+mod keeping;
 mod library;
 mod numbers;
 mod output;
@@ -25,8 +29,15 @@ use std::env;
 use std::ffi::OsString;
 use std::process::ExitCode;
 
+/// The only version number of the tool and the library.
+const VERSION: &str = env!("CARGO_PKG_VERSION");
+
 fn main() -> ExitCode {
     let words: Vec<OsString> = env::args_os().skip(1).collect();
+    if output::was_closed() {
+        complain("standard output is closed, so no answer could be seen");
+        return Status::Refused.into();
+    }
     start(&words).into()
 }
 
@@ -39,7 +50,7 @@ fn start(words: &[OsString]) -> Status {
         return show_help(rest);
     }
     if first == "--version" {
-        say(&format!("florumeja {}\n", env!("CARGO_PKG_VERSION")));
+        say(&format!("florumeja {VERSION}\n"));
         return Status::Yes;
     }
     match command_named(first) {
@@ -91,6 +102,9 @@ fn run(command: &Command, words: &[OsString]) -> Status {
     }
     if arguments.files.len() > most {
         return misused(command, "too many files");
+    }
+    if let Some(clash) = commands::clash(&arguments) {
+        return misused(command, clash);
     }
     (command.run)(&arguments)
 }

@@ -1,8 +1,10 @@
 //! Standard output and standard error, and the exit status.
 
 use crate::words::reason;
+use std::ffi::c_int;
 use std::io::{self, ErrorKind, Write};
 use std::process::{exit, ExitCode};
+use std::sync::atomic::{AtomicBool, Ordering};
 
 /// How a command ended; the number is the exit status.
 #[derive(Clone, Copy, PartialEq, Eq, PartialOrd, Ord, Debug)]
@@ -19,6 +21,30 @@ impl From<Status> for ExitCode {
     fn from(status: Status) -> ExitCode {
         ExitCode::from(status as u8)
     }
+}
+
+static CLOSED: AtomicBool = AtomicBool::new(false);
+
+extern "C" {
+    fn fcntl(file: c_int, command: c_int, ...) -> c_int;
+}
+
+// Before main the runtime puts /dev/null in the place of a closed standard output, so this looks earlier.
+#[used]
+#[link_section = ".init_array"]
+static LOOK: extern "C" fn() = look;
+
+extern "C" fn look() {
+    const OUTPUT: c_int = 1;
+    const GET_FLAGS: c_int = 1;
+    // SAFETY: asks for a number's flags, which touches no memory.
+    let flags = unsafe { fcntl(OUTPUT, GET_FLAGS) };
+    CLOSED.store(flags == -1, Ordering::Relaxed);
+}
+
+/// Whether the tool was started without a standard output; every answer would vanish.
+pub fn was_closed() -> bool {
+    CLOSED.load(Ordering::Relaxed)
 }
 
 /// Writes to standard output.

@@ -1,5 +1,6 @@
 //! Small words that many parts of the tool use.
 
+use crate::characters::is_plain;
 use std::ffi::OsStr;
 use std::io;
 
@@ -18,12 +19,12 @@ pub fn parity(count: usize) -> &'static str {
     }
 }
 
-/// A file's name as it can be printed: control characters would upset a terminal.
+/// A file's name as it can be printed: what is not plain could upset a terminal, or hide what is said of the file.
 pub fn shown(name: &OsStr) -> String {
     if name == "-" {
         return "standard input".to_string();
     }
-    let replaced = |c: char| if c.is_control() { '?' } else { c };
+    let replaced = |c: char| if is_plain(c) { c } else { '?' };
     name.to_string_lossy().chars().map(replaced).collect()
 }
 

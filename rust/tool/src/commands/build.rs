@@ -31,7 +31,8 @@ fn run(arguments: &Arguments) -> Status {
 
 fn build(arguments: &Arguments) -> Result<(), Fault> {
     let name = &arguments.files[0];
-    let task = library::build(&files::read(name)?)?;
+    let bay = files::read(name)?;
+    let task = library::build(&bay).map_err(|fault| fault.about(&bay))?;
     let line = format!("built {} bytes", task.len());
     let json = Json::Object(vec![
         ("file", Json::text(&name.to_string_lossy())),

@@ -43,8 +43,11 @@ fn check<'a>(task: &'a OsString, weights: &'a OsString) -> Result<Verdict, Misfi
     let weight_bytes = files::read(weights).map_err(|fault| (weights.as_os_str(), fault))?;
     library::check(&task_bytes, &weight_bytes).map_err(|fault| {
         // The task is judged first, so the weights are at fault exactly where it opens by itself.
-        let opens = library::open(&task_bytes).is_ok();
-        (if opens { weights } else { task }.as_os_str(), fault)
+        let (name, bytes) = match library::open(&task_bytes) {
+            Ok(_) => (weights, weight_bytes),
+            Err(_) => (task, task_bytes),
+        };
+        (name.as_os_str(), fault.about(&bytes))
     })
 }
 

@@ -1,6 +1,7 @@
 //! `find`: looks for weights that separate the ends of a task.
 
 use super::{deliver, refuse, tell, Command, OUTPUT};
+use crate::answer;
 use crate::args::{Arguments, JSON};
 use crate::fault::Fault;
 use crate::files;
@@ -20,7 +21,8 @@ Reads a task file and prints one line: separated, the count and the features of
 the least separating set, increasing; or none. Separated means that the goal
 cannot be reached. None does not mean that it can.
 
-With -o the weights are also written as a weight file, for check.",
+With -o the weights are also written as a weight file, for check. For a bay as
+plain text use ask.",
     options: &[&OUTPUT, &JSON],
     statuses: &["separated", "none"],
     run,
@@ -35,14 +37,19 @@ fn run(arguments: &Arguments) -> Status {
 }
 
 fn find(name: &OsStr) -> Result<Option<Vec<usize>>, Fault> {
-    let workspace = library::open(&files::read(name)?)?;
+    let task = files::read(name)?;
+    let workspace = library::open(&task).map_err(|fault| fault.about(&task))?;
     library::find(&workspace)
 }
 
 fn give(arguments: &Arguments, found: Option<Vec<usize>>) -> Result<Status, Fault> {
     let Some(weights) = found else {
         // There is no weight file to write.
-        tell(arguments, "none", &json(arguments, "none", vec![]));
+        tell(
+            arguments,
+            "none",
+            &json(arguments, "none", vec![answer::note()]),
+        );
         return Ok(Status::No);
     };
     let numbers: Vec<String> = weights.iter().map(usize::to_string).collect();

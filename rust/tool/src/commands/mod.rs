@@ -11,6 +11,7 @@ use crate::args::{Arguments, Choice, JSON};
 use crate::fault::Fault;
 use crate::files;
 use crate::json::Json;
+use crate::keeping;
 use crate::output::{complain, say, say_bytes, Status};
 use crate::words::shown;
 use std::ffi::OsStr;
@@ -46,11 +47,18 @@ pub const OUTPUT: Choice = Choice {
     help: "write the result to FILE (- for standard output)",
 };
 
+/// What does not go together on a command line, if anything.
+pub fn clash(arguments: &Arguments) -> Option<&'static str> {
+    let taken = arguments.value(&OUTPUT).is_some_and(files::is_standard);
+    let clash = "--json and -o - both need standard output";
+    (taken && arguments.has(&JSON)).then_some(clash)
+}
+
 /// Writes a result where the command line asks for it, and says what it is.
 fn deliver(arguments: &Arguments, bytes: &[u8], line: &str, json: &Json) -> Result<(), Fault> {
     match arguments.value(&OUTPUT) {
         Some(name) if files::is_standard(name) => say_bytes(bytes),
-        Some(name) => files::keep(name, bytes, &arguments.files)?,
+        Some(name) => keeping::keep(&[(name, bytes)], &arguments.files)?,
         None => {}
     }
     tell(arguments, line, json);

@@ -33,7 +33,8 @@ fn run(arguments: &Arguments) -> Status {
 
 fn open(arguments: &Arguments) -> Result<(), Fault> {
     let name = &arguments.files[0];
-    let workspace = library::open(&files::read(name)?)?;
+    let task = files::read(name)?;
+    let workspace = library::open(&task).map_err(|fault| fault.about(&task))?;
     let counts = counts(&workspace);
     let shown = counts.map(|(noun, _, count)| counted(count, noun));
     let line = format!("opened {}", shown.join(", "));

@@ -7,8 +7,10 @@ mod listing;
 mod move_table;
 mod moves;
 mod pictures;
+mod provenance;
 mod words;
 
+use crate::answer::NOT_DONE;
 use crate::bay::{Bay, GAP};
 use crate::fault::Fault;
 use crate::features::{Atom, Feature};
@@ -33,15 +35,17 @@ pub fn page(name: &str, answered: &Answered) -> Result<String, Fault> {
         "<!DOCTYPE html>\n<html lang=\"en\">\n<head>\n<meta charset=\"utf-8\">\n\
          <meta name=\"viewport\" content=\"width=device-width, initial-scale=1\">\n\
          <title>{title}: {name}</title>\n<style>\n{STYLE}</style>\n</head>\n<body>\n\
-         {}{}{body}</body>\n</html>\n",
-        verdict(&escaped(name), answered.proof.is_some()),
+         {}{}{body}{}</body>\n</html>\n",
+        verdict(&escaped(name), answered),
         both(&answered.bay),
+        provenance::section(answered)?,
         name = escaped(name),
     ))
 }
 
-fn verdict(name: &str, proved: bool) -> String {
-    let (kind, heading, words) = if proved {
+fn verdict(name: &str, answered: &Answered) -> String {
+    let shape = answered.bay.shape();
+    let (kind, heading, words) = if answered.proof.is_some() {
         (
             "impossible",
             "IMPOSSIBLE",
@@ -50,14 +54,10 @@ fn verdict(name: &str, proved: bool) -> String {
              correct has accepted the proof.",
         )
     } else {
-        (
-            "unknown",
-            "NO PARITY PROOF",
-            "This does not mean that the order can be done.",
-        )
+        ("unknown", "NO PARITY PROOF", NOT_DONE)
     };
     format!(
-        "<header class=\"{kind}\">\n<p class=\"file\">{name}</p>\n<h1>{heading}</h1>\n\
+        "<header class=\"{kind}\">\n<p class=\"file\">{name}: a bay of {shape}</p>\n<h1>{heading}</h1>\n\
          <p>{words}</p>\n</header>\n"
     )
 }

@@ -3,6 +3,7 @@
 use crate::args::{Arguments, Choice};
 use crate::fault::Fault;
 use crate::files;
+use crate::keeping;
 use crate::question::Answered;
 use crate::words::shown;
 use std::ffi::OsStr;
@@ -21,19 +22,20 @@ pub const TASK: Choice = Choice {
     help: "keep the task that they are about (for one bay)",
 };
 
-/// Keeps what the command line asks for, and says what was kept: nobody must take an older file
+/// Keeps what the command line asks for, all of it or nothing, and says what was kept: nobody must take an older file
 /// for the evidence.
 pub fn keep(arguments: &Arguments, answered: &Answered) -> Result<String, Fault> {
     let (weights, task) = (arguments.value(&WEIGHTS), arguments.value(&TASK));
     judge_names(weights, task)?;
+    let mut kept: Vec<(&OsStr, &[u8])> = Vec::new();
     let mut said = String::new();
     if let Some(name) = task {
-        files::keep(name, &answered.task, &arguments.files)?;
+        kept.push((name, &answered.task));
         said.push_str(&format!("Task kept in {}.\n", shown(name)));
     }
     match (weights, &answered.proof) {
         (Some(name), Some(proof)) => {
-            files::keep(name, &proof.weight_file, &arguments.files)?;
+            kept.push((name, &proof.weight_file));
             said.push_str(&format!("Weights kept in {}.\n", shown(name)));
         }
         (Some(name), None) => {
@@ -44,6 +46,7 @@ pub fn keep(arguments: &Arguments, answered: &Answered) -> Result<String, Fault>
         }
         (None, _) => {}
     }
+    keeping::keep(&kept, &arguments.files)?;
     Ok(said)
 }
 

@@ -4,12 +4,13 @@ use crate::answer;
 use crate::args::{Arguments, JSON};
 use crate::commands::{refuse, say_json};
 use crate::fault::Fault;
-use crate::files;
+use crate::files::{self, Named};
 use crate::json::Json;
 use crate::output::{say, Status};
 use crate::progress::Progress;
 use crate::question::{self, Answered};
 use crate::words::{counted, shown};
+use std::collections::BTreeMap;
 use std::ffi::{OsStr, OsString};
 
 /// How many bays got which answer.
@@ -19,25 +20,31 @@ struct Summary {
     no_proof: usize,
     refused: usize,
     others: usize,
+    /// How many bays of each shape were answered; one that is read wrongly stands out.
+    shapes: BTreeMap<String, usize>,
 }
 
 /// Asks about each bay in turn.
 pub fn ask(arguments: &Arguments) -> Status {
-    let (names, mut summary) = match gather(&arguments.files) {
-        Ok(gathered) => gathered,
-        Err((name, fault)) => return refuse(arguments, &name, &fault),
-    };
+    let (listed, mut summary) = gather(&arguments.files);
+    if let [Named {
+        name,
+        fault: Some(fault),
+    }] = listed.as_slice()
+    {
+        return refuse(arguments, name, fault);
+    }
     let in_json = arguments.has(&JSON);
-    let mut progress = Progress::new(names.len());
+    let mut progress = Progress::new(listed.len());
     let mut answers = Vec::new();
-    for name in &names {
-        let outcome = question::ask(name);
+    for Named { name, fault } in listed {
+        let outcome = fault.map_or_else(|| question::ask(&name), Err);
         summary.add(&outcome);
         if in_json {
-            answers.push(item(name, &outcome));
+            answers.push(item(&name, &outcome));
         } else {
             progress.hide();
-            say(&format!("{}: {}\n", shown(name), short(&outcome)));
+            say(&format!("{}: {}\n", shown(&name), short(&outcome)));
         }
         progress.step();
     }
@@ -53,26 +60,26 @@ pub fn ask(arguments: &Arguments) -> Status {
     summary.status()
 }
 
-type Gathered = (Vec<OsString>, Summary);
-
-// Puts the bays of each folder in the folder's place.
-fn gather(given: &[OsString]) -> Result<Gathered, (OsString, Fault)> {
-    let mut names = Vec::new();
+// Puts what each folder holds in the folder's place.
+fn gather(given: &[OsString]) -> (Vec<Named>, Summary) {
+    let mut listed = Vec::new();
     let mut summary = Summary::default();
     for name in given {
-        if !files::is_folder(name) {
-            names.push(name.clone());
+        let name = name.clone();
+        if !files::is_folder(&name) {
+            listed.push(Named { name, fault: None });
             continue;
         }
-        let folder = files::folder(name).map_err(|fault| (name.clone(), fault))?;
+        let folder = files::folder(&name);
+        summary.others += folder.others;
         if folder.bays.is_empty() {
             let words = "no file in this folder ends in .txt";
-            return Err((name.clone(), Fault::Failure(words.to_string())));
+            let fault = Some(Fault::Failure(words.to_string()));
+            listed.push(Named { name, fault });
         }
-        names.extend(folder.bays);
-        summary.others += folder.others;
+        listed.extend(folder.bays);
     }
-    Ok((names, summary))
+    (listed, summary)
 }
 
 fn short(outcome: &Result<Answered, Fault>) -> String {
@@ -92,11 +99,18 @@ fn item(name: &OsStr, outcome: &Result<Answered, Fault>) -> Json {
 
 impl Summary {
     fn add(&mut self, outcome: &Result<Answered, Fault>) {
-        match outcome.as_ref().map(Answered::status) {
-            Ok(Status::Yes) => self.impossible += 1,
-            Ok(_) => self.no_proof += 1,
+        match outcome {
+            Ok(answered) => self.answered(answered),
             Err(_) => self.refused += 1,
         }
+    }
+
+    fn answered(&mut self, answered: &Answered) {
+        match answered.status() {
+            Status::Yes => self.impossible += 1,
+            _ => self.no_proof += 1,
+        }
+        *self.shapes.entry(answered.bay.shape()).or_default() += 1;
     }
 
     fn total(&self) -> usize {
@@ -114,6 +128,14 @@ impl Summary {
         if self.no_proof > 0 {
             words.push_str("Without a parity proof does not mean that the order can be done.\n");
         }
+        if !self.shapes.is_empty() {
+            let shapes = self
+                .shapes
+                .iter()
+                .map(|(shape, count)| format!("{count} of {shape}"));
+            let shapes: Vec<String> = shapes.collect();
+            words.push_str(&format!("Shapes: {}.\n", shapes.join(", ")));
+        }
         if self.others > 0 {
             let others = counted(self.others, "file");
             words.push_str(&format!("Left out: {others} not ending in .txt.\n"));
@@ -122,11 +144,21 @@ impl Summary {
     }
 
     fn json(&self) -> Json {
+        let shape = |(shape, &count): (&String, &usize)| {
+            Json::Object(vec![
+                ("shape", Json::text(shape)),
+                ("count", Json::number(count)),
+            ])
+        };
         Json::Object(vec![
             ("asked", Json::number(self.total())),
             ("impossible", Json::number(self.impossible)),
             ("no_parity_proof", Json::number(self.no_proof)),
             ("refused_or_error", Json::number(self.refused)),
+            (
+                "shapes",
+                Json::List(self.shapes.iter().map(shape).collect()),
+            ),
             ("left_out", Json::number(self.others)),
         ])
     }

@@ -21,7 +21,8 @@ pub const COMMAND: Command = Command {
     about: "\
 Reads a bay as plain text: rows of labels as it stands, a blank line, rows of
 labels as it is wanted. Labels are numbers with blanks between them; 0 or . is
-the gap; # begins a comment. A swapped pair of pallets, for example:
+the gap; # begins a comment. What could be read in two ways is refused, with
+its line and column. A swapped pair of pallets, for example:
 
     1 2
     3 .
@@ -34,11 +35,14 @@ leads from the one to the other, and a checker that is proved correct accepted
 the proof. NO PARITY PROOF: no such proof exists. This does not mean that the
 order can be done.
 
+Take care in scripts: exit status 0 means IMPOSSIBLE, not that the order can be
+done. What follows florumeja ask FILE && is done for impossible orders only.
+
 FILE may be - for standard input, and a folder stands for the files in it, and
 in folders inside it, that end in .txt. For many files there is one line each
 and a summary, and the exit status is the highest that one of them gives.",
     options: &[&WEIGHTS, &TASK, &JSON],
-    statuses: &["impossible", "no parity proof"],
+    statuses: &["IMPOSSIBLE: the order cannot be done", "no parity proof"],
     run,
 };
 

@@ -243,26 +243,57 @@ mod tests {
 
     #[test]
     fn labels_stand_as_they_are_read() {
+        let uneven = |place: &str, text: &str| {
+            let words = fault(text);
+            let due = format!("{place}: expected labels evenly apart");
+            assert!(words.starts_with(&due), "{text:?}: {words}");
+        };
         // 4 stands below the gap, and nothing below 2.
-        let hole = "1 2 .\n3   4 5\n\n1 2 .\n3 4 5\n";
-        let words = "line 2, column 5: expected label 2 of this row below label 2 of the other rows, found it below label 3 of line 1";
-        assert_eq!(fault(hole), words);
-        assert!(fault("1 2\n3 .\n\n1 2\n  3 .\n").starts_with("line 5, column 3: expected label 1"));
-        assert!(fault("1\t2\t.\n3\t\t4\t5\n\n1 2 .\n3 4 5\n").starts_with("line 2, column 4"));
-        // With tabs of four columns 4 stands below 2, with tabs of eight it does not.
-        assert!(fault("1   2 .\n\t3 4 5\n\n1 2 .\n3 4 5\n").starts_with("line 2, column 2"));
+        uneven("line 2, column 5", "1 2 .\n3   4 5\n\n1 2 .\n3 4 5\n");
+        uneven("line 5, column 5", "1 2\n3 .\n\n1 2\n3   .\n");
+        uneven("line 2, column 4", "1\t2\t.\n3\t\t4\t5\n\n1 2 .\n3 4 5\n");
+        // An aisle, and two bays side by side.
+        uneven(
+            "line 1, column 8",
+            "1 2    3 4\n5 6    7 .\n\n1 2 3 4\n5 6 7 .\n",
+        );
+        uneven(
+            "line 1, column 7",
+            "1 2   2 1\n3 .   3 .\n\n1 2   2 1\n3 .   3 .\n",
+        );
+        let begins = |text: &str| {
+            let words = fault(text);
+            assert!(
+                words.contains("to begin below each other"),
+                "{text:?}: {words}"
+            );
+        };
+        begins("1 2\n3 .\n\n1 2\n  3 .\n");
+        begins("  1 2\n3 .\n\n1 2\n3 .\n");
+        begins("1 2 .\n\t3 4 5\n\n1 2 .\n3 4 5\n");
         // Records of eighty columns without line ends look like rows.
         let records = ["1 2", "3 ."].map(|row| format!("{row:80}")).concat();
-        assert!(fault(&format!("{records}\n\n{records}"))
-            .starts_with("line 1, column 81: expected labels within 80 columns"));
-        assert_eq!(fault("1  2\n 3 .\n\n1\t2\n3 .\n"), "no fault");
+        let words = fault(&format!("{records}\n\n{records}"));
+        assert!(words.starts_with("line 1, column 81: expected labels within 80 columns"));
+    }
+
+    #[test]
+    fn uneven_blanks_do_no_harm_where_none_holds_a_label() {
+        let texts = [
+            "1  2\n 3 .\n\n1\t2\n3 .\n",
+            "1\t2 3\n4 5\t6\n7 8 .\n\n  1  2 3\n  4 5  6\n  7 8 .\n",
+            "1   2   3\n4   5   .\n\n1\t\t2\t\t3\n4\t\t5\t\t.\n",
+            "\t1 2 # front\n        3 .\n\n1 2\n3 .\n",
+        ];
+        for text in texts {
+            assert_eq!(fault(text), "no fault", "{text:?}");
+        }
     }
 
     #[test]
     fn bays_side_by_side_are_not_read_as_one() {
-        assert!(
-            fault("1 2   2 1\n3 .   3 .\n").starts_with("line 2, column 10: expected a blank line")
-        );
+        let words = fault("1 2   2 1\n3 .   3 .\n");
+        assert!(words.starts_with("line 2, column 10: expected a blank line"));
     }
 
     #[test]

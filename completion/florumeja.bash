@@ -10,6 +10,8 @@ _florumeja() {
     local commands='ask report find check build open' options
     COMPREPLY=()
 
+    # The script of a checkout installs as well.
+    case ${COMP_WORDS[0]} in */*) commands+=' install' ;; esac
     if ((COMP_CWORD == 1)); then
         mapfile -t COMPREPLY < <(compgen -W "$commands help --help --version" -- "$word")
         return
@@ -26,6 +28,10 @@ _florumeja() {
     ask) options='--weights --task --json --help' ;;
     report | find | build | open) options='--output --json --help' ;;
     check) options='--json --help' ;;
+    install)
+        _florumeja_files "$word"
+        return
+        ;;
     help)
         mapfile -t COMPREPLY < <(compgen -W "$commands" -- "$word")
         return

@@ -15,7 +15,8 @@ pub fn tool() -> String {
          \n\
          florumeja COMMAND --help tells more. A FILE of - is standard input; after -- every\n\
          word is a FILE, whatever it begins with.\n\
-         florumeja --version shows the version.\n\
+         florumeja --version shows the version. In the folder of the sources ./florumeja install\n\
+         PREFIX installs the tool and the library.\n\
          \n\
          Exit status: 0 IMPOSSIBLE (or separated, accepted, opened, built),\n\
          1 no proof (or none, rejected), 2 refused or an error. In scripts take care that 0\n\

@@ -45,7 +45,11 @@ fn day(seconds: u64) -> String {
 }
 
 fn is_leap(year: u64) -> bool {
-    year % 4 == 0 && year % 100 != 0 || year % 400 == 0
+    match (year % 4, year % 100, year % 400) {
+        (_, _, 0) => true,
+        (_, 0, _) => false,
+        (quarter, _, _) => quarter == 0,
+    }
 }
 
 fn year_length(year: u64) -> u64 {

@@ -10,7 +10,8 @@ pub fn is_plain(character: char) -> bool {
     matches!(character, ' '..='~') || is_sign(character) || is_letter(character)
 }
 
-// Signs of Latin-1, dashes, quotes, currencies, arrows and sums; the blocks' blanks and marks of direction stand outside these ranges.
+// Signs of Latin-1, dashes, quotes, currencies, arrows and sums, without the blanks and the marks
+// of direction that stand among them.
 fn is_sign(character: char) -> bool {
     matches!(
         character,
@@ -93,11 +94,19 @@ mod tests {
 
     #[test]
     fn others_are_not_plain() {
-        // Controls, blanks, format and direction marks, combining marks, letters from right to left, fillers, private and unassigned numbers.
-        let others = "\0\u{7}\u{8}\t\n\u{b}\u{c}\r\u{1b}\u{7f}\u{85}\u{a0}\u{ad}\u{300}\u{338}\u{34f}\u{378}\u{590}\u{5d0}\u{61c}\u{627}\u{660}\
-            \u{115f}\u{1160}\u{1680}\u{180e}\u{2000}\u{200a}\u{200b}\u{200c}\u{200d}\u{200e}\u{200f}\u{2028}\u{2029}\u{202a}\u{202e}\u{202f}\
-            \u{205f}\u{2060}\u{2062}\u{2066}\u{2069}\u{206f}\u{20dd}\u{2800}\u{3000}\u{3164}\u{e000}\u{fe0f}\u{feff}\u{ffa0}\u{fff9}\u{fffc}\u{fffd}\
-            \u{1d173}\u{e0001}\u{e0020}\u{e0100}\u{f0000}\u{10ffff}";
+        let controls = "\0\u{7}\u{8}\t\n\u{b}\u{c}\r\u{1b}\u{7f}\u{85}";
+        let blanks =
+            "\u{a0}\u{1680}\u{2000}\u{200a}\u{2028}\u{2029}\u{202f}\u{205f}\u{2800}\u{3000}";
+        let formats = "\u{ad}\u{180e}\u{200b}\u{200c}\u{200d}\u{2060}\u{2062}\u{206f}\u{feff}\u{fff9}\u{e0001}";
+        let directions =
+            "\u{61c}\u{200e}\u{200f}\u{202a}\u{202e}\u{2066}\u{2069}\u{5d0}\u{627}\u{660}";
+        let combining = "\u{300}\u{338}\u{34f}\u{20dd}\u{fe0f}\u{1d173}\u{e0100}";
+        let fillers = "\u{115f}\u{1160}\u{3164}\u{ffa0}";
+        let unassigned = "\u{378}\u{590}\u{e000}\u{fffc}\u{fffd}\u{f0000}\u{10ffff}";
+        let others = [
+            controls, blanks, formats, directions, combining, fillers, unassigned,
+        ]
+        .concat();
         for character in others.chars() {
             assert!(!is_plain(character), "{character:?}");
         }

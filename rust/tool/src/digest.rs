@@ -2,7 +2,8 @@
 
 const BLOCK: usize = 64;
 
-/// What the state begins with: the first bits of the fractions of the square roots of the first eight primes.
+/// What the state begins with: the first bits of the fractions of the square roots of the first
+/// eight primes.
 const BEGIN: [u32; 8] = [
     0x6a09e667, 0xbb67ae85, 0x3c6ef372, 0xa54ff53a, 0x510e527f, 0x9b05688c, 0x1f83d9ab, 0x5be0cd19,
 ];

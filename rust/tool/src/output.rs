@@ -29,7 +29,7 @@ extern "C" {
     fn fcntl(file: c_int, command: c_int, ...) -> c_int;
 }
 
-// Before main the runtime puts /dev/null in the place of a closed standard output, so this looks earlier.
+// The runtime puts /dev/null in the place of a closed standard output, so this looks before it does.
 #[used]
 #[link_section = ".init_array"]
 static LOOK: extern "C" fn() = look;

@@ -19,7 +19,8 @@ pub fn parity(count: usize) -> &'static str {
     }
 }
 
-/// A file's name as it can be printed: what is not plain could upset a terminal, or hide what is said of the file.
+/// A file's name as it can be printed: what is not plain could upset a terminal, or hide what is
+/// said of the file.
 pub fn shown(name: &OsStr) -> String {
     if name == "-" {
         return "standard input".to_string();

@@ -11,7 +11,7 @@ pub fn reads_as_row(comment: &str) -> bool {
     words(comment).next().is_some() && words(comment).all(is_label)
 }
 
-/// Whether nobody could take the # for a part of the bay: a comment with letters that begins with a word.
+/// Whether nobody could take the # for a part of the bay: it has letters and begins with a word.
 pub fn is_in_words(comment: &str) -> bool {
     comment.chars().any(char::is_alphabetic)
         && words(comment).next().is_some_and(|word| !is_label(word))

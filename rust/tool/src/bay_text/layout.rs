@@ -1,6 +1,8 @@
-//! Judges how the labels of one bay stand on a screen: nobody must see a hole, an aisle or a second bay where none is read.
+//! Judges how the labels of one bay stand on a screen: nobody must see a hole, an aisle or a
+//! second bay where none is read.
 
-use super::scan::{Label, Lines, Row};
+use super::scan::{Label, Row};
+use super::text::Lines;
 use crate::fault::Fault;
 
 /// Terminals go on to the next multiple of this at a tab.
@@ -58,7 +60,7 @@ fn evenly_apart(lines: &Lines, rows: &[Row]) -> Result<(), Fault> {
     }
 }
 
-// How many labels further one stands that comes after these blanks: each tab leads to the next, and so do two columns.
+// How many places further the next label stands: each tab leads to the next, and so do two columns.
 fn cells(blanks: &str) -> usize {
     match blanks.matches('\t').count() {
         0 => blanks.len().div_ceil(2),

@@ -1,6 +1,7 @@
 //! Finds the place in the text that a refusal of the builder speaks of.
 
-use super::scan::{quoted, Label};
+use super::scan::Label;
+use super::text::quoted;
 use super::BayText;
 use crate::bay::GAP;
 use crate::fault::{Fault, TextFault};

@@ -14,9 +14,11 @@ pub fn section(answered: &Answered) -> Result<String, Fault> {
     }
     Ok(format!(
         "<section>\n<h2>What this page is about</h2>\n\
-         <p>A bay of {}. Written by florumeja {VERSION} on {} (Universal Time).</p>\n<ul>\n{digests}</ul>\n\
-         <p>These are the digests of the files that <code>florumeja ask FILE --task TASK --weights WEIGHTS</code> \
-         keeps; <code>sha256sum TASK WEIGHTS</code> shows whether the files at hand are the same.</p>\n</section>\n",
+         <p>A bay of {}. Written by florumeja {VERSION} on {} (Universal Time).</p>\n\
+         <ul>\n{digests}</ul>\n\
+         <p>These are the digests of the files that <code>florumeja ask FILE --task TASK \
+         --weights WEIGHTS</code> keeps; <code>sha256sum TASK WEIGHTS</code> shows whether the \
+         files at hand are the same.</p>\n</section>\n",
         answered.bay.shape(),
         date::today()?
     ))

@@ -22,8 +22,8 @@ pub const TASK: Choice = Choice {
     help: "keep the task that they are about (for one bay)",
 };
 
-/// Keeps what the command line asks for, all of it or nothing, and says what was kept: nobody must take an older file
-/// for the evidence.
+/// Keeps what the command line asks for, all of it or nothing, and says what was kept: nobody must
+/// take an older file for the evidence.
 pub fn keep(arguments: &Arguments, answered: &Answered) -> Result<String, Fault> {
     let (weights, task) = (arguments.value(&WEIGHTS), arguments.value(&TASK));
     judge_names(weights, task)?;

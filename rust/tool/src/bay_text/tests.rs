@@ -1,0 +1,245 @@
+//! Texts of bays: those that are read, and those that are refused, each at its place.
+
+use super::*;
+
+fn fault(text: &str) -> String {
+    match BayText::read(text.as_bytes()) {
+        Ok(_) => "no fault".to_string(),
+        Err(fault) => fault.words(),
+    }
+}
+
+#[test]
+fn both_bays_are_read_row_by_row() {
+    let text = "# a comment\r\n\r\n1 2 # front\r\n. 3\r\n \r\n2\t1\r\n0 3\r\n\r\n";
+    let bay = BayText::read(text.as_bytes()).unwrap().bay();
+    assert_eq!((bay.rows, bay.columns), (2, 2));
+    assert_eq!(bay.start, [1, 2, 0, 3]);
+    assert_eq!(bay.goal, [2, 1, 0, 3]);
+    assert_eq!(bay.file(), [2, 2, 1, 2, 0, 3, 2, 1, 0, 3]);
+}
+
+#[test]
+fn faults_name_line_and_column() {
+    assert!(fault("1 x\n").starts_with("line 1, column 3: expected a label"));
+    assert!(fault("").starts_with("line 1, column 1: expected the bay as it stands"));
+    assert!(fault("1 .\n\n").starts_with("line 1, column 4: expected a blank line"));
+    assert!(fault("1 2\n.\n\n1 2\n. 3\n").starts_with("line 2, column 2: expected 2"));
+    assert!(fault("1 .\n\n. 1 2\n").starts_with("line 3, column 5: expected 2 labels"));
+    assert!(fault("1 .\n\n. 1\n\n1 .\n").starts_with("line 5, column 1: expected nothing"));
+    assert!(fault("1\n.\n\n.\n").starts_with("line 4, column 2: expected 2 rows"));
+}
+
+#[test]
+fn only_space_and_tab_are_blanks() {
+    let all = ('\0'..=char::MAX).filter(|other| other.is_whitespace());
+    for other in all.filter(|other| !matches!(other, ' ' | '\t' | '\n')) {
+        let found = format!(", found U+{:04X}", other as u32);
+        let at = |place: &str, text: String| {
+            let words = fault(&text);
+            assert!(
+                words.starts_with(place) && words.contains(&found),
+                "{words}"
+            );
+        };
+        let place =
+            "line 1, column 4: expected only digits, dots, spaces and tabs before a comment";
+        at(place, format!("1 2{other}3 .\n\n2 1 3 .\n"));
+        let place = "line 1, column 12: expected only plain letters and signs in a comment";
+        at(place, format!("1 2 # front{other}3 .\n"));
+    }
+    assert_eq!(fault("1\t2\n3 .\n\n\t \n2 1\n3 .\t \n"), "no fault");
+}
+
+#[test]
+fn a_carriage_return_stands_before_a_line_feed() {
+    assert_eq!(fault("1 .\r\n\r\n. 1\r\n"), "no fault");
+    assert!(fault("1 .\r\r\n\r\n. 1\r\n").starts_with("line 1, column 4"));
+    assert!(fault("1 .\n\r. 1\n").starts_with("line 2, column 1"));
+    assert!(fault("1 .\r\n\r\n. 1\r").starts_with("line 3, column 4"));
+    assert!(fault("1 2\r3 .\r\r2 1\r3 .\r").starts_with("line 1, column 4"));
+}
+
+#[test]
+fn what_is_not_seen_as_it_is_read_is_refused() {
+    let at = |place: &str, text: &str| {
+        let fault = fault(text);
+        assert!(fault.starts_with(place), "{text:?}: {fault}");
+    };
+    // A combining stroke, a fullwidth digit, a digit of another script, a byte order mark.
+    at(
+        "line 1, column 4: expected only digits",
+        "1 2\u{338}\n3 .\n",
+    );
+    at(
+        "line 1, column 3: expected only digits",
+        "1 \u{ff12}\n3 .\n",
+    );
+    at("line 1, column 3: expected only digits", "1 \u{662}\n3 .\n");
+    at(
+        "line 2, column 1: expected only digits",
+        "1 2\n\u{feff}3 .\n",
+    );
+    at(
+        "line 1, column 1: expected only digits",
+        "\u{feff}\u{feff}1 2\n",
+    );
+    // A letter or a mark that turns the line round, in a comment too.
+    at(
+        "line 1, column 7: expected only plain",
+        "1 2 # \u{5d0}\n3 .\n",
+    );
+    at("line 1, column 3: expected only plain", "# \u{202e}1 2\n");
+    // UTF-16 without its mark.
+    at("line 1, column 2: expected only digits", "1\0 \0.\0");
+    // A zero before a label; frames, commas and other gaps.
+    at(
+        "line 2, column 1: expected a label without a zero",
+        "1 2\n03\n",
+    );
+    at(
+        "line 1, column 1: expected a label (",
+        "| 1 | 2 |\n| 3 | . |\n",
+    );
+    at(
+        "line 1, column 1: expected a label (",
+        "+---+---+\n| 1 | . |\n",
+    );
+    at("line 1, column 1: expected a label (", "1,2\n3,.\n");
+    at("line 2, column 3: expected a label (", "1 2\n3 _\n");
+    at("line 2, column 3: expected a label (", "1 2\n3 O\n");
+}
+
+#[test]
+fn what_is_drawn_with_a_hash_is_no_comment() {
+    let at = |place: &str, text: &str| {
+        let fault = fault(text);
+        assert!(fault.starts_with(place), "{text:?}: {fault}");
+    };
+    at(
+        "line 1, column 3: expected a comment that begins",
+        "1 # 2\n. # 3\n",
+    );
+    at(
+        "line 1, column 5: expected a comment that begins",
+        "1 2 #\n. 3 #\n",
+    );
+    at(
+        "line 1, column 4: expected a comment that begins",
+        "1 2#3 front\n",
+    );
+    at(
+        "line 2, column 1: expected words in a comment between",
+        "1 2\n# # #\n. 3\n",
+    );
+    at(
+        "line 2, column 1: expected words in a comment between",
+        "1\n#\n.\n",
+    );
+    at(
+        "line 2, column 2: expected a comment in words",
+        "1 2\n # 3 4\n. 5\n",
+    );
+    at(
+        "line 2, column 1: expected a comment in words",
+        "####\n# 1 2 #\n# 3 . #\n####\n",
+    );
+    at(
+        "line 1, column 1: expected a comment in words",
+        "#1 #2\n#3 .\n",
+    );
+    let start = "#\n# 3 by 3, 2026-11-15\n# ---\n1 2 # front\n# the row at the back\n3 .\n#\n";
+    assert_eq!(fault(&format!("{start}\n# -----\n2 1\n3 .\n")), "no fault");
+}
+
+#[test]
+fn labels_stand_as_they_are_read() {
+    let uneven = |place: &str, text: &str| {
+        let words = fault(text);
+        let due = format!("{place}: expected labels evenly apart");
+        assert!(words.starts_with(&due), "{text:?}: {words}");
+    };
+    // 4 stands below the gap, and nothing below 2.
+    uneven("line 2, column 5", "1 2 .\n3   4 5\n\n1 2 .\n3 4 5\n");
+    uneven("line 5, column 5", "1 2\n3 .\n\n1 2\n3   .\n");
+    uneven("line 2, column 4", "1\t2\t.\n3\t\t4\t5\n\n1 2 .\n3 4 5\n");
+    // An aisle, and two bays side by side.
+    uneven(
+        "line 1, column 8",
+        "1 2    3 4\n5 6    7 .\n\n1 2 3 4\n5 6 7 .\n",
+    );
+    uneven(
+        "line 1, column 7",
+        "1 2   2 1\n3 .   3 .\n\n1 2   2 1\n3 .   3 .\n",
+    );
+    let begins = |text: &str| {
+        let words = fault(text);
+        assert!(
+            words.contains("to begin below each other"),
+            "{text:?}: {words}"
+        );
+    };
+    begins("1 2\n3 .\n\n1 2\n  3 .\n");
+    begins("  1 2\n3 .\n\n1 2\n3 .\n");
+    begins("1 2 .\n\t3 4 5\n\n1 2 .\n3 4 5\n");
+    // Records of eighty columns without line ends look like rows.
+    let records = ["1 2", "3 ."].map(|row| format!("{row:80}")).concat();
+    let words = fault(&format!("{records}\n\n{records}"));
+    assert!(words.starts_with("line 1, column 81: expected labels within 80 columns"));
+}
+
+#[test]
+fn uneven_blanks_do_no_harm_where_none_holds_a_label() {
+    let texts = [
+        "1  2\n 3 .\n\n1\t2\n3 .\n",
+        "1\t2 3\n4 5\t6\n7 8 .\n\n  1  2 3\n  4 5  6\n  7 8 .\n",
+        "1   2   3\n4   5   .\n\n1\t\t2\t\t3\n4\t\t5\t\t.\n",
+        "\t1 2 # front\n        3 .\n\n1 2\n3 .\n",
+    ];
+    for text in texts {
+        assert_eq!(fault(text), "no fault", "{text:?}");
+    }
+}
+
+#[test]
+fn bays_side_by_side_are_not_read_as_one() {
+    let words = fault("1 2   2 1\n3 .   3 .\n");
+    assert!(words.starts_with("line 2, column 10: expected a blank line"));
+}
+
+#[test]
+fn a_text_that_was_cut_is_refused_or_the_same() {
+    let text = "# pallets\r\n1 2 3\r\n4 5 .\r\n\r\n1 2 3\r\n5 4 .\r\n";
+    let whole = BayText::read(text.as_bytes()).unwrap().bay().file();
+    let mut same = 0;
+    for end in 0..text.len() {
+        if let Ok(cut) = BayText::read(&text.as_bytes()[..end]) {
+            assert_eq!(cut.bay().file(), whole);
+            same += 1;
+        }
+    }
+    // Only the last line end can be missing, and no half of it.
+    assert_eq!(same, 1);
+}
+
+#[test]
+fn bytes_that_are_no_text_are_named() {
+    let words = |bytes: &[u8]| BayText::read(bytes).err().unwrap().words();
+    assert_eq!(
+        words(b"1 2\n# Br\xfccke\n"),
+        "line 2, column 5: expected text in UTF-8, found the byte 0xfc, which is not UTF-8"
+    );
+    assert!(words(b"\xff\xfe1\0 \0").ends_with("which is not UTF-8; the text may be UTF-16"));
+}
+
+#[test]
+fn refusals_find_their_place() {
+    let place = |text: &str, number| {
+        let text = BayText::read(text.as_bytes()).unwrap();
+        text.place(Fault::Refused(number)).words()
+    };
+    assert!(place("1 2\n. 4\n\n1 2\n. 3\n", 3).starts_with("line 2, column 3"));
+    assert!(place("1 2\n. 3\n\n1 2\n. 2\n", 10).starts_with("line 5, column 3"));
+    assert!(place("1\n\n1\n", 2).starts_with("line 1, column 1"));
+    assert!(place("1 .\n\n. 1\n", 5).starts_with("refused 5"));
+}

@@ -42,6 +42,42 @@ pub unsafe extern "C" fn florumeja_find(
     0
 }
 
+/// An empty weight file, whatever the words are.
+///
+/// # Safety
+/// The room has to be writable, for as many bytes as its length says.
+#[no_mangle]
+pub unsafe extern "C" fn florumeja_weight_file(
+    _: *const u64,
+    _: usize,
+    room: *mut u8,
+    length: usize,
+) -> u64 {
+    write(b"\0", room, length)
+}
+
+/// The line of the verdict above.
+///
+/// # Safety
+/// The room has to be writable, for as many bytes as its length says.
+#[no_mangle]
+pub unsafe extern "C" fn florumeja_check_line(
+    _: *const u8,
+    _: usize,
+    _: *const u8,
+    _: usize,
+    room: *mut u8,
+    length: usize,
+) -> u64 {
+    write(b"rejected operator 5\n", room, length)
+}
+
+unsafe fn write(bytes: &[u8], room: *mut u8, length: usize) -> u64 {
+    assert!(length >= bytes.len());
+    room.copy_from_nonoverlapping(bytes.as_ptr(), bytes.len());
+    bytes.len() as u64
+}
+
 /// A task of no bytes; for three rows, an answer outside the table of answers.
 ///
 /// # Safety

@@ -25,12 +25,28 @@ extern "C" {
     ) -> u64;
     fn florumeja_build(bay: *const u8, bay_length: usize, room: *mut u8, room_length: usize)
         -> u64;
+    fn florumeja_weight_file(
+        words: *const u64,
+        words_length: usize,
+        room: *mut u8,
+        room_length: usize,
+    ) -> u64;
+    fn florumeja_check_line(
+        task: *const u8,
+        task_length: usize,
+        weights: *const u8,
+        weights_length: usize,
+        room: *mut u8,
+        room_length: usize,
+    ) -> u64;
 }
 
 // Room for the largest results that the rules' limits allow: 64 variables, 4,096 features, and in
 // a task file 16,383 operators of 64 entries. Room that is not used is never touched.
 const WORKSPACE_WORDS: usize = 1 + 3 * 64 + 64 * (1 + 4096);
 const TASK_BYTES: usize = 1 << 22;
+const WEIGHT_BYTES: usize = 2 * (1 + 4096);
+const LINE_BYTES: usize = 64;
 
 /// What one returned word says: its case and its value.
 #[derive(Clone, Copy)]
@@ -67,16 +83,6 @@ pub enum Verdict {
     Operator(u32),
 }
 
-impl Verdict {
-    pub fn words(&self) -> String {
-        match self {
-            Verdict::Accepted => "accepted".to_string(),
-            Verdict::EndsAlike => "rejected, ends alike".to_string(),
-            Verdict::Operator(number) => format!("rejected at operator {number}"),
-        }
-    }
-}
-
 /// Asks the checker whether the weights separate start from goal.
 pub fn check(task: &[u8], weights: &[u8]) -> Result<Verdict, Fault> {
     // SAFETY: both slices live through the call, which only reads them.
@@ -88,6 +94,26 @@ pub fn check(task: &[u8], weights: &[u8]) -> Result<Verdict, Fault> {
         Answer::Operator(number) => Ok(Verdict::Operator(number)),
         Answer::Refused(number) => Err(Fault::Refused(number)),
     }
+}
+
+/// The line that the checker's program prints for the same two files, without its line end.
+pub fn check_line(task: &[u8], weights: &[u8]) -> Result<String, Fault> {
+    let line = written("check_line", LINE_BYTES, |room: &mut [u8]| {
+        // SAFETY: all slices live through the call, and only the room is written.
+        unsafe {
+            florumeja_check_line(
+                task.as_ptr(),
+                task.len(),
+                weights.as_ptr(),
+                weights.len(),
+                room.as_mut_ptr(),
+                room.len(),
+            )
+        }
+    })?;
+    let line = String::from_utf8(line).ok();
+    let line = line.and_then(|line| line.strip_suffix('\n').map(str::to_string));
+    line.ok_or_else(|| Fault::Failure("the library's check_line wrote no line".into()))
 }
 
 /// A workspace that the library opened.
@@ -174,15 +200,26 @@ pub fn open(task: &[u8]) -> Result<Workspace, Fault> {
     Workspace::new(words).ok_or_else(misfit)
 }
 
+/// The least separating set of features.
+pub struct Weights {
+    /// The features, increasing.
+    pub features: Vec<usize>,
+    /// The same as a weight file.
+    pub file: Vec<u8>,
+}
+
 /// Looks for the least separating set of features; none is an answer, not a fault.
-pub fn find(workspace: &Workspace) -> Result<Option<Vec<usize>>, Fault> {
+pub fn find(workspace: &Workspace) -> Result<Option<Weights>, Fault> {
     let words = workspace.words();
     let mut room = vec![0u64; workspace.set_words()];
     // SAFETY: both slices live through the call, and only the room is written.
     let word =
         unsafe { florumeja_find(words.as_ptr(), words.len(), room.as_mut_ptr(), room.len()) };
     match answer("find", word)? {
-        Answer::Yes(_) => Ok(Some(members(&room))),
+        Answer::Yes(_) => Ok(Some(Weights {
+            features: members(&room),
+            file: weight_file(&room)?,
+        })),
         Answer::No => Ok(None),
         Answer::Refused(number) => Err(Fault::Refused(number)),
         Answer::Operator(_) => Err(unknown("find", word)),
@@ -194,6 +231,14 @@ pub fn build(bay: &[u8]) -> Result<Vec<u8>, Fault> {
     written("build", TASK_BYTES, |room| {
         // SAFETY: both slices live through the call, and only the room is written.
         unsafe { florumeja_build(bay.as_ptr(), bay.len(), room.as_mut_ptr(), room.len()) }
+    })
+}
+
+// The weight file of a set of features.
+fn weight_file(words: &[u64]) -> Result<Vec<u8>, Fault> {
+    written("weight_file", WEIGHT_BYTES, |room| {
+        // SAFETY: both slices live through the call, and only the room is written.
+        unsafe { florumeja_weight_file(words.as_ptr(), words.len(), room.as_mut_ptr(), room.len()) }
     })
 }
 

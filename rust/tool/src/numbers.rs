@@ -13,22 +13,21 @@ pub fn put(bytes: &mut Vec<u8>, number: usize) {
     }
 }
 
-/// The weight file that lists these features.
-pub fn weight_file(features: &[usize]) -> Vec<u8> {
-    let mut bytes = Vec::new();
-    put(&mut bytes, features.len());
-    features.iter().for_each(|&number| put(&mut bytes, number));
-    bytes
-}
-
 #[cfg(test)]
 mod tests {
     use super::*;
 
     #[test]
     fn numbers_take_the_shortest_form() {
-        assert_eq!(weight_file(&[0, 127]), [2, 0, 127]);
-        assert_eq!(weight_file(&[128]), [1, 0x80, 1]);
-        assert_eq!(weight_file(&[LARGEST]), [1, 0xff, 0x7f]);
+        let written = |number| {
+            let mut bytes = Vec::new();
+            put(&mut bytes, number);
+            bytes
+        };
+        assert_eq!(written(0), [0]);
+        assert_eq!(written(127), [127]);
+        assert_eq!(written(128), [0x80, 1]);
+        assert_eq!(written(LARGEST), [0xff, 0x7f]);
+        assert_eq!(written(usize::MAX), [0xff, 0x7f]);
     }
 }

@@ -5,8 +5,7 @@ use crate::bay_text::BayText;
 use crate::fault::Fault;
 use crate::features::Features;
 use crate::files;
-use crate::library::{self, Verdict, Workspace};
-use crate::numbers;
+use crate::library::{self, Verdict, Weights, Workspace};
 use crate::output::Status;
 use crate::words::parity;
 use std::ffi::OsStr;
@@ -56,24 +55,22 @@ pub fn ask(name: &OsStr) -> Result<Answered, Fault> {
 }
 
 // What the finder found counts only after the checker has accepted it.
-fn checked(task: &[u8], workspace: Workspace, weights: Vec<usize>) -> Result<Proof, Fault> {
-    let weight_file = numbers::weight_file(&weights);
-    let verdict = library::check(task, &weight_file)?;
-    if verdict != Verdict::Accepted {
+fn checked(task: &[u8], workspace: Workspace, found: Weights) -> Result<Proof, Fault> {
+    if library::check(task, &found.file)? != Verdict::Accepted {
+        let line = library::check_line(task, &found.file)?;
         return Err(Fault::Failure(format!(
-            "the checker did not accept what the finder found ({}), so nothing is said",
-            verdict.words()
+            "the checker did not accept what the finder found ({line}), so nothing is said"
         )));
     }
     let start = workspace.start();
     let goal = workspace.goal();
     let features = workspace.into_features();
     let proof = Proof {
-        true_at_start: features.true_in(&weights, &start),
-        true_at_goal: features.true_in(&weights, &goal),
+        true_at_start: features.true_in(&found.features, &start),
+        true_at_goal: features.true_in(&found.features, &goal),
         features,
-        weights,
-        weight_file,
+        weights: found.features,
+        weight_file: found.file,
     };
     agreed(proof)
 }

@@ -17,8 +17,9 @@ pub const COMMAND: Command = Command {
     about: "\
 Reads a task file and a weight file and prints the verdict of the checker:
 accepted (the weights separate start from goal, so the goal cannot be reached);
-rejected, ends alike (start and goal have the same parity); or rejected at
-operator N (the least operator that can change the parity, counted from 0).
+rejected ends alike (start and goal have the same parity); or rejected operator
+N (the least operator that can change the parity, counted from 0). It is the
+line that the library's own checker program prints.
 A rejection does not mean that the goal can be reached.",
     options: &[&JSON],
     statuses: &["accepted", "rejected"],
@@ -27,45 +28,47 @@ A rejection does not mean that the goal can be reached.",
 
 fn run(arguments: &Arguments) -> Status {
     match check(&arguments.files[0], &arguments.files[1]) {
-        Ok(verdict) => give(arguments, verdict),
+        Ok((verdict, line)) => give(arguments, verdict, &line),
         Err((name, fault)) => refuse(arguments, name, &fault),
     }
 }
 
 type Misfit<'a> = (&'a OsStr, Fault);
 
-fn check<'a>(task: &'a OsString, weights: &'a OsString) -> Result<Verdict, Misfit<'a>> {
+// The verdict, and the line that says it.
+fn check<'a>(task: &'a OsString, weights: &'a OsString) -> Result<(Verdict, String), Misfit<'a>> {
     if files::is_standard(task) && files::is_standard(weights) {
         let words = "only one of the two can be standard input";
         return Err((task, Fault::Failure(words.to_string())));
     }
     let task_bytes = files::read(task).map_err(|fault| (task.as_os_str(), fault))?;
     let weight_bytes = files::read(weights).map_err(|fault| (weights.as_os_str(), fault))?;
-    library::check(&task_bytes, &weight_bytes).map_err(|fault| {
+    let verdict = library::check(&task_bytes, &weight_bytes);
+    let said = |verdict| Ok((verdict, library::check_line(&task_bytes, &weight_bytes)?));
+    verdict.and_then(said).map_err(|fault| {
         // The task is judged first, so the weights are at fault exactly where it opens by itself.
         let (name, bytes) = match library::open(&task_bytes) {
-            Ok(_) => (weights, weight_bytes),
-            Err(_) => (task, task_bytes),
+            Ok(_) => (weights, &weight_bytes),
+            Err(_) => (task, &task_bytes),
         };
-        (name.as_os_str(), fault.about(&bytes))
+        (name.as_os_str(), fault.about(bytes))
     })
 }
 
-fn give(arguments: &Arguments, verdict: Verdict) -> Status {
-    let words = verdict.words();
-    tell(arguments, &words, &json(arguments, verdict, &words));
+fn give(arguments: &Arguments, verdict: Verdict, line: &str) -> Status {
+    tell(arguments, line, &json(arguments, verdict, line));
     match verdict {
         Verdict::Accepted => Status::Yes,
         Verdict::EndsAlike | Verdict::Operator(_) => Status::No,
     }
 }
 
-fn json(arguments: &Arguments, verdict: Verdict, words: &str) -> Json {
+fn json(arguments: &Arguments, verdict: Verdict, line: &str) -> Json {
     let name = |index: usize| Json::text(&arguments.files[index].to_string_lossy());
     let mut fields = vec![
         ("file", name(0)),
         ("weights", name(1)),
-        ("answer", Json::text(words)),
+        ("answer", Json::text(line)),
     ];
     if let Verdict::Operator(number) = verdict {
         fields.push(("operator", Json::number(number as usize)));

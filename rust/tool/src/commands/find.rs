@@ -6,8 +6,7 @@ use crate::args::{Arguments, JSON};
 use crate::fault::Fault;
 use crate::files;
 use crate::json::Json;
-use crate::library;
-use crate::numbers;
+use crate::library::{self, Weights};
 use crate::output::Status;
 use std::ffi::OsStr;
 
@@ -36,14 +35,14 @@ fn run(arguments: &Arguments) -> Status {
     }
 }
 
-fn find(name: &OsStr) -> Result<Option<Vec<usize>>, Fault> {
+fn find(name: &OsStr) -> Result<Option<Weights>, Fault> {
     let task = files::read(name)?;
     let workspace = library::open(&task).map_err(|fault| fault.about(&task))?;
     library::find(&workspace)
 }
 
-fn give(arguments: &Arguments, found: Option<Vec<usize>>) -> Result<Status, Fault> {
-    let Some(weights) = found else {
+fn give(arguments: &Arguments, found: Option<Weights>) -> Result<Status, Fault> {
+    let Some(Weights { features, file }) = found else {
         // There is no weight file to write.
         tell(
             arguments,
@@ -52,14 +51,14 @@ fn give(arguments: &Arguments, found: Option<Vec<usize>>) -> Result<Status, Faul
         );
         return Ok(Status::No);
     };
-    let numbers: Vec<String> = weights.iter().map(usize::to_string).collect();
-    let line = format!("separated {} {}", weights.len(), numbers.join(" "));
+    let numbers: Vec<String> = features.iter().map(usize::to_string).collect();
+    let line = format!("separated {} {}", features.len(), numbers.join(" "));
     let fields = vec![
-        ("count", Json::number(weights.len())),
-        ("weights", Json::numbers(&weights)),
+        ("count", Json::number(features.len())),
+        ("weights", Json::numbers(&features)),
     ];
     let json = json(arguments, "separated", fields);
-    deliver(arguments, &numbers::weight_file(&weights), &line, &json)?;
+    deliver(arguments, &file, &line, &json)?;
     Ok(Status::Yes)
 }
 

@@ -1,7 +1,7 @@
 // Checks the cases of standard input, one after another, and prints a line for each.
 ghost use Prim.Native.Nat.{_+_, _≤_};
 ghost use lib.ListN.{length};
-use text::Printed;
+use libc::STDOUT_FILENO;
 use verdicts::VERDICT_BYTES;
 
 // How many bytes say how long a file is.
@@ -28,13 +28,8 @@ fn file_end(bytes: &[u8], at: usize) -> usize
 // Prints the checker's line for a case.
 fn print(task: &[u8], weights: &[u8]) {
     let mut room = [0u8; VERDICT_BYTES];
-    match verdicts::line(task, weights, &mut room) {
-        Printed::Printed(end) => {
-            io::write_all(1, &room[..end]);
-        }
-        // The room is long enough for every line.
-        Printed::Refused(_) => {}
-    }
+    let printed = verdicts::line(task, weights, &mut room);
+    io::write_all(STDOUT_FILENO, text::line_in(printed, &room));
 }
 
 fn main() {

@@ -4,7 +4,6 @@ ghost use mathlib.Core.Path.{_≡_};
 ghost use Rattle.io.specs.Counts.{Counts};
 use libc::STDERR_FILENO;
 use libc::STDOUT_FILENO;
-use text::Printed;
 use verdicts::MOST_TASK;
 use verdicts::VERDICT_BYTES;
 
@@ -71,13 +70,8 @@ fn load(argument: usize, bytes: &mut [u8]) -> Loaded
 // Prints the line for the two files.
 fn print(task: &[u8], weights: &[u8]) {
     let mut room = [0u8; VERDICT_BYTES];
-    match verdicts::program_line(task, weights, &mut room) {
-        Printed::Printed(end) => {
-            io::write_all(STDOUT_FILENO, &room[..end]);
-        }
-        // The room is long enough for every line.
-        Printed::Refused(_) => {}
-    }
+    let printed = verdicts::program_line(task, weights, &mut room);
+    io::write_all(STDOUT_FILENO, text::line_in(printed, &room));
 }
 
 // Checks the second file against the first, in the room that each has.

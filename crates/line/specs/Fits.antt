@@ -19,10 +19,8 @@ use Rattle.theory.specs.Truth.{on, off, test, clash}
 use Rattle.theory.specs.Search.{or-right}
 use Rattle.theory.specs.Run.{run-length}
 use Rattle.decimal.specs.Decimal.{wordWidth, words-few}
-use Rattle.text.specs.Answer.{printedOf, line-of-written, line-of-ends}
+use Rattle.text.specs.Answer.{line-of-written}
 use Rattle.text.specs.Parts.{refused-few, refusal-short}
-use Rattle.text.specs.declared.Printed.{Printed}
-use Rattle.text.specs.declared.Printed.the-variants as printed
 use Rattle.finding.specs.declared.Found.{Found}
 use Rattle.finding.specs.declared.Found.the-variants.{Separated, Nothing, Refused}
 use Rattle.line.specs.Answer.{Lines, soughtOf}
@@ -88,12 +86,7 @@ line-short input (done (separating fs)) prints =
 line-short input (done nothing) prints = omega arith
 line-short input (refused number) prints = omega (arith, refused-few number)
 
--- A room as long as that is never refused, and the line ends within it.
-module _ (input room : List ℕ) (long : lineBytes ≤ length room) where
-  pub lines-written : (outcome : Outcome ℕ) → Lines input room outcome
-      → (answer : Answer Answered) × Prints input answer × (outcome ≡ writes (length (line answer)) (line answer) room)
-  lines-written = line-of-written (Prints input) line room lineBytes (line-short input) long
-
-  pub line-ends : (left : List ℕ) (result : Printed) (end : ℕ) → Lines input room (record { answer = printedOf result; lent = left })
-      → result ≡ printed.Printed end → end ≤ length room
-  line-ends = line-of-ends (Prints input) line room lineBytes (line-short input) long
+-- A room as long as that is never refused.
+pub lines-written : (input room : List ℕ) → lineBytes ≤ length room → (outcome : Outcome ℕ) → Lines input room outcome
+    → (answer : Answer Answered) × Prints input answer × (outcome ≡ writes (length (line answer)) (line answer) room)
+lines-written input room = line-of-written (Prints input) line room lineBytes (line-short input)

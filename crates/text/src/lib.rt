@@ -7,7 +7,7 @@ ghost use Rattle.meaning.specs.Line.{mostDigits, word, refusedLine};
 ghost use Rattle.meaning.specs.Answer.{delivered};
 ghost use Rattle.decimal.specs.Decimal.{wordWidth};
 ghost use Rattle.decimal.specs.Written.{Written};
-ghost use Rattle.text.specs.Answer.{printedOf};
+ghost use Rattle.text.specs.Answer.{printedOf, EndsWithin, lineIn};
 ghost use Rattle.text.specs.Parts.{refusedBytes};
 use number::Reason;
 
@@ -56,4 +56,15 @@ pub fn deliver(text: &[u8], room: &mut [u8]) -> Printed
         return Printed::Refused(number::refusal(Reason::Small));
     }
     Printed::Printed(put(room, 0, text))
+}
+
+// The line that stands in front of a room; nothing where the room was too short for it.
+pub fn line_in<'a>(printed: Printed, room: &'a [u8]) -> &'a [u8]
+    requires { ⌜ EndsWithin (length (now room)) printed ⌝ }
+    ensures { λ r. ⌜ now r ≡ lineIn printed (now (room .entry)) ⌝ }
+{
+    match printed {
+        Printed::Printed(end) => &room[..end],
+        Printed::Refused(_) => &room[..0],
+    }
 }

@@ -16,10 +16,8 @@ use Rattle.meaning.specs.Line.{mostDigits, word, ChecksFiles, verdictLine}
 use Rattle.theory.specs.Accepted as theory
 use Rattle.decimal.specs.Decimal.{wordWidth, word-few}
 use Rattle.text.specs.Allowed.{is-good, if-good, read-good}
-use Rattle.text.specs.Answer.{printedOf, line-of-written, line-of-ends}
+use Rattle.text.specs.Answer.{line-of-written}
 use Rattle.text.specs.Parts.{refused-few, refusal-short}
-use Rattle.text.specs.declared.Printed.{Printed}
-use Rattle.text.specs.declared.Printed.the-variants as printed
 use Rattle.verdicts.specs.Answer.{VerdictLines, FileLines}
 
 -- ---- numbers
@@ -64,20 +62,12 @@ verdict-few (done endsAlike) = omega arith
 verdict-few (done (breaks j)) = omega (arith, length-append (word j) (10 ∷ []), word-few j)
 verdict-few (refused number) = omega (arith, refused-few number)
 
--- A room as long as that is never refused, and the line ends within it.
+-- A room as long as that is never refused.
 module _ (task weights room : List ℕ) (long : verdictBytes ≤ length room) where
   pub verdict-lines-written : (outcome : Outcome ℕ) → VerdictLines task weights room outcome
       → (answer : Answer Verdict) × Checks task weights answer × (outcome ≡ writes (length (verdictLine answer)) (verdictLine answer) room)
   verdict-lines-written = line-of-written (Checks task weights) verdictLine room verdictBytes (λ answer h. verdict-few answer) long
 
-  pub verdict-line-ends : (left : List ℕ) (result : Printed) (end : ℕ) → VerdictLines task weights room (record { answer = printedOf result; lent = left })
-      → result ≡ printed.Printed end → end ≤ length room
-  verdict-line-ends = line-of-ends (Checks task weights) verdictLine room verdictBytes (λ answer h. verdict-few answer) long
-
   pub file-lines-written : (outcome : Outcome ℕ) → FileLines task weights room outcome
       → (answer : Answer Verdict) × ChecksFiles task weights answer × (outcome ≡ writes (length (verdictLine answer)) (verdictLine answer) room)
   file-lines-written = line-of-written (ChecksFiles task weights) verdictLine room verdictBytes (λ answer h. verdict-few answer) long
-
-  pub file-line-ends : (left : List ℕ) (result : Printed) (end : ℕ) → FileLines task weights room (record { answer = printedOf result; lent = left })
-      → result ≡ printed.Printed end → end ≤ length room
-  file-line-ends = line-of-ends (ChecksFiles task weights) verdictLine room verdictBytes (λ answer h. verdict-few answer) long

@@ -2,7 +2,7 @@
 // is closed under it, whether a state holds a pair.
 ghost use mathlib.Core.Path.{_≡_};
 ghost use mathlib.Core.Logic.{_≢_};
-ghost use mathlib.Core.Bool.{true, false, not, _&&_};
+ghost use mathlib.Core.Bool.{not, _&&_};
 ghost use mathlib.Core.List.{List};
 ghost use Prim.Native.Nat.{ℕ, _+_, _*_, _<_, _≤_};
 ghost use lib.ListN.{length};
@@ -22,7 +22,6 @@ ghost use Rattle.pairs.specs.None.{Suffices};
 ghost use Rattle.pairs.specs.Fill.{freeAtoms, Added, Lacks};
 ghost use Rattle.pairs.specs.Walk.{Found};
 use numbering::Block;
-use words::WORD_BITS;
 
 // A listed pair with its block; past the last one, a number that is no feature's.
 pub struct PairAt {
@@ -57,14 +56,6 @@ pub fn is_paired(sizes: &[u64], pairs: &[u64], i: usize, x: usize, j: usize, y: 
     ensures { λ r. ⌜ r ≡ paired (now (sizes .entry)) (has (now (pairs .entry))) i x j y ⌝ }
 {
     words::has(pairs, numbering::both(sizes, i, x, j, y))
-}
-
-// Whether no pair is listed, in which case nothing need be looked up.
-fn is_empty(sizes: &[u64], pairs: &[u64]) -> bool
-    requires { ⌜ Listed (now sizes) (now pairs) ⌝ }
-    ensures { λ r. ⌜ (r ≡ true → (f : ℕ) → has (now (pairs .entry)) f ≡ false) ⌝ }
-{
-    words::next_member(pairs, 0) == WORD_BITS * pairs.len()
 }
 
 // Whether one of the first n atoms is paired with the atom of value y of another variable u: a look at each of them.
@@ -105,7 +96,7 @@ fn is_paired_within(
         × (u < length (now sizes)) × (y < size (now sizes) u) ⌝ }
     ensures { λ r. ⌜ r ≡ pairedWithin (now (sizes .entry)) (has (now (pairs .entry))) (now (variables .entry)) (now (values .entry)) n u y ⌝ }
 {
-    !is_empty(sizes, pairs) && is_paired_among(sizes, pairs, variables, values, n, u, y)
+    !words::is_empty(pairs) && is_paired_among(sizes, pairs, variables, values, n, u, y)
 }
 
 // How many atoms have to be looked at: none where no pair is listed.
@@ -113,7 +104,7 @@ fn looks(sizes: &[u64], pairs: &[u64], variables: &[usize]) -> usize
     requires { ⌜ Listed (now sizes) (now pairs) ⌝ }
     ensures { λ r. ⌜ Suffices (now (sizes .entry)) (has (now (pairs .entry))) (now (variables .entry)) r ⌝ }
 {
-    if is_empty(sizes, pairs) {
+    if words::is_empty(pairs) {
         return 0;
     }
     variables.len()
@@ -387,5 +378,5 @@ pub fn holds(sizes: &[u64], pairs: &[u64], state: &[u64]) -> bool
     requires { ⌜ Listed (now sizes) (now pairs) × State (now sizes) (now state) ⌝ }
     ensures { λ r. ⌜ r ≡ holds (now (sizes .entry)) (has (now (pairs .entry))) (now (state .entry)) ⌝ }
 {
-    !is_empty(sizes, pairs) && holds_among(sizes, pairs, state)
+    !words::is_empty(pairs) && holds_among(sizes, pairs, state)
 }

@@ -16,7 +16,7 @@ returns : tie.Need-returns
 returns c = search needs
 
 returns-2 : tie.Need-returns-2
-returns-2 c = c .if1 .left ∙ sym (none-held _ _ (c .before .is-empty .ensures (not-false _ (c .if1 .left))) _)
+returns-2 c = c .if1 .left ∙ sym (none-held _ _ (c .before .is-empty .ensures .yes (not-false _ (c .if1 .left))) _)
 
 pub holds-spec : {M : Type 1} → statement M
 holds-spec = tie.close (tie.spec is-empty-requires holds-among-requires returns returns-2)

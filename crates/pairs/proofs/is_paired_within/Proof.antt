@@ -16,7 +16,7 @@ returns : tie.Need-returns
 returns c = search needs
 
 returns-2 : tie.Need-returns-2
-returns-2 c = c .if1 .left ∙ sym (none-paired _ _ (c .before .is-empty .ensures (not-false _ (c .if1 .left))) _ _ _ _ _)
+returns-2 c = c .if1 .left ∙ sym (none-paired _ _ (c .before .is-empty .ensures .yes (not-false _ (c .if1 .left))) _ _ _ _ _)
 
 pub is-paired-within-spec : {M : Type 1} → statement M
 is-paired-within-spec =

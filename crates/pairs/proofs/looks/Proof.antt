@@ -8,7 +8,7 @@ is-empty-requires : tie.Need-is-empty-requires
 is-empty-requires c κs = search needs
 
 returns : tie.Need-returns
-returns c = none-suffices _ _ (c .before .is-empty .ensures (c .if1 .taken)) _
+returns c = none-suffices _ _ (c .before .is-empty .ensures .yes (c .if1 .taken)) _
 
 returns-2 : tie.Need-returns-2
 returns-2 c = search needs

@@ -6,6 +6,10 @@
  *     rt staticlib florumeja
  *     cc -std=c99 -I include program.c target/staticlib/libflorumeja.a -o program
  *
+ * or, once `./florumeja install PREFIX` has put it where pkg-config looks:
+ *
+ *     cc -std=c99 program.c $(pkg-config --cflags --libs florumeja) -o program
+ *
  * Every call takes every input: there is no file, workspace or length that it must not be given. What the caller owes is memory:
  *
  *   - A slice is a pointer and then its length, in elements (bytes or 64-bit words). The pointer is valid for so many elements, aligned for

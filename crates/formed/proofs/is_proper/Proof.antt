@@ -8,6 +8,10 @@ use Rattle.formed.specs.Parts.{cut-small, cut-bounds, cut-listed, cut-pa
 use Rattle.formed.proofs.is_proper.Statement.{statement}
 use Rattle.formed.proofs.is_proper.Tie as tie
 
+-- What the call began with.
+abbrev start : tie.After-atoms → tie.Start
+start c = c .before .before .before .before .before .before .before .before .before .before
+
 is-state-requires : tie.Need-is-state-requires
 is-state-requires c κs = search needs
 
@@ -24,16 +28,16 @@ atoms-requires : tie.Need-atoms-requires
 atoms-requires c κs = cut-small (c .before .before .before .before .before .before .before .before .before .pre)
 
 are-within-requires : tie.Need-are-within-requires
-are-within-requires c κs = let cut = c .before .before .before .before .before .before .before .before .before .before .pre in
+are-within-requires c κs = let cut = start c .pre in
     (cut .words, rw (← (c .atoms .ensures)) at (cut-bounds cut .0), cut-bounds cut .1)
 
 returns-3 : tie.Need-returns-3
-returns-3 c = told-no (λ p. tells-no (cut-pairs (c .before .before .before .before .before .before .before .before .before .before .before .before .pre) _
+returns-3 c = told-no (λ p. tells-no (cut-pairs (start (c .before .before) .pre) _
     (c .before .before .atoms .ensures) (c .before .are-within .ensures)) (not-true _ (c .if3 .taken)) (p .pairs))
 
 holds-requires : tie.Need-holds-requires
 holds-requires c κs = (
-  cut-listed (c .before .before .before .before .before .before .before .before .before .before .before .before .pre),
+  cut-listed (start (c .before .before) .pre),
   c .before .before .before .before .before .before .is-state .ensures .yes (not-false _ (c .before .before .before .before .before .if1 .left)),
 )
 
@@ -44,7 +48,7 @@ is-reduced-requires : tie.Need-is-reduced-requires
 is-reduced-requires c κs = search needs
 
 returns-5 : tie.Need-returns-5
-returns-5 c = let s = c .before .before .before .before .before .before in let cut = s .before .before .before .before .before .before .before .before .before .pre in
+returns-5 c = let s = c .before .before .before .before .before .before in let cut = start (c .before .before .before .before .before) .pre in
     cut-proper cut (s .before .before .before .is-state .ensures .yes (not-false _ (s .before .before .if1 .left))) (s .before .is-state2 .ensures .yes (not-false _ (s .if2 .left)))
     (cut-pairs cut _ (c .before .before .before .before .before .atoms .ensures) (c .before .before .before .before .are-within .ensures) .yes (not-false _ (c .before .before .before .if3 .left)))
     (sym (c .before .before .holds .ensures) ∙ c .before .if4 .left) (c .is-reduced .ensures)

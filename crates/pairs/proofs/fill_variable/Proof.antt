@@ -18,10 +18,17 @@ Inv-loop sizes pairs variables befores u possible₀ n start d y₀ possible y =
 abbrev μ-loop : tie.MeasureT-loop
 μ-loop sizes pairs variables befores u possible₀ n start d y₀ possible y = d - y
 
+-- What the call began with, and how many atoms are looked at.
+abbrev start : tie.In-loop Inv-loop μ-loop → tie.Start Inv-loop μ-loop
+start c = c .before .before .before .before .before .before .before .before .before .before
+
+abbrev looked : tie.In-loop Inv-loop μ-loop → tie.After-looks Inv-loop μ-loop
+looked c = c .before .before .before .before
+
 -- Where the atom of the value y stands.
-atom : (c : tie.In-loop Inv-loop μ-loop) → let a = c .before .before .before .before .before .before .before .before .before .before .args in
+atom : (c : tie.In-loop Inv-loop μ-loop) → let a = start c .args in
     ValueAt (a .sizes .now) (a .possible .now) (a .u) (c .before .loop .y) (c .before .before .before .single .result + c .before .loop .y)
-atom c = let (h, a, d, l, r, k) = c .before .before .before .before .before .before .before .before .before .before .pre in
+atom c = let (h, a, d, l, r, k) = start c .pre in
     value-at _ _ _ _ _ _ (h .limits) r (c .before .before .before .single .ensures) (c .before .before .size .ensures) (c .loop-test .taken)
 
 looks-requires : tie.Need-looks-requires Inv-loop μ-loop
@@ -37,8 +44,8 @@ loop-holds : tie.Need-loop-holds Inv-loop μ-loop
 loop-holds c = (omega arith, free-start _ _ _ _ _ _)
 
 is-paired-among-requires : tie.Need-is-paired-among-requires Inv-loop μ-loop
-is-paired-among-requires c κs = let (h, a, d, l, r, k) = c .before .before .before .before .before .before .before .before .before .before .pre in
-    (h, a, c .before .before .before .before .looks .ensures .few, (λ i j. d i (omega (arith, c .before .before .before .before .looks .ensures .few))), l, omega (arith, c .before .before .size .ensures))
+is-paired-among-requires c κs = let (h, a, d, l, r, k) = start c .pre in
+    (h, a, looked c .looks .ensures .few, (λ i j. d i (omega (arith, looked c .looks .ensures .few))), l, omega (arith, c .before .before .size .ensures))
 
 add-toggle : tie.Need-add-toggle Inv-loop μ-loop
 add-toggle c = omega (arith, atom (c .before .before .before) .small)
@@ -53,12 +60,12 @@ loop-less : tie.Need-loop-less Inv-loop μ-loop
 loop-less c = omega arith
 
 loop-again : tie.Need-loop-again Inv-loop μ-loop
-loop-again c = let (h, a, d, l, r, k) = c .before .before .before .before .before .before .before .before .before .before .before .before .pre in (
+loop-again c = let (h, a, d, l, r, k) = start (c .before .before) .pre in (
   omega arith,
   ⊎-elim
       (λ x. free-put _ _ _ _ _ _ _ _ (c .before .before .before .loop .inv .1) _ _ r k (omega (arith, c .before .before .before .before .size .ensures))
-      (sym (c .before .is-paired-among .ensures ∙ c .before .before .before .before .before .before .looks .ensures .same _ _ _) ∙ not-true _ (x .0 .taken)) (atom (c .before .before) .number) (x .5 ∙ x .2 .ensures))
-      (λ x. free-skip _ _ _ _ _ _ _ _ (c .before .before .before .loop .inv .1) _ (sym (c .before .is-paired-among .ensures ∙ c .before .before .before .before .before .before .looks .ensures .same _ _ _) ∙ not-false _ (x .0 .left)) (x .1))
+      (sym (c .before .is-paired-among .ensures ∙ looked (c .before .before) .looks .ensures .same _ _ _) ∙ not-true _ (x .0 .taken)) (atom (c .before .before) .number) (x .5 ∙ x .2 .ensures))
+      (λ x. free-skip _ _ _ _ _ _ _ _ (c .before .before .before .loop .inv .1) _ (sym (c .before .is-paired-among .ensures ∙ looked (c .before .before) .looks .ensures .same _ _ _) ∙ not-false _ (x .0 .left)) (x .1))
       (c .if1 .came),
 )
 

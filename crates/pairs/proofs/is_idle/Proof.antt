@@ -12,7 +12,7 @@ returns : tie.Need-returns
 returns c = sym (idle-clashing _ _ _ _ _ (sym (c .before .is-clashing .ensures) ∙ c .if1 .taken))
 
 is-stuck-requires : tie.Need-is-stuck-requires
-is-stuck-requires c κs = (c .before .before .before .before .before .before .before .before .pre .0 .limits, c .before .before .before .before .before .before .before .before .pre .1 .room)
+is-stuck-requires c κs = let (ready, table) = c .before .before .before .before .before .before .before .before .pre in (ready .limits, table .room)
 
 returns-2 : tie.Need-returns-2
 returns-2 c = c .is-stuck .ensures _ _ ∙ sym (idle-stuck _ _ _ _ _ _ (c .before .before .before .before .before .before .before .before .before .pre .1)

@@ -62,6 +62,9 @@ pairs-of s = start s .args .pairs .now
 room : (c : tie.After-read-operator Inv-loop μ-loop Inv-walk μ-walk) → Room (c .read-operator .result .operator)
 room c = record { variables = search needs; befores = search needs; afters = search needs }
 
+held : (s : tie.After-step Inv-loop μ-loop Inv-walk μ-walk) → Room (s .before .before .read-operator .result .operator)
+held s = room (s .before .before)
+
 abbrev operator-of : tie.After-step Inv-loop μ-loop Inv-walk μ-walk → Operator
 operator-of s = let o = s .before .before .read-operator .result .operator in entriesIn (take (o .count) (o .variables)) (take (o .count) (o .befores)) (take (o .count) (o .afters))
 
@@ -76,14 +79,14 @@ is : (s : tie.After-step Inv-loop μ-loop Inv-walk μ-walk) → IsOperator (size
 is s = operator-is _ _ _ _ _ (read s)
 
 parts : (s : tie.After-step Inv-loop μ-loop Inv-walk μ-walk) → there s ≡ got (operator-of s) (s .step .given .0 .0)
-parts s = slices-read (room (s .before .before)) (start s .pre) (is s) _ _ _ (read s)
+parts s = slices-read (held s) (start s .pre) (is s) _ _ _ (read s)
 
 few : (s : tie.After-step Inv-loop μ-loop Inv-walk μ-walk) → s .before .before .read-operator .result .operator .count ≤ mostVariables
-few s = count-room (room (s .before .before)) (start s .pre) (is s)
+few s = count-room (held s) (start s .pre) (is s)
 
 ready : (s : tie.After-step Inv-loop μ-loop Inv-walk μ-walk) → let o = s .before .before .read-operator .result .operator in
     Ready (sizes-of s) (pairs-of s) (take (o .count) (o .variables)) (take (o .count) (o .befores)) (take (o .count) (o .afters))
-ready s = slices-ready (room (s .before .before)) (start s .pre) (is s)
+ready s = slices-ready (held s) (start s .pre) (is s)
 
 -- The end of the inner walk is N.
 all : (s : tie.After-step Inv-loop μ-loop Inv-walk μ-walk) → s .before .before .before .before .before .features .result ≡ features (sizes-of s)
@@ -124,22 +127,22 @@ enum-told : tie.Need-enum-told Inv-loop μ-loop Inv-walk μ-walk
 enum-told c = search needs
 
 array-share-prefix-all-variables : tie.Need-array-share-prefix-all-variables Inv-loop μ-loop Inv-walk μ-walk
-array-share-prefix-all-variables c = omega (arith, few (c .before .before .before .before), room (c .before .before .before .before .before .before) .variables)
+array-share-prefix-all-variables c = let s = c .before .before .before .before in omega (arith, few s, held s .variables)
 
 slice-aggregate-variables : tie.Need-slice-aggregate-variables Inv-loop μ-loop Inv-walk μ-walk
-slice-aggregate-variables c = sym (length-take-le _ _ (omega (arith, few (c .before .before .before .before .before), room (c .before .before .before .before .before .before .before) .variables)))
+slice-aggregate-variables c = let s = c .before .before .before .before .before in sym (length-take-le _ _ (omega (arith, few s, held s .variables)))
 
 array-share-prefix-all-befores : tie.Need-array-share-prefix-all-befores Inv-loop μ-loop Inv-walk μ-walk
-array-share-prefix-all-befores c = omega (arith, few (c .before .before .before .before .before), room (c .before .before .before .before .before .before .before) .befores)
+array-share-prefix-all-befores c = let s = c .before .before .before .before .before in omega (arith, few s, held s .befores)
 
 slice-aggregate-befores : tie.Need-slice-aggregate-befores Inv-loop μ-loop Inv-walk μ-walk
-slice-aggregate-befores c = sym (length-take-le _ _ (omega (arith, few (c .before .before .before .before .before .before), room (c .before .before .before .before .before .before .before .before) .befores)))
+slice-aggregate-befores c = let s = c .before .before .before .before .before .before in sym (length-take-le _ _ (omega (arith, few s, held s .befores)))
 
 array-share-prefix-all-afters : tie.Need-array-share-prefix-all-afters Inv-loop μ-loop Inv-walk μ-walk
-array-share-prefix-all-afters c = omega (arith, few (c .before .before .before .before .before .before), room (c .before .before .before .before .before .before .before .before) .afters)
+array-share-prefix-all-afters c = let s = c .before .before .before .before .before .before in omega (arith, few s, held s .afters)
 
 slice-aggregate-afters : tie.Need-slice-aggregate-afters Inv-loop μ-loop Inv-walk μ-walk
-slice-aggregate-afters c = sym (length-take-le _ _ (omega (arith, few (c .before .before .before .before .before .before .before), room (c .before .before .before .before .before .before .before .before .before) .afters)))
+slice-aggregate-afters c = let s = c .before .before .before .before .before .before .before in sym (length-take-le _ _ (omega (arith, few s, held s .afters)))
 
 slice-aggregate-fill-possible : tie.Need-slice-aggregate-fill-possible Inv-loop μ-loop Inv-walk μ-walk
 slice-aggregate-fill-possible c = search needs

@@ -7,19 +7,26 @@ use Rattle.task.specs.Answer.{Fronted, Cuts, front-told, front-refused, 
 use Rattle.task.proofs.judge.Statement.{statement}
 use Rattle.task.proofs.judge.Tie as tie
 
+-- What the call began with.
+abbrev start : tie.After-variables → tie.Start
+start c = c .before .before .before .before .before .before .before .before
+
 -- What is known of the front that was read.
 known : (c : tie.After-variables) → let told = c .variables .given .0 in
-    Fronted (c .before .before .before .before .before .before .before .before .args .bytes .now) (c .before .before .before .before .before .before .before .before .args .header .now)
+    Fronted (start c .args .bytes .now) (start c .args .header .now)
     (c .before .before .before .before .read-header .last .1 .0) (told .0) (told .1 .0) (told .1 .1 .0) (told .1 .1 .1 .0)
 known c = front-told _ _ _ _ (c .before .before .before .before .read-header .ensures) _ _ _ _ (c .variables .given .1)
 
+abbrev front : tie.After-slots-at → tie.After-variables
+front c = c .before .before .before .before .before
+
 -- Where its parts begin and end.
-cuts : (c : tie.After-slots-at) → let told = c .before .before .before .before .before .variables .given .0 in
+cuts : (c : tie.After-slots-at) → let told = front c .variables .given .0 in
     Cuts (told .0) (told .1 .0) (c .before .before .before .start-at .result) (c .before .before .goal-at .result) (c .before .pairs-at .result) (c .slots-at .result)
 cuts c = record { start-is = c .before .before .before .start-at .ensures; goal-is = c .before .before .goal-at .ensures; pairs-is = c .before .pairs-at .ensures; end-is = c .slots-at .ensures }
 
-room : (c : tie.After-slots-at) → c .slots-at .result ≤ length (c .before .before .before .before .before .before .before .before .before .read-header .last .1 .0)
-room c = omega (arith, c .slots-at .ensures, fronted-room _ _ _ _ _ _ _ (known (c .before .before .before .before .before)))
+room : (c : tie.After-slots-at) → c .slots-at .result ≤ length (front c .before .before .before .before .read-header .last .1 .0)
+room c = omega (arith, c .slots-at .ensures, fronted-room _ _ _ _ _ _ _ (known (front c)))
 
 read-header-requires : tie.Need-read-header-requires
 read-header-requires c κs = search needs
@@ -49,7 +56,7 @@ part-judge-rest-end : tie.Need-part-judge-rest-end
 part-judge-rest-end c = omega (arith, cuts (c .before) .start-is, cuts (c .before) .end-is, room (c .before))
 
 mul-judge-rest : tie.Need-mul-judge-rest
-mul-judge-rest c = omega (arith, cuts (c .before .before) .start-is, fronted-limits _ _ _ _ _ _ _ (known (c .before .before .before .before .before .before .before)) .0)
+mul-judge-rest c = omega (arith, cuts (c .before .before) .start-is, fronted-limits _ _ _ _ _ _ _ (known (front (c .before .before))) .0)
 
 sub-judge-rest-2 : tie.Need-sub-judge-rest-2
 sub-judge-rest-2 c = omega (arith, cuts (c .before .before) .start-is, cuts (c .before .before) .goal-is)
@@ -61,7 +68,7 @@ part-judge-rest-end-2 : tie.Need-part-judge-rest-end-2
 part-judge-rest-end-2 c = omega (arith, cuts (c .before .before) .goal-is, cuts (c .before .before) .end-is, room (c .before .before))
 
 mul-judge-rest-2 : tie.Need-mul-judge-rest-2
-mul-judge-rest-2 c = omega (arith, cuts (c .before .before .before) .pairs-is, fronted-limits _ _ _ _ _ _ _ (known (c .before .before .before .before .before .before .before .before)) .0)
+mul-judge-rest-2 c = omega (arith, cuts (c .before .before .before) .pairs-is, fronted-limits _ _ _ _ _ _ _ (known (front (c .before .before .before))) .0)
 
 sub-judge-rest-3 : tie.Need-sub-judge-rest-3
 sub-judge-rest-3 c = omega (arith, cuts (c .before .before .before) .pairs-is, cuts (c .before .before .before) .end-is)
@@ -73,7 +80,7 @@ part-judge-rest-end-3 : tie.Need-part-judge-rest-end-3
 part-judge-rest-end-3 c = room (c .before .before .before)
 
 judge-rest-requires : tie.Need-judge-rest-requires
-judge-rest-requires c κs = lent-ready _ _ _ _ _ _ _ (known (c .before .before .before .before .before .before .before .before .before)) _ _ _ _ (cuts (c .before .before .before .before))
+judge-rest-requires c κs = lent-ready _ _ _ _ _ _ _ (known (front (c .before .before .before .before))) _ _ _ _ (cuts (c .before .before .before .before))
 
 enum-told : tie.Need-enum-told
 enum-told c = search needs
@@ -88,15 +95,15 @@ same-length : tie.Need-same-length
 same-length c = search needs
 
 returns : tie.Need-returns
-returns c = rest-accepted _ _ _ _ _ _ _ (known (c .before .before .before .before .before .before .before .before .before .before .before .before)) _ _ _ _
-    (cuts (c .before .before .before .before .before .before .before)) _ (c .before .before .judge-rest .ensures) _ (c .enum-told .given .1)
+returns c = let s = c .before .before .before .before .before .before .before in
+    rest-accepted _ _ _ _ _ _ _ (known (front s)) _ _ _ _ (cuts s) _ (c .before .before .judge-rest .ensures) _ (c .enum-told .given .1)
 
 same-length-2 : tie.Need-same-length-2
 same-length-2 c = search needs
 
 returns-2 : tie.Need-returns-2
-returns-2 c = rest-refused _ _ _ _ _ _ _ (known (c .before .before .before .before .before .before .before .before .before .before .before .before .before)) _ _ _ _
-    (cuts (c .before .before .before .before .before .before .before .before)) _ (c .before .before .before .judge-rest .ensures) _ _ (c .before .reason .given .1)
+returns-2 c = let s = c .before .before .before .before .before .before .before .before in
+    rest-refused _ _ _ _ _ _ _ (known (front s)) _ _ _ _ (cuts s) _ (c .before .before .before .judge-rest .ensures) _ _ (c .before .reason .given .1)
 
 same-length-3 : tie.Need-same-length-3
 same-length-3 c = search needs

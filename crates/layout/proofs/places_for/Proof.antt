@@ -1,0 +1,35 @@
+-- `places_for`: the words of all slots are few enough to count, and each place is the sum that the meaning has.
+use native.Mathlib.Omega.{arith}
+use borrow.Author.Needs.{needs}
+use Rattle.layout.specs.Places.{slots-few}
+use Rattle.layout.proofs.places_for.Statement.{statement}
+use Rattle.layout.proofs.places_for.Tie as tie
+
+words-for-requires : tie.Need-words-for-requires
+words-for-requires c κs = search needs
+
+add-start : tie.Need-add-start
+add-start c = search needs
+
+add-goal : tie.Need-add-goal
+add-goal c = search needs
+
+add-pairs : tie.Need-add-pairs
+add-pairs c = search needs
+
+add-slots : tie.Need-add-slots
+add-slots c = search needs
+
+mul-t8 : tie.Need-mul-t8
+mul-t8 c = rw (c .words-for .ensures) (omega (arith, slots-few (c .before .args .n) (c .before .pre .1)))
+
+add-t9 : tie.Need-add-t9
+add-t9 c = rw (c .words-for .ensures) (omega (arith, slots-few (c .before .args .n) (c .before .pre .1)))
+
+returns : tie.Need-returns
+returns c = rw (c .words-for .ensures)
+
+pub places-for-spec : {M : Type 1} → statement M
+places-for-spec =
+    tie.close
+    (tie.spec words-for-requires add-start add-goal add-pairs add-slots mul-t8 add-t9 returns)

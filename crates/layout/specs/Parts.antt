@@ -1,0 +1,50 @@
+-- The parts of a workspace for v variables and n features, each under one name; and that they are what is lent from one place to the next.
+use Prim.Native.Nat.{ℕ, _+_, _-_, _*_, _≤_}
+use mathlib.Core.Path.{_≡_}
+use mathlib.Core.List.{List}
+use native.Mathlib.Omega.{arith}
+use lib.ListN.{length, take, drop, length-drop}
+use lib.Seq.{length-take-le}
+use Rattle.meaning.specs.Workspace.{wordsFor, sizesAt, startAt, goalAt, pairsAt, slotsAt}
+use Rattle.layout.specs.declared.Places.{Places}
+use Rattle.layout.specs.Places.{placesOf}
+
+abbrev pub sizesPart : ℕ → List ℕ → List ℕ
+sizesPart v ws = take v (drop sizesAt ws)
+
+abbrev pub startPart : ℕ → List ℕ → List ℕ
+startPart v ws = take v (drop (startAt v) ws)
+
+abbrev pub goalPart : ℕ → List ℕ → List ℕ
+goalPart v ws = take v (drop (goalAt v) ws)
+
+abbrev pub pairsPart : ℕ → ℕ → List ℕ → List ℕ
+pairsPart v n ws = take (wordsFor n) (drop (pairsAt v) ws)
+
+abbrev pub slotsPart : ℕ → ℕ → List ℕ → List ℕ
+slotsPart v n ws = take (n * wordsFor n) (drop (slotsAt v n) ws)
+
+-- The words of a part, where all that are due are there.
+pub length-part : (from n : ℕ) (ws : List ℕ) → from + n ≤ length ws → length (take n (drop from ws)) ≡ n
+length-part from n ws h = length-take-le n (drop from ws) (rw (length-drop from ws) (omega arith))
+
+-- The part of a list that is lent from one place to another.
+pub lent : {A : Type 0} (from n : ℕ) (l : List A) → take (from + n - from) (drop from l) ≡ take n (drop from l)
+lent from n l = let e : from + n - from ≡ n = omega arith in rw e
+
+-- The parts as they are lent by the code's places.
+module _ (v n : ℕ) (at : Places) (is : at ≡ placesOf v n) (ws : List ℕ) where
+  pub lent-sizes : take (at .start - sizesAt) (drop sizesAt ws) ≡ sizesPart v ws
+  lent-sizes = rw is (lent sizesAt v ws)
+
+  pub lent-start : take (at .goal - at .start) (drop (at .start) ws) ≡ startPart v ws
+  lent-start = rw is (lent (startAt v) v ws)
+
+  pub lent-goal : take (at .pairs - at .goal) (drop (at .goal) ws) ≡ goalPart v ws
+  lent-goal = rw is (lent (goalAt v) v ws)
+
+  pub lent-pairs : take (at .slots - at .pairs) (drop (at .pairs) ws) ≡ pairsPart v n ws
+  lent-pairs = rw is (lent (pairsAt v) (wordsFor n) ws)
+
+  pub lent-slots : take (at .end - at .slots) (drop (at .slots) ws) ≡ slotsPart v n ws
+  lent-slots = rw is (lent (slotsAt v n) (n * wordsFor n) ws)

@@ -19,14 +19,14 @@ use Rattle.meaning.specs.Weight.{Meets}
 use Rattle.meaning.specs.Number.{Small, refusal, got}
 use Rattle.meaning.specs.File.{judgedTask, Acceptable}
 use Rattle.meaning.specs.Workspace.{Content, wordsOf, wordsDue, Proper, WellFormed, contentOf}
-use Rattle.meaning.specs.Answer.{Answer, done, refused, Outcome, refuses, writes, Edit, addOperator, replaceStart, replaceGoal, operatorIn, Judged, fine, faulty, editJudged, Changes, EditsIn, Edits, Opens, Finding, FindsBy, Finds}
+use Rattle.meaning.specs.Answer.{Answer, done, refused, Outcome, refuses, writes, Edit, OperatorRecord, addOperator, replaceStart, replaceGoal, operatorIn, Judged, fine, faulty, editJudged, Changes, EditsIn, Edits, Opens, Finding, FindsBy, Finds}
 use Rattle.meaning.specs.History.{Event, Edited, startAfter, goalAfter, movesAfter, taskAfter, SameTask}
 use Rattle.theory.specs.Truth.{on, off, test}
 use Rattle.theory.specs.SlotsOf.{slots-along, slots-only}
 use Rattle.theory.specs.Conditions.{Ranged, meets-same, slots-more}
-use Rattle.theory.specs.Contents.{formed-only, length-words, opened-proper}
+use Rattle.theory.specs.Contents.{formed-only, length-words, opened-proper, edit-proper}
 use Rattle.theory.specs.Accepted.{accepted}
-use Rattle.theory.specs.Operands.{add-fine, add-operator, start-fine, goal-fine}
+use Rattle.theory.specs.Operands.{add-fine, add-operator}
 
 -- ---- the task after one edit
 
@@ -49,24 +49,28 @@ refused-after T (replaceGoal values) k = refl
 one-more : (P : Operator → Type 0) (os : List Operator) (o : Operator) → ((p : Operator) → In p os → P p) → P o → (p : Operator) → In p (os ++ (o ∷ [])) → P p
 one-more P os o each own p m = elim (append-cases os m) [ inl k ↦ each p k | inr k ↦ rw (eq-of-singleton k) own ]
 
-module _ (T : Task) (slots : Slots) where
-  -- An accepted edit leaves a task that keeps every rule.
-  after-acceptable : Acceptable T → (edit : Edit) → editJudged (contentOf T slots) edit ≡ fine → Acceptable (oneAfter T edit (done tt))
-  after-acceptable a (addOperator r) e = record {
-    limits = a .limits;
-    start = a .start;
-    goal = a .goal;
-    pairs = a .pairs;
-    operators = one-more (IsOperator (T .sizes)) (T .operators) (operatorIn r) (a .operators) (add-operator (contentOf T slots) r e);
-    free = a .free;
-    closed-under = one-more (λ o. closed (T .sizes) (listed (T .pairs)) o ≡ true) (T .operators) (operatorIn r) (a .closed-under) (add-fine (contentOf T slots) r e .2);
-  }
-  after-acceptable a (replaceStart values) e =
-      let (state, free) = start-fine (contentOf T slots) values e in
-      record { limits = a .limits; start = state; goal = a .goal; pairs = a .pairs; operators = a .operators; free = free; closed-under = a .closed-under }
-  after-acceptable a (replaceGoal values) e =
-      let (state, _) = goal-fine (contentOf T slots) values fine e in
-      record { limits = a .limits; start = a .start; goal = state; pairs = a .pairs; operators = a .operators; free = a .free; closed-under = a .closed-under }
+-- What holds of each operator, and of one that an edit adds, holds of each after that edit.
+after-each : (P : Operator → Type 0) (os : List Operator) (edit : Edit) → ((p : Operator) → In p os → P p) → ((r : OperatorRecord) → edit ≡ addOperator r → P (operatorIn r))
+    → (p : Operator) → In p (movesAfter os edit (done tt)) → P p
+after-each P os (addOperator r) each own = one-more P os (operatorIn r) each (own r refl)
+after-each P os (replaceStart values) each own = each
+after-each P os (replaceGoal values) each own = each
+
+-- An accepted edit that leaves a proper content leaves a task that keeps every rule.
+after-acceptable : (T : Task) (slots slots' : Slots) (edit : Edit) → Acceptable T → editJudged (contentOf T slots) edit ≡ fine → Proper (contentOf (oneAfter T edit (done tt)) slots')
+    → Acceptable (oneAfter T edit (done tt))
+after-acceptable T slots slots' edit a e p = record {
+  limits = p .limits;
+  start = p .start;
+  goal = p .goal;
+  pairs = a .pairs;
+  operators = after-each (IsOperator (T .sizes)) (T .operators) edit (a .operators) (λ r q. add-operator (contentOf T slots) r (added r q));
+  free = p .free;
+  closed-under = after-each (λ o. closed (T .sizes) (listed (T .pairs)) o ≡ true) (T .operators) edit (a .closed-under) (λ r q. add-fine (contentOf T slots) r (added r q) .2);
+}
+  where
+    added : (r : OperatorRecord) → edit ≡ addOperator r → editJudged (contentOf T slots) (addOperator r) ≡ fine
+    added r q = subst (λ edit. editJudged (contentOf T slots) edit ≡ fine) q e
 
 -- ---- what a workspace stands for
 
@@ -144,7 +148,7 @@ module _ (T : Task) (workspace : List ℕ) (S : StandsFor T workspace) where
         slots = slots;
         further = drop (length (wordsOf c')) workspace;
         words = ap (λ o. o .lent) q ∙ ap (λ c. wordsOf c ++ drop (length (wordsOf c')) workspace) q';
-        acceptable = after-acceptable T (S .slots) (S .acceptable) edit e;
+        acceptable = after-acceptable T (S .slots) slots edit (S .acceptable) e (subst Proper q' (edit-proper (contentOf T (S .slots)) c' edit stands-proper e h));
         are = D;
       })
 

@@ -12,7 +12,7 @@ use Rattle.meaning.specs.Pair.{paired, possible, clashing, stuck, idle, 
 use Rattle.meaning.specs.Slot.{Reduced}
 use Rattle.meaning.specs.Weight.{Considered, Keeps, Allows}
 use Rattle.meaning.specs.Grid.{made, used, kept, effect}
-use Rattle.meaning.specs.Number.{Padded, Endless, Range, LeftOver}
+use Rattle.meaning.specs.Number.{Padded, Endless, Limit, Range, LeftOver, Outgrown, refusal, hasPlace}
 use Rattle.meaning.specs.Number.{got, fault, groups, number}
 use Rattle.meaning.specs.File.{item, judge, rising, ended, sizesOf, header, valuesOf, featuresOf, featureList, operatorsOf, taskOf, judgedTask}
 use Rattle.meaning.specs.Workspace.{has}
@@ -188,6 +188,10 @@ range-first-in-files = refl
 left-over-first : judgedTask (2 ∷ 2 ∷ 2 ∷ 1 ∷ 1 ∷ 0 ∷ 0 ∷ 1 ∷ 7 ∷ 0 ∷ 0 ∷ []) ≡ fault LeftOver 10
 unfolding judgedTask taskOf header sizesOf valuesOf featureList featuresOf operatorsOf item judge rising ended number groups features atoms pairsOf sumOf
 left-over-first = refl
+
+-- A limit that is judged after 5 has the number of one that is judged as read, and no place; a number that does not end in its bytes has one.
+limit-without-place : (refusal Outgrown ≡ refusal Limit) × (hasPlace Limit ≡ true) × (hasPlace Outgrown ≡ false) × (hasPlace Endless ≡ true) × (hasPlace LeftOver ≡ false)
+limit-without-place = (refl, refl, refl, refl, refl)
 
 -- The grid, where it is not the plain product of two kinds.
 grid-corners : (effect made used ≡ 0) × (effect kept made ≡ 1) × (effect used kept ≡ 1) × (effect kept kept ≡ 0)

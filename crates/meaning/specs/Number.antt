@@ -1,6 +1,6 @@
 -- Reasons for a refusal and their numbers; reading a list of bytes at a place; numbers in a file.
 use Prim.Native.Nat.{ℕ, zero, suc, _+_, _*_, _/_, _%_}
-use mathlib.Core.Bool.{cond}
+use mathlib.Core.Bool.{Bool, true, false, cond}
 use mathlib.Core.List.{List, [], _∷_}
 use lib.ListN.{length, getD}
 use lib.Dec.{eqb, ltb}
@@ -8,7 +8,7 @@ use Rattle.meaning.specs.Limits.{group, mostGroups}
 
 -- Why a call refuses. The first three are told apart here, and share the paper's number 1.
 pub data Reason : Type 0 where
-  Ends Padded Endless Limit Range Unordered LeftOver Held Unclosed Small Malformed Mislabelled : Reason
+  Ends Padded Endless Limit Range Unordered LeftOver Outgrown Held Unclosed Small Malformed Mislabelled : Reason
 
 -- The paper's number for a reason.
 abbrev pub refusal : Reason → ℕ
@@ -26,6 +26,8 @@ refusal Range = 3
 refusal Unordered = 4
 -- "bytes are left over"
 refusal LeftOver = 5
+-- a task that is made of what was read breaks a limit, which is judged after 5
+refusal Outgrown = 2
 -- "the start holds a listed pair"
 refusal Held = 6
 -- "the pairs aren't closed under an operator"
@@ -37,7 +39,24 @@ refusal Malformed = 9
 -- "a bay list misses or repeats a label"
 refusal Mislabelled = 10
 
+-- Whether a reason has a place in a file: a number is at fault. What is judged after the last number has none.
+abbrev pub hasPlace : Reason → Bool
+hasPlace Ends = true
+hasPlace Padded = true
+hasPlace Endless = true
+hasPlace Limit = true
+hasPlace Range = true
+hasPlace Unordered = true
+hasPlace LeftOver = false
+hasPlace Outgrown = false
+hasPlace Held = false
+hasPlace Unclosed = false
+hasPlace Small = false
+hasPlace Malformed = false
+hasPlace Mislabelled = false
+
 -- What stands at a place: a value and the place after it; or the first fault, with the place of the first byte of the number at fault.
+-- Where a reason has no place, the place of a fault says nothing.
 pub data Read (A : Type 0) : Type 0 where
   got : A → ℕ → Read A
   fault : Reason → ℕ → Read A

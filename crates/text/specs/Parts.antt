@@ -6,7 +6,7 @@ use native.Mathlib.Omega.{arith}
 use native.Mathlib.Numerals.{add-one}
 use lib.ListN.{length, getD, set, take, drop, length-append}
 use lib.Seq.{paste, paste-suc, take-all, take-at}
-use Rattle.meaning.specs.Number.{Reason, Ends, Padded, Endless, Limit, Range, Unordered, LeftOver, Held, Unclosed}
+use Rattle.meaning.specs.Number.{Reason, Ends, Padded, Endless, Limit, Range, Unordered, LeftOver, Outgrown, Held, Unclosed}
 use Rattle.meaning.specs.Number.{Small, Malformed, Mislabelled, refusal}
 use Rattle.meaning.specs.Line.{mostDigits, word, refusedLine}
 use Rattle.decimal.specs.Decimal.{wordWidth, word-few}
@@ -68,6 +68,7 @@ refusal-short Limit = omega arith
 refusal-short Range = omega arith
 refusal-short Unordered = omega arith
 refusal-short LeftOver = omega arith
+refusal-short Outgrown = omega arith
 refusal-short Held = omega arith
 refusal-short Unclosed = omega arith
 refusal-short Small = omega arith

@@ -14,8 +14,8 @@ use Rattle.meaning.specs.Feature.{sumOf, pairsOf, atoms, features, single, pair
 use Rattle.meaning.specs.Pair.{paired, possible, clashing, stuck, idle, clashingAfter, uncovered, closed, holds}
 use Rattle.meaning.specs.Slot.{Reduced, SlotsOf, Stored}
 use Rattle.meaning.specs.Weight.{Considered, Keeps, Allows, Meets, Separates}
-use Rattle.meaning.specs.Number.{Reason, refusal, Read, got, fault, groups, number}
-use Rattle.meaning.specs.File.{item, judge, rising, ended, sizesOf, header, valuesOf, featuresOf, featureList, entriesOf, operatorOf, operatorsOf, taskOf, judgedTask, judgedWeights}
+use Rattle.meaning.specs.Number.{Reason, refusal, Read, got, fault, groups, number, numbersOn}
+use Rattle.meaning.specs.File.{item, judge, limited, rising, ended, itemsOf, sizeList, header, featuresOf, featureList, entriesOf, operatorOf, operatorsOf, taskOf, judgedTask, judgedWeights}
 use Rattle.meaning.specs.Answer.{Answer, done, refused, byRead, Verdict, accepted, endsAlike, breaks, Breaks, Judges, Checks}
 use Rattle.meaning.specs.Line.{Found, nothing, separating, Seeks, Says}
 use Rattle.theory.specs.Truth.{on, off, test}
@@ -289,5 +289,5 @@ unfolding says? checks? byRead? refused? done? judges? breaks? seeks? least? run
     slots? reduced? inPlace? stored? slotsIn everySet states
     count shared some every anyOf allOf twoOf flat listed wholeNumber names applies applied
     sumOf pairsOf atoms features single pairStart double both trueIn parity paired possible clashing stuck idle clashingAfter uncovered closed holds
-    groups number item judge rising ended sizesOf header valuesOf featuresOf featureList entriesOf operatorOf operatorsOf taskOf judgedTask judgedWeights
+    groups number numbersOn item judge limited rising ended itemsOf sizeList header featuresOf featureList entriesOf operatorOf operatorsOf taskOf judgedTask judgedWeights
 computing = tt

@@ -4,6 +4,7 @@ use mathlib.Core.Path.{_≡_, refl}
 use mathlib.Core.Bool.{true}
 use mathlib.Core.List.{List, [], _∷_, _++_, List·Memᴰ·head as here, List·Memᴰ·tail as there}
 use lib.ListN.{length, replicate}
+use Rattle.meaning.specs.Limits.{leastSize, mostSize}
 use Rattle.meaning.specs.Sets.{listed, table}
 use Rattle.meaning.specs.Task.{Operator, Task}
 use Rattle.meaning.specs.Feature.{features}
@@ -14,7 +15,7 @@ use Rattle.meaning.specs.File.{header, judgedTask, bytesOf, counted, entryBytes
 use Rattle.meaning.specs.Workspace.{wordsOf, packed, contentOf}
 use Rattle.meaning.specs.Answer.{done, refused, Opens}
 use Rattle.meaning.specs.Line.{separating, Says, Prints, digits, word, wordsIn, line}
-use Rattle.meaning.specs.Bay.{Bay, bayOf, occurrences, eachOnce, judgedBay, neighbours, slide, bayOperators, bayPairs, taskFor, bayTask, Builds}
+use Rattle.meaning.specs.Bay.{Bay, sidesOf, bayOf, occurrences, eachOnce, judgedBay, neighbours, slide, bayOperators, bayPairs, taskFor, bayTask, Builds}
 use Rattle.marked.specs.Decide.{computing, slotsIn, slots?, slots-of}
 use Rattle.marked.specs.Table.{finds, fileB, marked, marked-right}
 
@@ -28,7 +29,7 @@ unfolding computing wordsOf packed table
 opening = tt
 
 building : Unit {0}
-unfolding computing writing judgedBay bayOf eachOnce occurrences taskFor bayPairs bayOperators neighbours slide
+unfolding computing writing judgedBay bayOf sidesOf eachOnce occurrences taskFor bayPairs bayOperators neighbours slide
 building = tt
 
 -- ---- numbers
@@ -61,7 +62,7 @@ unfolding computing
 features-64-62 = refl
 
 -- "and are taken"
-pub taken-64-62 : header (2 ∷ 64 ∷ 62 ∷ []) 0 ≡ got (64 ∷ 62 ∷ []) 3
+pub taken-64-62 : header leastSize mostSize (2 ∷ 64 ∷ 62 ∷ []) 0 ≡ got (64 ∷ 62 ∷ []) 3
 unfolding computing
 taken-64-62 = refl
 
@@ -70,8 +71,8 @@ pub features-64-63 : features (64 ∷ 63 ∷ []) ≡ 4159
 unfolding computing
 features-64-63 = refl
 
--- "and are refused": N breaks its limit, judged after the last size;
-pub limit-64-63 : header (2 ∷ 64 ∷ 63 ∷ []) 0 ≡ fault Limit 3
+-- "and are refused": N breaks its limit, judged after the last size and placed there;
+pub limit-64-63 : header leastSize mostSize (2 ∷ 64 ∷ 63 ∷ []) 0 ≡ fault Limit 2
 unfolding computing
 limit-64-63 = refl
 

@@ -11,7 +11,7 @@ use Rattle.meaning.specs.Limits.{leastSide, mostSide, leastSlots, mostSl
 use Rattle.meaning.specs.Task.{Operator, Task, applies, applied, value}
 use Rattle.meaning.specs.Feature.{double}
 use Rattle.meaning.specs.Number.{Limit, Mislabelled, Read, got, fault, onRead}
-use Rattle.meaning.specs.File.{Parser, give, then, inside, item, judge, ended, valuesOf, taskBytes}
+use Rattle.meaning.specs.File.{Parser, give, then, inside, item, limited, ended, valuesOf, taskBytes}
 use Rattle.meaning.specs.Answer.{Outcome, refuses, delivered, byRead}
 
 pub record Bay : Type 0 where
@@ -30,16 +30,22 @@ slotCount b = b .rows * b .columns
 abbrev pub baySizes : ℕ → List ℕ
 baySizes n = replicate n n
 
--- "A bay file holds rows, columns, the start labels and the goal labels, slots row by row. .. n is 2 to 9 and is judged after columns. Labels run
--- from 0 to n-1".
+-- A side of a bay.
+abbrev pub side : Parser ℕ
+side = item (inside leastSide (suc mostSide)) Limit
+
+-- Rows and columns: "n is 2 to 9 and is judged after columns".
+unfoldable pub sidesOf : Parser (ℕ × ℕ)
+sidesOf =
+    limited (then side (λ r. then side (λ c. give (r, c)))) (λ sides. inside leastSlots (suc mostSlots) (sides .0 * sides .1)) (λ _. 1)
+
+-- "A bay file holds rows, columns, the start labels and the goal labels, slots row by row. .. Labels run from 0 to n-1".
 unfoldable pub bayOf : Parser Bay
 bayOf =
-    then (item (inside leastSide (suc mostSide)) Limit)
-    (λ r. then (item (inside leastSide (suc mostSide)) Limit)
-    (λ c. then (judge (inside leastSlots (suc mostSlots) (r * c)) Limit)
-    (λ _. then (valuesOf (baySizes (r * c)))
-    (λ start. then (valuesOf (baySizes (r * c)))
-    (λ goal. then ended (λ _. give (record { rows = r; columns = c; start = start; goal = goal })))))))
+    then sidesOf
+    (λ sides. then (valuesOf (baySizes (sides .0 * sides .1)))
+    (λ start. then (valuesOf (baySizes (sides .0 * sides .1)))
+    (λ goal. then ended (λ _. give (record { rows = sides .0; columns = sides .1; start = start; goal = goal })))))
 
 -- How often a label stands in a list.
 unfoldable pub occurrences : ℕ → List ℕ → ℕ

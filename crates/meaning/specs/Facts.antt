@@ -5,6 +5,7 @@ use mathlib.Core.Bool.{true, false, not, _||_, true≢false}
 use mathlib.Core.List.{List, [], _∷_}
 use native.Mathlib.Omega.{arith}
 use lib.ListN.{length}
+use Rattle.meaning.specs.Limits.{leastSize, mostSize}
 use Rattle.meaning.specs.Sets.{_⊕_, Set, Slots, listed, anyOf, allOf, twoOf, some, every, count, shared, wholeNumber}
 use Rattle.meaning.specs.Task.{Operator, State, names, applies, applied, value, size}
 use Rattle.meaning.specs.Feature.{sumOf, pairsOf, atoms, features, single, pairStart, double, both, trueIn, parity}
@@ -13,11 +14,11 @@ use Rattle.meaning.specs.Slot.{Reduced}
 use Rattle.meaning.specs.Weight.{Considered, Keeps, Allows}
 use Rattle.meaning.specs.Grid.{made, used, kept, effect}
 use Rattle.meaning.specs.Number.{Padded, Endless, Limit, Range, LeftOver, Outgrown, refusal, hasPlace}
-use Rattle.meaning.specs.Number.{got, fault, groups, number}
-use Rattle.meaning.specs.File.{item, judge, rising, ended, sizesOf, header, valuesOf, featuresOf, featureList, operatorsOf, taskOf, judgedTask}
+use Rattle.meaning.specs.Number.{got, fault, groups, number, numbersOn}
+use Rattle.meaning.specs.File.{item, judge, rising, ended, itemsOf, sizeList, header, limited, featuresOf, featureList, operatorsOf, taskOf, judgedTask}
 use Rattle.meaning.specs.Workspace.{has}
 use Rattle.meaning.specs.Answer.{done, refused, accepted, endsAlike, breaks, fine, faulty, entriesJudged}
-use Rattle.meaning.specs.Bay.{neighbours}
+use Rattle.meaning.specs.Bay.{sidesOf, neighbours}
 use Rattle.meaning.specs.Line.{digits, word, refusedLine, verdictLine}
 
 -- States, value by value.
@@ -181,13 +182,28 @@ range-first = refl
 
 -- In a file: after the pair feature 5, at place 9, comes 3, which is no pair feature and does not increase either.
 range-first-in-files : judgedTask (2 ∷ 2 ∷ 2 ∷ 0 ∷ 0 ∷ 0 ∷ 1 ∷ 2 ∷ 5 ∷ 3 ∷ 0 ∷ []) ≡ fault Range 9
-unfolding judgedTask taskOf header sizesOf valuesOf featureList featuresOf item judge rising number groups features atoms pairsOf sumOf
+unfolding judgedTask taskOf header sizeList itemsOf limited featureList featuresOf item judge rising number groups features atoms pairsOf sumOf
 range-first-in-files = refl
 
 -- 5 before 6: a start that holds a listed pair, and a byte left over.
 left-over-first : judgedTask (2 ∷ 2 ∷ 2 ∷ 1 ∷ 1 ∷ 0 ∷ 0 ∷ 1 ∷ 7 ∷ 0 ∷ 0 ∷ []) ≡ fault LeftOver 10
-unfolding judgedTask taskOf header sizesOf valuesOf featureList featuresOf operatorsOf item judge rising ended number groups features atoms pairsOf sumOf
+unfolding judgedTask taskOf header sizeList itemsOf limited featureList featuresOf operatorsOf item judge rising ended number groups features atoms pairsOf sumOf
 left-over-first = refl
+
+-- N is placed at the last size: sizes 64 and 63, from place 1 on.
+limit-at-last-size : header leastSize mostSize (7 ∷ 2 ∷ 64 ∷ 63 ∷ 0 ∷ []) 1 ≡ fault Limit 3
+unfolding header sizeList itemsOf limited item number groups numbersOn features atoms pairsOf sumOf
+limit-at-last-size = refl
+
+-- Rows times columns is placed at the columns, too many and too few.
+limit-at-columns : (sidesOf (9 ∷ 9 ∷ 0 ∷ []) 0 ≡ fault Limit 1) × (sidesOf (1 ∷ 1 ∷ 0 ∷ []) 0 ≡ fault Limit 1)
+unfolding sidesOf limited item number groups numbersOn
+limit-at-columns = (refl, refl)
+
+-- A size that breaks its own limits is placed there, before N is judged.
+limit-at-size : (sizeList 2 63 (2 ∷ 63 ∷ 2 ∷ []) 0 ≡ got (63 ∷ 2 ∷ []) 3) × (sizeList 2 63 (2 ∷ 64 ∷ 1 ∷ []) 0 ≡ fault Limit 1) × (sizeList 2 63 (2 ∷ 2 ∷ 1 ∷ []) 0 ≡ fault Limit 2)
+unfolding sizeList itemsOf item number groups
+limit-at-size = (refl, refl, refl)
 
 -- A limit that is judged after 5 has the number of one that is judged as read, and no place; a number that does not end in its bytes has one.
 limit-without-place : (refusal Outgrown ≡ refusal Limit) × (hasPlace Limit ≡ true) × (hasPlace Outgrown ≡ false) × (hasPlace Endless ≡ true) × (hasPlace LeftOver ≡ false)

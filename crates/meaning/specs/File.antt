@@ -3,14 +3,14 @@ use Prim.Native.Nat.{ℕ, zero, suc, _<_, _≤_}
 use mathlib.Core.Path.{_≡_}
 use mathlib.Core.Bool.{Bool, true, false, _&&_, cond}
 use mathlib.Core.List.{List, [], _∷_, _++_, List·Memᴰ as In}
-use lib.ListN.{length}
+use lib.ListN.{length, replicate}
 use lib.Dec.{leb, ltb}
 use Rattle.meaning.specs.Sets.{listed, allOf}
 use Rattle.meaning.specs.Limits.{leastVariables, mostVariables, leastSize, mostSize, mostFeatures, numberEnd}
 use Rattle.meaning.specs.Task.{Entry, Operator, Task, State, IsOperator, Run, size}
 use Rattle.meaning.specs.Feature.{atoms, features}
 use Rattle.meaning.specs.Pair.{closed, holds}
-use Rattle.meaning.specs.Number.{Reason, Limit, Range, Unordered, LeftOver, Held, Unclosed, Read, got, fault, onRead, number, numberBytes}
+use Rattle.meaning.specs.Number.{Reason, Limit, Range, Unordered, LeftOver, Held, Unclosed, Read, got, fault, onRead, number, numbersOn, numberBytes}
 
 -- ---- reading in turn: "Numbers are judged as read", and the first fault decides
 
@@ -36,6 +36,11 @@ unfoldable pub judge : Bool → Reason → Parser (Unit {0})
 judge true reason bytes place = got tt place
 judge false reason bytes place = fault reason place
 
+-- A limit over several numbers is judged after the last of them, and placed there: at the number that is so many behind the first.
+unfoldable pub limited : {A : Type 0} → Parser A → (A → Bool) → (A → ℕ) → Parser A
+limited first test behind bytes place =
+    onRead (first bytes place) (λ a next. cond (test a) (got a next) (fault Limit (numbersOn (behind a) bytes place)))
+
 -- A number in its range that is `least` or more: range before order.
 unfoldable pub rising : ℕ → ℕ → ℕ → Parser ℕ
 rising low high least bytes place =
@@ -45,23 +50,29 @@ rising low high least bytes place =
 unfoldable pub ended : Parser (Unit {0})
 ended bytes place = judge (leb (length bytes) place) LeftOver bytes place
 
+-- A number for each bound, from `low` on and below it.
+unfoldable pub itemsOf : ℕ → Reason → List ℕ → Parser (List ℕ)
+itemsOf low reason [] = give []
+itemsOf low reason (bound ∷ bounds) =
+    then (item (inside low bound) reason) (λ n. then (itemsOf low reason bounds) (λ ns. give (n ∷ ns)))
+
 -- ---- the parts of a task file
 
--- "v; sizes", each within its limit.
-unfoldable pub sizesOf : ℕ → Parser (List ℕ)
-sizesOf zero = give []
-sizesOf (suc k) = then (item (inside leastSize (suc mostSize)) Limit) (λ d. then (sizesOf k) (λ ds. give (d ∷ ds)))
+-- So many sizes, each from `least` to `most`.
+abbrev pub sizesOf : ℕ → ℕ → ℕ → Parser (List ℕ)
+sizesOf least most v = itemsOf least Limit (replicate v (suc most))
 
--- "N is judged after the last size."
-unfoldable pub header : Parser (List ℕ)
-header =
-    then (item (inside leastVariables (suc mostVariables)) Limit)
-    (λ v. then (sizesOf v) (λ sizes. then (judge (leb (features sizes) mostFeatures) Limit) (λ _. give sizes)))
+-- "v; sizes", each within its limit.
+unfoldable pub sizeList : ℕ → ℕ → Parser (List ℕ)
+sizeList least most = then (item (inside leastVariables (suc mostVariables)) Limit) (sizesOf least most)
+
+-- "N is judged after the last size", which is v numbers behind v.
+unfoldable pub header : ℕ → ℕ → Parser (List ℕ)
+header least most = limited (sizeList least most) (λ sizes. leb (features sizes) mostFeatures) length
 
 -- "start; goal": a value for each variable.
-unfoldable pub valuesOf : List ℕ → Parser (List ℕ)
-valuesOf [] = give []
-valuesOf (d ∷ ds) = then (item (inside 0 d) Range) (λ x. then (valuesOf ds) (λ xs. give (x ∷ xs)))
+abbrev pub valuesOf : List ℕ → Parser (List ℕ)
+valuesOf sizes = itemsOf 0 Range sizes
 
 -- So many features in a range, "strictly increasing".
 unfoldable pub featuresOf : ℕ → ℕ → ℕ → ℕ → Parser (List ℕ)
@@ -94,7 +105,7 @@ operatorsOf sizes (suc k) = then (operatorOf sizes) (λ o. then (operatorsOf siz
 -- then its triples. .. Nothing follows."
 unfoldable pub taskOf : Parser Task
 taskOf =
-    then header
+    then (header leastSize mostSize)
     (λ sizes. then (valuesOf sizes)
     (λ start. then (valuesOf sizes)
     (λ goal. then (featureList (atoms sizes) (features sizes))

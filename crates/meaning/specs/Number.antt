@@ -82,6 +82,16 @@ groups (suc k) first bytes place =
 unfoldable pub number : List ℕ → ℕ → Read ℕ
 number bytes place = groups mostGroups place bytes place
 
+-- Goes on from the place after a number; one that is badly formed is the last.
+abbrev pub placeAfter : Read ℕ → ℕ → (ℕ → ℕ) → ℕ
+placeAfter (got n next) here on = on next
+placeAfter (fault reason place) here on = here
+
+-- The place of the number that stands k numbers behind the one at a place.
+unfoldable pub numbersOn : ℕ → List ℕ → ℕ → ℕ
+numbersOn zero bytes place = place
+numbersOn (suc k) bytes place = placeAfter (number bytes place) place (numbersOn k bytes)
+
 -- The bytes of a number in at most k groups.
 unfoldable pub groupBytes : ℕ → ℕ → List ℕ
 groupBytes zero n = []

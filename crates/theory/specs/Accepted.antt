@@ -6,7 +6,7 @@ use mathlib.Core.Bool.{true, false}
 use mathlib.Core.List.{List, _++_}
 use native.Mathlib.Omega.{arith}
 use lib.ListN.{length}
-use Rattle.meaning.specs.Limits.{mostFeatures}
+use Rattle.meaning.specs.Limits.{leastSize, mostSize, mostFeatures}
 use Rattle.meaning.specs.Sets.{listed, allOf}
 use Rattle.meaning.specs.Task.{Task, Run}
 use Rattle.meaning.specs.Feature.{atoms, features}
@@ -41,7 +41,7 @@ module _ (bytes : List ℕ) where
 
   pub task-ends : Ends bytes taskOf
   unfolding taskOf
-  task-ends = ends-then header _ (λ sizes. ends-then (valuesOf sizes) _ (λ start. ends-then (valuesOf sizes) _ (λ goal.
+  task-ends = ends-then (header leastSize mostSize) _ (λ sizes. ends-then (valuesOf sizes) _ (λ start. ends-then (valuesOf sizes) _ (λ goal.
       ends-then (featureList (atoms sizes) (features sizes)) _ (λ pairs. ends-then number _ (λ k. ends-then (operatorsOf sizes k) _ (λ os. ends-ended _))))))
 
   -- What is known of a whole file that was read.

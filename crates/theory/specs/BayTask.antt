@@ -15,17 +15,17 @@ use Rattle.meaning.specs.Limits.{leastSide, mostSide, leastSlots, mostSlots, mo
 use Rattle.meaning.specs.Task.{Operator, State, IsOperator, names, value, size}
 use Rattle.meaning.specs.Feature.{sumOf, pairsOf, atoms, features}
 use Rattle.meaning.specs.Pair.{paired, possible, idle, clashingAfter, uncovered, closed, holds}
-use Rattle.meaning.specs.Number.{Reason, Limit, Mislabelled, Small, refusal, got}
-use Rattle.meaning.specs.File.{judgedTask, taskBytes, inside, item, judge, valuesOf, InLimits, Writable}
+use Rattle.meaning.specs.Number.{Reason, Limit, Mislabelled, Small, refusal, got, numbersOn}
+use Rattle.meaning.specs.File.{give, then, judgedTask, taskBytes, inside, limited, valuesOf, InLimits, Writable}
 use Rattle.meaning.specs.Weight.{Unsolvable}
 use Rattle.meaning.specs.Answer.{done, refused, refuses, writes, delivered}
-use Rattle.meaning.specs.Bay.{Move, Step, SameLabels, Bay, slotCount, bayOf, eachOnce, judgedBay, neighbours, bayTask, baySizes, occurrences, exchange, slide, bayOperators, bayPairs, taskFor, Builds}
+use Rattle.meaning.specs.Bay.{Move, Step, SameLabels, Bay, slotCount, side, sidesOf, bayOf, eachOnce, judgedBay, neighbours, bayTask, baySizes, occurrences, exchange, slide, bayOperators, bayPairs, taskFor, Builds}
 use Rattle.theory.specs.Truth.{on, off, test, less, same, more, order}
 use Rattle.theory.specs.Search.{and-left, and-right, every-at, and-none-right, or-right, or-none-left, or-none-right, some-not, any-not}
 use Rattle.theory.specs.Flat.{in-two, flat-few}
 use Rattle.theory.specs.Tells.{tells-every, tells-and, tells-le, tells-lt}
-use Rattle.theory.specs.Reading.{not-got, got-value, got-next, on-got, by-got, test-passed}
-use Rattle.theory.specs.Spent.{Gives, Ends, gives-then, gives-give, gives-ended, ends-then, ends-ended}
+use Rattle.theory.specs.Reading.{got-value, got-next, on-got, by-got, test-passed}
+use Rattle.theory.specs.Spent.{Gives, Ends, gives-known, gives-then, gives-map, gives-tested, gives-ended, ends-then, ends-ended}
 use Rattle.theory.specs.Parts.{item-said, values-said}
 use Rattle.theory.specs.Accepted.{whole-said}
 use Rattle.theory.specs.ReadBack.{read-back}
@@ -185,32 +185,33 @@ pub record AcceptedBay (b : Bay) : Type 0 where
   pub start-once : (label : ℕ) → label < slotCount b → occurrences label (b .start) ≡ 1
   pub goal-once : (label : ℕ) → label < slotCount b → occurrences label (b .goal) ≡ 1
 
-judge-said : (bytes : List ℕ) (t : Bool) (reason : Reason) → Gives bytes (judge t reason) (λ u l. t ≡ true)
-unfolding judge
-judge-said bytes true reason = gives-give (λ u l. true ≡ true) refl
-judge-said bytes false reason = record { gives = λ place u next e. absurd (not-got e) }
+pub sides-said : (bytes : List ℕ) → Gives bytes sidesOf (λ sides l. (leastSide ≤ sides .0) × (sides .0 ≤ mostSide) × (leastSide ≤ sides .1) × (sides .1 ≤ mostSide)
+    × (leastSlots ≤ sides .0 * sides .1) × (sides .0 * sides .1 ≤ mostSlots))
+unfolding sidesOf limited
+sides-said bytes = gives-known _ (gives-tested (λ sides. inside leastSlots (suc mostSlots) (sides .0 * sides .1)) Limit (λ _. numbersOn 1)
+    (gives-then (λ r. then side (λ c. give (r, c))) (λ sides l. (leastSide ≤ sides .0) × (sides .0 ≤ mostSide) × (leastSide ≤ sides .1) × (sides .1 ≤ mostSide))
+    (item-said bytes leastSide (suc mostSide) Limit) (λ r l h.
+    gives-map (λ c. (r, c)) _ (item-said bytes leastSide (suc mostSide) Limit) (λ c m g. (h .0, omega (arith, h .1), g .0, omega (arith, g .1))))))
+    (λ sides l g. let few = tells-and (tells-le leastSlots (sides .0 * sides .1)) (tells-lt (sides .0 * sides .1) (suc mostSlots)) .yes (g .0) in
+    (g .1 .0, g .1 .1, g .1 .2, g .1 .3, few .0, omega (arith, few .1)))
 
 pub bay-said : (bytes : List ℕ) → Gives bytes bayOf (λ b l. ReadableBay b)
 unfolding bayOf
 bay-said bytes =
-    gives-then _ _ (item-said bytes leastSide (suc mostSide) Limit) (λ r l₁ h₁.
-    gives-then _ _ (item-said bytes leastSide (suc mostSide) Limit) (λ c l₂ h₂.
-    gives-then _ _ (judge-said bytes (inside leastSlots (suc mostSlots) (r * c)) Limit) (λ u l₃ h₃.
-    gives-then _ _ (values-said bytes (baySizes (r * c))) (λ start l₄ h₄.
-    gives-ended (λ goal. record { rows = r; columns = c; start = start; goal = goal }) _ (values-said bytes (baySizes (r * c))) (λ goal l₅ h₅. record {
-      rows-limit = omega (arith, h₁ .0, h₁ .1);
-      columns-limit = omega (arith, h₂ .0, h₂ .1);
-      slots-limit = omega (arith, tells-and (tells-le leastSlots (r * c)) (tells-lt (r * c) (suc mostSlots)) .yes h₃);
-      start-state = h₄ .0;
-      goal-state = h₅ .0;
-    })))))
+    gives-then _ _ (sides-said bytes) (λ sides l₁ h.
+    gives-then _ _ (values-said bytes (baySizes (sides .0 * sides .1))) (λ start l₂ s.
+    gives-ended (λ goal. record { rows = sides .0; columns = sides .1; start = start; goal = goal }) _ (values-said bytes (baySizes (sides .0 * sides .1))) (λ goal l₃ g. record {
+      rows-limit = (h .0, h .1);
+      columns-limit = (h .2, h .3);
+      slots-limit = (h .4, h .5);
+      start-state = s .0;
+      goal-state = g .0;
+    })))
 
 bay-ends : (bytes : List ℕ) → Ends bytes bayOf
 unfolding bayOf
-bay-ends bytes =
-    ends-then (item (inside leastSide (suc mostSide)) Limit) _ (λ r. ends-then (item (inside leastSide (suc mostSide)) Limit) _ (λ c.
-    ends-then (judge (inside leastSlots (suc mostSlots) (r * c)) Limit) _ (λ u.
-    ends-then (valuesOf (baySizes (r * c))) _ (λ start. ends-then (valuesOf (baySizes (r * c))) _ (λ goal. ends-ended _)))))
+bay-ends bytes = ends-then sidesOf _ (λ sides.
+    ends-then (valuesOf (baySizes (sides .0 * sides .1))) _ (λ start. ends-then (valuesOf (baySizes (sides .0 * sides .1))) _ (λ goal. ends-ended _)))
 
 module _ (bytes : List ℕ) (b : Bay) (next : ℕ) (e : judgedBay bytes ≡ got b next) where
   bay-all : (next ≡ length bytes) × AcceptedBay b

@@ -4,18 +4,18 @@ use mathlib.Core.Path.{_≡_, refl, sym, ap, ap₂, _∙_}
 use mathlib.Core.Logic.{inl, inr}
 use mathlib.Core.List.{List, [], _∷_, _++_, List·Memᴰ as In, List·Memᴰ·not-nil as not-nil, List·Memᴰ·cases-cons as cases-cons}
 use native.Mathlib.Omega.{arith}
-use lib.ListN.{length}
+use lib.ListN.{length, getD, replicate, length-replicate, getD-replicate}
 use lib.Dec.{leb, ltb}
 use borrow.Author.Tests.{leb-true, ltb-true}
 use Rattle.meaning.specs.Limits.{leastVariables, mostVariables, leastSize, mostSize, mostFeatures, numberEnd}
 use Rattle.meaning.specs.Task.{Entry, Operator, State, Entries, IsOperator, Run, size, value}
 use Rattle.meaning.specs.Feature.{features}
-use Rattle.meaning.specs.Number.{Reason, Limit, Range, Unordered, number, numberBytes}
-use Rattle.meaning.specs.File.{inside, item, rising, sizesOf, header, valuesOf, featuresOf, featureList, entriesOf}
+use Rattle.meaning.specs.Number.{Reason, Limit, Range, Unordered, number, numbersOn, numberBytes}
+use Rattle.meaning.specs.File.{inside, item, limited, rising, itemsOf, sizesOf, sizeList, header, valuesOf, featuresOf, featureList, entriesOf}
 use Rattle.meaning.specs.File.{operatorOf, operatorsOf, InLimits, bytesOf, counted, entryBytes, operatorBytes, weightBytes}
 use Rattle.theory.specs.Search.{and-left, and-right}
 use Rattle.theory.specs.Run.{run-none, run-more, run-wider}
-use Rattle.theory.specs.Spent.{Bytes, Gives, gives-known, gives-then, gives-map, gives-give, gives-tested, gives-judged}
+use Rattle.theory.specs.Spent.{Bytes, Gives, gives-known, gives-then, gives-map, gives-give, gives-tested}
 use Rattle.theory.specs.NumberBack.{number-gives}
 use Rattle.theory.specs.ReadBack.{entry-apart}
 
@@ -63,42 +63,46 @@ module _ (bytes : List ℕ) where
 
   pub item-said : (low high : ℕ) (reason : Reason) → Gives bytes (item (inside low high) reason) (λ n l. (low ≤ n) × (n < high) × Said n l)
   unfolding item
-  item-said low high reason = gives-known _ (gives-tested (inside low high) reason number-said) (λ n l k.
+  item-said low high reason = gives-known _ (gives-tested (inside low high) reason (λ n s place. place) number-said) (λ n l k.
       (leb-true low n (and-left (leb low n) (ltb n high) (k .0)), ltb-true n high (and-right (leb low n) (ltb n high) (k .0)), k .1))
 
   pub rising-said : (low high least : ℕ) → Gives bytes (rising low high least) (λ n l. (max low least ≤ n) × (n < high) × Said n l)
   unfolding rising
-  rising-said low high least = gives-known _ (gives-tested (leb least) Unordered (item-said low high Range)) (λ n l k.
+  rising-said low high least = gives-known _ (gives-tested (leb least) Unordered (λ n s place. place) (item-said low high Range)) (λ n l k.
       let (e, (h, m, said)) = k in let o : least ≤ n = leb-true least n e in (omega arith, m, said))
 
   -- ---- sizes and values
 
-  pub sizes-said : (k : ℕ) → Gives bytes (sizesOf k) (λ sizes l. (length sizes ≡ k)
-      × ((i : ℕ) → i < length sizes → (leastSize ≤ size sizes i) × (size sizes i ≤ mostSize)) × Exact bytes (bytesOf numberBytes) sizes l)
-  unfolding sizesOf
-  sizes-said zero = gives-give _ (refl, (λ i l. absurd (omega arith)), exact-none bytes numberBytes)
-  sizes-said (suc k) = gives-then _ _ (item-said leastSize (suc mostSize) Limit) (λ d l h. gives-map (_∷_ d) _ (sizes-said k) (λ ds m g. (
+  pub items-said : (low : ℕ) (reason : Reason) (bounds : List ℕ) → Gives bytes (itemsOf low reason bounds) (λ ns l. (length ns ≡ length bounds)
+      × ((i : ℕ) → i < length bounds → (low ≤ getD ns i 0) × (getD ns i 0 < getD bounds i 0)) × Exact bytes (bytesOf numberBytes) ns l)
+  unfolding itemsOf
+  items-said low reason [] = gives-give _ (refl, (λ i l. absurd (omega arith)), exact-none bytes numberBytes)
+  items-said low reason (bound ∷ bounds) = gives-then _ _ (item-said low bound reason) (λ n l h. gives-map (_∷_ n) _ (items-said low reason bounds) (λ ns m g. (
     ap suc (g .0),
-    each-more (λ i. (leastSize ≤ size (d ∷ ds) i) × (size (d ∷ ds) i ≤ mostSize)) (length ds) (h .0, omega (arith, h .1)) (g .1),
-    exact-more bytes numberBytes d ds l m (h .2 .1) (g .2),
+    each-more (λ i. (low ≤ getD (n ∷ ns) i 0) × (getD (n ∷ ns) i 0 < getD (bound ∷ bounds) i 0)) (length bounds) (h .0, h .1) (g .1),
+    exact-more bytes numberBytes n ns l m (h .2 .1) (g .2),
   )))
 
-  pub header-said : Gives bytes header (λ sizes l. InLimits sizes × Exact bytes (counted numberBytes) sizes l)
-  unfolding header
-  header-said = gives-then _ _ (item-said leastVariables (suc mostVariables) Limit) (λ v l h.
-      gives-known _ (gives-judged (λ ds. leb (features ds) mostFeatures) Limit (sizes-said v)) (λ sizes m g.
-      let (total, (long, each, exact)) = g in (
-        record { variables = (omega (arith, h .0), omega (arith, h .1)); each = each; total = leb-true (features sizes) mostFeatures total },
-        exact-counted bytes numberBytes v sizes l m long (h .2 .1) exact,
-      )))
+  pub sizes-said : (least most v : ℕ) → Gives bytes (sizesOf least most v) (λ sizes l. (length sizes ≡ v)
+      × ((i : ℕ) → i < length sizes → (least ≤ size sizes i) × (size sizes i ≤ most)) × Exact bytes (bytesOf numberBytes) sizes l)
+  sizes-said least most v = gives-known _ (items-said least Limit (replicate v (suc most))) (λ sizes l g.
+      let long : length sizes ≡ v = g .0 ∙ length-replicate v (suc most) in
+      (long, (λ i h. let k = g .1 i (omega arith) in (k .0, omega (arith, k .1, getD-replicate v i (suc most) 0 (omega arith)))), g .2))
+
+  pub size-list-said : (least most : ℕ) → Gives bytes (sizeList least most) (λ sizes l. (leastVariables ≤ length sizes) × (length sizes ≤ mostVariables)
+      × ((i : ℕ) → i < length sizes → (least ≤ size sizes i) × (size sizes i ≤ most)) × Exact bytes (counted numberBytes) sizes l)
+  unfolding sizeList
+  size-list-said least most = gives-then _ _ (item-said leastVariables (suc mostVariables) Limit) (λ v l h. gives-known _ (sizes-said least most v) (λ sizes m g.
+      (omega (arith, h .0, g .0), omega (arith, h .1, g .0), g .1, exact-counted bytes numberBytes v sizes l m (g .0) (h .2 .1) (g .2))))
+
+  pub header-said : Gives bytes (header leastSize mostSize) (λ sizes l. InLimits sizes × Exact bytes (counted numberBytes) sizes l)
+  unfolding header limited
+  header-said = gives-known _ (gives-tested (λ ds. leb (features ds) mostFeatures) Limit (λ ds. numbersOn (length ds)) (size-list-said leastSize mostSize)) (λ sizes l g.
+      let (total, (low, high, each, exact)) = g in
+      (record { variables = (low, high); each = each; total = leb-true (features sizes) mostFeatures total }, exact))
 
   pub values-said : (sizes : List ℕ) → Gives bytes (valuesOf sizes) (λ state l. State sizes state × Exact bytes (bytesOf numberBytes) state l)
-  unfolding valuesOf
-  values-said [] = gives-give _ (record { full = refl; values = λ i l. absurd (omega arith) }, exact-none bytes numberBytes)
-  values-said (d ∷ ds) = gives-then _ _ (item-said 0 d Range) (λ x l h. gives-map (_∷_ x) _ (values-said ds) (λ xs m g. (
-    record { full = ap suc (g .0 .full); values = each-more (λ i. value (x ∷ xs) i < size (d ∷ ds) i) (length ds) (h .1) (g .0 .values) },
-    exact-more bytes numberBytes x xs l m (h .2 .1) (g .1),
-  )))
+  values-said sizes = gives-known _ (items-said 0 Range sizes) (λ state l g. (record { full = g .0; values = λ i h. g .1 i h .1 }, g .2))
 
   -- ---- features
 

@@ -1,20 +1,20 @@
 -- The bytes of a task that can be written are read back as that task, and the bytes of a weight list as that list.
 use Prim.Native.Nat.{ℕ, suc, _+_, _<_, _≤_}
-use mathlib.Core.Path.{_≡_, refl, ap, _∙_}
+use mathlib.Core.Path.{_≡_, refl, sym, ap, _∙_}
 use mathlib.Core.Bool.{Bool, true}
 use mathlib.Core.List.{List, [], _∷_, _++_, append-assoc, append-nil, List·Memᴰ as In, List·Memᴰ·head as here, List·Memᴰ·tail as there}
 use native.Mathlib.Omega.{arith}
 use native.Mathlib.Nat.{zero-add}
-use lib.ListN.{length, length-append}
+use lib.ListN.{length, getD, replicate, length-append, length-replicate, getD-replicate}
 use lib.Dec.{leb, ltb}
 use borrow.Author.Tests.{lt-ltb, le-leb}
 use Rattle.meaning.specs.Limits.{leastVariables, mostVariables, leastSize, mostSize, mostFeatures, numberEnd}
 use Rattle.meaning.specs.Sets.{listed}
-use Rattle.meaning.specs.Task.{Entry, Operator, Task, Entries, IsOperator, Run, size, value}
+use Rattle.meaning.specs.Task.{Entry, Operator, Task, State, Entries, IsOperator, Run, size}
 use Rattle.meaning.specs.Feature.{atoms, features}
 use Rattle.meaning.specs.Pair.{closed}
 use Rattle.meaning.specs.Number.{Reason, Limit, Range, got, numberBytes}
-use Rattle.meaning.specs.File.{Parser, give, then, inside, item, judge, rising, ended, sizesOf, header, valuesOf, featuresOf, featureList, entriesOf}
+use Rattle.meaning.specs.File.{Parser, give, then, inside, item, judge, limited, rising, ended, itemsOf, sizesOf, sizeList, header, valuesOf, featuresOf, featureList, entriesOf}
 use Rattle.meaning.specs.File.{operatorOf, operatorsOf, taskOf, judgedTask, judgedWeights, InLimits, Writable, bytesOf, counted, entryBytes, operatorBytes, weightBytes, taskBytes}
 use Rattle.theory.specs.Search.{and-both, all-each}
 use Rattle.theory.specs.Run.{run-first, run-rest, run-length}
@@ -37,11 +37,11 @@ pub rising-back : (low high least n : ℕ) → low ≤ n → least ≤ n → n <
 unfolding rising
 rising-back low high least n h k l m after = record { reads = λ before. rw (between-back low high Range n h l m after .reads before, le-leb least n k) }
 
--- A test of what was read reads nothing.
-pub judged-back : {A : Type 0} {first : Parser A} (test : A → Bool) (reason : Reason) {a : A} {l after : List ℕ} → test a ≡ true → Reads first a l after
-    → Reads (then first (λ c. then (judge (test c) reason) (λ _. give c))) a l after
-unfolding judge
-judged-back test reason e h = record { reads = λ before. rw (h .reads before, e) }
+-- A limit that is kept reads nothing.
+pub limited-back : {A : Type 0} {first : Parser A} (test : A → Bool) (behind : A → ℕ) {a : A} {l after : List ℕ} → test a ≡ true → Reads first a l after
+    → Reads (limited first test behind) a l after
+unfolding limited
+limited-back test behind e h = record { reads = λ before. rw (h .reads before, e) }
 
 -- Where nothing follows, the end is found.
 pub ended-back : {A B : Type 0} {first : Parser A} (f : A → B) {a : A} {l : List ℕ} → Reads first a l []
@@ -55,39 +55,50 @@ ended-back f {l = l} h = record {
 
 -- ---- sizes and values
 
-pub sizes-back : (sizes : List ℕ) → ((i : ℕ) → i < length sizes → (leastSize ≤ size sizes i) × (size sizes i ≤ mostSize)) → (after : List ℕ)
-    → Reads (sizesOf (length sizes)) sizes (bytesOf numberBytes sizes) after
-unfolding sizesOf bytesOf
-sizes-back [] h after = reads-give
-sizes-back (d ∷ ds) h after =
-    let (low, high) = h 0 (omega arith) in
-    reads-then _ (between-back leastSize (suc mostSize) Limit d low (omega arith) (omega arith) (bytesOf numberBytes ds ++ after))
-    (reads-map (_∷_ d) (sizes-back ds (λ i l. h (suc i) (omega arith)) after))
-
-pub header-back : (sizes : List ℕ) → InLimits sizes → (after : List ℕ) → Reads header sizes (counted numberBytes sizes) after
-unfolding header counted
-header-back sizes limits after =
-    let (low, high) = limits .variables in
-    reads-then _ (between-back leastVariables (suc mostVariables) Limit (length sizes) low (omega arith) (omega arith) (bytesOf numberBytes sizes ++ after))
-    (judged-back (λ ds. leb (features ds) mostFeatures) Limit (le-leb (features sizes) mostFeatures (limits .total)) (sizes-back sizes (limits .each) after))
-
--- Sizes of which every value is a number of a file.
+-- Bounds of which every number below is a number of a file.
 abbrev pub Sayable : List ℕ → Type 0
-Sayable sizes = (i : ℕ) → i < length sizes → size sizes i ≤ numberEnd
+Sayable bounds = (i : ℕ) → i < length bounds → getD bounds i 0 ≤ numberEnd
 
 pub limits-sayable : (sizes : List ℕ) → InLimits sizes → Sayable sizes
 limits-sayable sizes limits i l = omega (arith, limits .each i l)
 
-pub values-back : (sizes state : List ℕ) → Sayable sizes → length state ≡ length sizes → ((i : ℕ) → i < length sizes → value state i < size sizes i) → (after : List ℕ)
-    → Reads (valuesOf sizes) state (bytesOf numberBytes state) after
-unfolding valuesOf bytesOf
-values-back [] [] m e h after = reads-give
-values-back [] (x ∷ xs) m e h after = absurd (omega arith)
-values-back (d ∷ ds) [] m e h after = absurd (omega arith)
-values-back (d ∷ ds) (x ∷ xs) m e h after =
-    let l : x < d = h 0 (omega arith) in
-    reads-then _ (between-back 0 d Range x (omega arith) l (omega (arith, m 0 (omega arith))) (bytesOf numberBytes xs ++ after))
-    (reads-map (_∷_ x) (values-back ds xs (λ i l. m (suc i) (omega arith)) (omega arith) (λ i l. h (suc i) (omega arith)) after))
+pub items-back : (low : ℕ) (reason : Reason) (bounds ns : List ℕ) → Sayable bounds → length ns ≡ length bounds
+    → ((i : ℕ) → i < length bounds → (low ≤ getD ns i 0) × (getD ns i 0 < getD bounds i 0)) → (after : List ℕ) → Reads (itemsOf low reason bounds) ns (bytesOf numberBytes ns) after
+unfolding itemsOf bytesOf
+items-back low reason [] [] m e h after = reads-give
+items-back low reason [] (n ∷ ns) m e h after = absurd (omega arith)
+items-back low reason (bound ∷ bounds) [] m e h after = absurd (omega arith)
+items-back low reason (bound ∷ bounds) (n ∷ ns) m e h after =
+    let (first, last) = h 0 (omega arith) in
+    reads-then _ (between-back low bound reason n first last (omega (arith, m 0 (omega arith))) (bytesOf numberBytes ns ++ after))
+    (reads-map (_∷_ n) (items-back low reason bounds ns (λ i l. m (suc i) (omega arith)) (omega arith) (λ i l. h (suc i) (omega arith)) after))
+
+pub sizes-back : (least most : ℕ) (sizes : List ℕ) → most < numberEnd → ((i : ℕ) → i < length sizes → (least ≤ size sizes i) × (size sizes i ≤ most)) → (after : List ℕ)
+    → Reads (sizesOf least most (length sizes)) sizes (bytesOf numberBytes sizes) after
+sizes-back least most sizes below h after =
+    let long = length-replicate (length sizes) (suc most) in
+    items-back least Limit (replicate (length sizes) (suc most)) sizes
+    (λ i l. omega (arith, getD-replicate (length sizes) i (suc most) 0 (omega arith)))
+    (sym long)
+    (λ i l. let k = h i (omega arith) in (k .0, omega (arith, k .1, getD-replicate (length sizes) i (suc most) 0 (omega arith))))
+    after
+
+pub size-list-back : (least most : ℕ) (sizes : List ℕ) → most < numberEnd → leastVariables ≤ length sizes → length sizes ≤ mostVariables
+    → ((i : ℕ) → i < length sizes → (least ≤ size sizes i) × (size sizes i ≤ most)) → (after : List ℕ) → Reads (sizeList least most) sizes (counted numberBytes sizes) after
+unfolding sizeList counted
+size-list-back least most sizes below low high h after =
+    reads-then _ (between-back leastVariables (suc mostVariables) Limit (length sizes) low (omega arith) (omega arith) (bytesOf numberBytes sizes ++ after))
+    (sizes-back least most sizes below h after)
+
+pub header-back : (sizes : List ℕ) → InLimits sizes → (after : List ℕ) → Reads (header leastSize mostSize) sizes (counted numberBytes sizes) after
+unfolding header
+header-back sizes limits after =
+    let (low, high) = limits .variables in
+    limited-back (λ ds. leb (features ds) mostFeatures) length (le-leb (features sizes) mostFeatures (limits .total))
+    (size-list-back leastSize mostSize sizes (omega arith) low high (limits .each) after)
+
+pub values-back : (sizes state : List ℕ) → Sayable sizes → State sizes state → (after : List ℕ) → Reads (valuesOf sizes) state (bytesOf numberBytes state) after
+values-back sizes state m good after = items-back 0 Range sizes state m (good .full) (λ i l. (omega arith, good .values i l)) after
 
 -- ---- features
 
@@ -156,8 +167,8 @@ task-back T good =
     let small = limits-sayable (T .sizes) limits in
     let few : length (T .sizes) < numberEnd = omega (arith, limits .variables) in
     reads-then _ (header-back (T .sizes) limits _)
-    (reads-then _ (values-back (T .sizes) (T .start) small (fine .start .full) (fine .start .values) _)
-    (reads-then _ (values-back (T .sizes) (T .goal) small (fine .goal .full) (fine .goal .values) _)
+    (reads-then _ (values-back (T .sizes) (T .start) small (fine .start) _)
+    (reads-then _ (values-back (T .sizes) (T .goal) small (fine .goal) _)
     (reads-then _ (feature-list-back (atoms (T .sizes)) (features (T .sizes)) (T .pairs) (omega (arith, limits .total)) (fine .pairs) _)
     (reads-then _ (number-back (length (T .operators)) (good .countable) _)
     (ended-back (λ os. record { sizes = T .sizes; start = T .start; goal = T .goal; pairs = T .pairs; operators = os }) (operators-back (T .sizes) few small (T .operators) (fine .operators) []))))))

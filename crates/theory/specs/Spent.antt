@@ -75,17 +75,11 @@ gives-map f Q h k = gives-still (λ place a. give (f a)) Q h (λ a l place middl
 pub gives-give : {A : Type 0} {bytes : List ℕ} {a : A} (P : A → List ℕ → Type 0) → P a [] → Gives bytes (give a) P
 gives-give P h = record { gives = λ place b next e. spent-same P e (record { spent = []; moved = sym (add-zero place); there = refl; known = h }) }
 
--- What was read has to pass a test.
-pub gives-tested : {A : Type 0} {bytes : List ℕ} {first : Parser A} (test : A → Bool) (reason : Reason) {P : A → List ℕ → Type 0}
-    → Gives bytes first P → Gives bytes (λ s place. onRead (first s place) (λ a next. cond (test a) (got a next) (fault reason place))) (λ a l. (test a ≡ true) × P a l)
-gives-tested test reason {P} h = gives-still (λ place a s middle. cond (test a) (got a middle) (fault reason place)) _ h (λ a l place middle b next x e.
-    let (passed, z) = test-passed (test a) (got a middle) reason place b next e in (subst (λ c. (test c ≡ true) × P c l) (got-value z) (passed, x), got-next z))
-
--- What was read is judged.
-pub gives-judged : {A : Type 0} {bytes : List ℕ} {first : Parser A} (test : A → Bool) (reason : Reason) {P : A → List ℕ → Type 0}
-    → Gives bytes first P → Gives bytes (then first (λ c. then (judge (test c) reason) (λ _. give c))) (λ a l. (test a ≡ true) × P a l)
-gives-judged {bytes = bytes} test reason {P} h = gives-still (λ place a. then (judge (test a) reason) (λ _. give a)) _ h (λ a l place middle b next x e.
-    let (passed, z) = judged-passed (test a) reason bytes middle a b next e in (subst (λ c. (test c ≡ true) × P c l) (got-value z) (passed, x), got-next z))
+-- What was read has to pass a test, with a fault at some place.
+pub gives-tested : {A : Type 0} {bytes : List ℕ} {first : Parser A} (test : A → Bool) (reason : Reason) (there : A → List ℕ → ℕ → ℕ) {P : A → List ℕ → Type 0}
+    → Gives bytes first P → Gives bytes (λ s place. onRead (first s place) (λ a next. cond (test a) (got a next) (fault reason (there a s place)))) (λ a l. (test a ≡ true) × P a l)
+gives-tested {bytes = bytes} test reason there {P} h = gives-still (λ place a s middle. cond (test a) (got a middle) (fault reason (there a s place))) _ h (λ a l place middle b next x e.
+    let (passed, z) = test-passed (test a) (got a middle) reason (there a bytes place) b next e in (subst (λ c. (test c ≡ true) × P c l) (got-value z) (passed, x), got-next z))
 
 -- ---- the end of the file
 

@@ -66,6 +66,7 @@ formed-A = record {
   words = refl;
   proper = record {
     limits = record { variables = (omega arith, omega arith); each = size-two; total = omega arith };
+    taken = λ i l. size-two i l .0;
     start = state-more 2 0 _ _ (omega arith) (state-more 2 0 _ _ (omega arith) state-none);
     goal = state-more 2 0 _ _ (omega arith) (state-more 2 1 _ _ (omega arith) state-none);
     pairs = λ f e. absurd (true≢false (sym e));
@@ -74,7 +75,7 @@ formed-A = record {
   };
 }
   where
-    size-two : (i : ℕ) → i < 2 → (1 ≤ size pairOfTwo i) × (size pairOfTwo i ≤ 64)
+    size-two : (i : ℕ) → i < 2 → (0 < size pairOfTwo i) × (size pairOfTwo i ≤ 64)
     size-two zero l = (omega arith, omega arith)
     size-two (suc zero) l = (omega arith, omega arith)
     size-two (suc (suc i)) l = absurd (omega arith)

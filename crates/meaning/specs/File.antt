@@ -128,15 +128,20 @@ judgedWeights n bytes = then (featureList 0 n) (λ weights. then ended (λ _. gi
 
 -- ---- tasks that can be accepted, and their bytes
 
--- "Limits: v 1 to 64; d 1 to 64; N at most 4,096."
+-- "Limits: v 1 to 64; d 1 to 64; N at most 4,096." Whatever is said of states and features holds for every size above 0.
 pub record InLimits (sizes : List ℕ) : Type 0 where
   pub variables : (leastVariables ≤ length sizes) × (length sizes ≤ mostVariables)
-  pub each : (i : ℕ) → i < length sizes → (leastSize ≤ size sizes i) × (size sizes i ≤ mostSize)
+  pub each : (i : ℕ) → i < length sizes → (0 < size sizes i) × (size sizes i ≤ mostSize)
   pub total : features sizes ≤ mostFeatures
+
+-- The least size that task files and workspaces take.
+abbrev pub Taken : List ℕ → Type 0
+Taken sizes = (i : ℕ) → i < length sizes → leastSize ≤ size sizes i
 
 -- A task that keeps every rule of document 01.
 pub record Acceptable (T : Task) : Type 0 where
   pub limits : InLimits (T .sizes)
+  pub taken : Taken (T .sizes)
   pub start : State (T .sizes) (T .start)
   pub goal : State (T .sizes) (T .goal)
   pub pairs : Run (atoms (T .sizes)) (T .pairs) (features (T .sizes))

@@ -11,7 +11,7 @@ use Rattle.meaning.specs.Task.{Task, State}
 use Rattle.meaning.specs.Feature.{atoms, features}
 use Rattle.meaning.specs.Pair.{holds}
 use Rattle.meaning.specs.Slot.{Reduced}
-use Rattle.meaning.specs.File.{InLimits}
+use Rattle.meaning.specs.File.{InLimits, Taken}
 
 -- "W = N/64 rounded up"
 abbrev pub wordsFor : ℕ → ℕ
@@ -71,6 +71,7 @@ wordsOf c =
 -- shape"
 pub record Proper (c : Content) : Type 0 where
   pub limits : InLimits (c .sizes)
+  pub taken : Taken (c .sizes)
   pub start : State (c .sizes) (c .start)
   pub goal : State (c .sizes) (c .goal)
   pub pairs : (f : ℕ) → c .pairs f ≡ true → (atoms (c .sizes) ≤ f) × (f < features (c .sizes))

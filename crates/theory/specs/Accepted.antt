@@ -33,7 +33,7 @@ module _ (bytes : List ℕ) where
       gives-then _ _ (number-said bytes) (λ k q e.
       gives-ended (λ os. record { sizes = sizes; start = start; goal = goal; pairs = pairs; operators = os }) _ (operators-said bytes sizes k) (λ os r f. (
         λ free shut. record {
-          acceptable = record { limits = a .0; start = b .0; goal = c .0; pairs = d .0; operators = f .1; free = free; closed-under = all-at (closed sizes (listed pairs)) os shut };
+          acceptable = record { limits = a .0; taken = a .2; start = b .0; goal = c .0; pairs = d .0; operators = f .1; free = free; closed-under = all-at (closed sizes (listed pairs)) os shut };
           countable = rw (f .0) (e .0);
         },
         λ small. ap₂ _++_ (a .1 small) (ap₂ _++_ (b .1 small) (ap₂ _++_ (c .1 small) (ap₂ _++_ (d .1 small) (exact-counted bytes _ k os q r (f .0) (e .1) (f .2) small)))),

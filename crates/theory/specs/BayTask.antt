@@ -158,6 +158,7 @@ unfolding taskFor
 bay-writable n near start goal h k apart S G once = record {
   acceptable = record {
     limits = bay-limits n h k;
+    taken = λ i l. bay-limits n h k .each i l .0;
     start = S;
     goal = G;
     pairs = pairs-run n;

@@ -332,6 +332,7 @@ module _ (c : Content) (further : List ℕ) (s : length (c .start) ≡ variables
 pub opened-proper : (T : Task) (slots : Slots) → Acceptable T → Reduced (features (T .sizes)) slots → Proper (contentOf T slots)
 opened-proper T slots a R = record {
   limits = a .limits;
+  taken = a .taken;
   start = a .start;
   goal = a .goal;
   pairs = λ f e. run-in _ _ (T .pairs) f (a .pairs) (listed-in (T .pairs) f e);
@@ -342,11 +343,11 @@ opened-proper T slots a R = record {
 -- An accepted edit leaves a proper content.
 pub edit-proper : (c c' : Content) (edit : Edit) → Proper c → editJudged c edit ≡ fine → Changes c edit c' → Proper c'
 edit-proper c c' (addOperator r) p e h = subst Proper (sym (h .2))
-    (record { limits = p .limits; start = p .start; goal = p .goal; pairs = p .pairs; free = p .free; slots = h .1 .shape })
+    (record { limits = p .limits; taken = p .taken; start = p .start; goal = p .goal; pairs = p .pairs; free = p .free; slots = h .1 .shape })
 edit-proper c c' (replaceStart values) p e h = let (s, k) = start-fine c values e in subst Proper (sym h)
-    (record { limits = p .limits; start = s; goal = p .goal; pairs = p .pairs; free = k; slots = p .slots })
+    (record { limits = p .limits; taken = p .taken; start = s; goal = p .goal; pairs = p .pairs; free = k; slots = p .slots })
 edit-proper c c' (replaceGoal values) p e h = subst Proper (sym h)
-    (record { limits = p .limits; start = p .start; goal = goal-fine c values fine e .0; pairs = p .pairs; free = p .free; slots = p .slots })
+    (record { limits = p .limits; taken = p .taken; start = p .start; goal = goal-fine c values fine e .0; pairs = p .pairs; free = p .free; slots = p .slots })
 
 pub edit-sizes : (c c' : Content) (edit : Edit) → Changes c edit c' → c' .sizes ≡ c .sizes
 edit-sizes c c' (addOperator r) h = ap (λ d. d .sizes) (h .2)

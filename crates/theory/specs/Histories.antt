@@ -61,6 +61,7 @@ after-acceptable : (T : Task) (slots slots' : Slots) (edit : Edit) → Acceptabl
     → Acceptable (oneAfter T edit (done tt))
 after-acceptable T slots slots' edit a e p = record {
   limits = p .limits;
+  taken = p .taken;
   start = p .start;
   goal = p .goal;
   pairs = a .pairs;
@@ -213,6 +214,7 @@ same-stands T U workspace q S = subst (λ task. StandsFor task workspace) alike 
   words = S .words;
   acceptable = record {
     limits = S .acceptable .limits;
+    taken = S .acceptable .taken;
     start = S .acceptable .start;
     goal = S .acceptable .goal;
     pairs = S .acceptable .pairs;

@@ -12,7 +12,7 @@ use Rattle.meaning.specs.Task.{Entry, Operator, State, Entries, IsOperator, Run
 use Rattle.meaning.specs.Feature.{features}
 use Rattle.meaning.specs.Number.{Reason, Limit, Range, Unordered, number, numbersOn, numberBytes}
 use Rattle.meaning.specs.File.{inside, item, limited, rising, itemsOf, sizesOf, sizeList, header, valuesOf, featuresOf, featureList, entriesOf}
-use Rattle.meaning.specs.File.{operatorOf, operatorsOf, InLimits, bytesOf, counted, entryBytes, operatorBytes, weightBytes}
+use Rattle.meaning.specs.File.{operatorOf, operatorsOf, InLimits, Taken, bytesOf, counted, entryBytes, operatorBytes, weightBytes}
 use Rattle.theory.specs.Search.{and-left, and-right}
 use Rattle.theory.specs.Run.{run-none, run-more, run-wider}
 use Rattle.theory.specs.Spent.{Bytes, Gives, gives-known, gives-then, gives-map, gives-give, gives-tested}
@@ -95,11 +95,23 @@ module _ (bytes : List ℕ) where
   size-list-said least most = gives-then _ _ (item-said leastVariables (suc mostVariables) Limit) (λ v l h. gives-known _ (sizes-said least most v) (λ sizes m g.
       (omega (arith, h .0, g .0), omega (arith, h .1, g .0), g .1, exact-counted bytes numberBytes v sizes l m (g .0) (h .2 .1) (g .2))))
 
-  pub header-said : Gives bytes (header leastSize mostSize) (λ sizes l. InLimits sizes × Exact bytes (counted numberBytes) sizes l)
+  pub header-within : (least most : ℕ) → 0 < least → most ≤ mostSize
+      → Gives bytes (header least most) (λ sizes l. InLimits sizes × Exact bytes (counted numberBytes) sizes l × ((i : ℕ) → i < length sizes → least ≤ size sizes i))
   unfolding header limited
-  header-said = gives-known _ (gives-tested (λ ds. leb (features ds) mostFeatures) Limit (λ ds. numbersOn (length ds)) (size-list-said leastSize mostSize)) (λ sizes l g.
-      let (total, (low, high, each, exact)) = g in
-      (record { variables = (low, high); each = each; total = leb-true (features sizes) mostFeatures total }, exact))
+  header-within least most above within =
+      gives-known _ (gives-tested (λ ds. leb (features ds) mostFeatures) Limit (λ ds. numbersOn (length ds)) (size-list-said least most)) (λ sizes l g.
+      let (total, (low, high, each, exact)) = g in (
+        record {
+          variables = (low, high);
+          each = λ i h. let k = each i h in (omega (arith, k .0), omega (arith, k .1));
+          total = leb-true (features sizes) mostFeatures total;
+        },
+        exact,
+        λ i h. each i h .0,
+      ))
+
+  pub header-said : Gives bytes (header leastSize mostSize) (λ sizes l. InLimits sizes × Exact bytes (counted numberBytes) sizes l × Taken sizes)
+  header-said = header-within leastSize mostSize (omega arith) (omega arith)
 
   pub values-said : (sizes : List ℕ) → Gives bytes (valuesOf sizes) (λ state l. State sizes state × Exact bytes (bytesOf numberBytes) state l)
   values-said sizes = gives-known _ (items-said 0 Range sizes) (λ state l g. (record { full = g .0; values = λ i h. g .1 i h .1 }, g .2))

@@ -15,7 +15,7 @@ use Rattle.meaning.specs.Feature.{atoms, features}
 use Rattle.meaning.specs.Pair.{closed}
 use Rattle.meaning.specs.Number.{Reason, Limit, Range, got, numberBytes}
 use Rattle.meaning.specs.File.{Parser, give, then, inside, item, judge, limited, rising, ended, itemsOf, sizesOf, sizeList, header, valuesOf, featuresOf, featureList, entriesOf}
-use Rattle.meaning.specs.File.{operatorOf, operatorsOf, taskOf, judgedTask, judgedWeights, InLimits, Writable, bytesOf, counted, entryBytes, operatorBytes, weightBytes, taskBytes}
+use Rattle.meaning.specs.File.{operatorOf, operatorsOf, taskOf, judgedTask, judgedWeights, InLimits, Taken, Writable, bytesOf, counted, entryBytes, operatorBytes, weightBytes, taskBytes}
 use Rattle.theory.specs.Search.{and-both, all-each}
 use Rattle.theory.specs.Run.{run-first, run-rest, run-length}
 use Rattle.theory.specs.Reading.{Reads, reads-give, reads-then, reads-map}
@@ -90,12 +90,12 @@ size-list-back least most sizes below low high h after =
     reads-then _ (between-back leastVariables (suc mostVariables) Limit (length sizes) low (omega arith) (omega arith) (bytesOf numberBytes sizes ++ after))
     (sizes-back least most sizes below h after)
 
-pub header-back : (sizes : List ℕ) → InLimits sizes → (after : List ℕ) → Reads (header leastSize mostSize) sizes (counted numberBytes sizes) after
+pub header-back : (sizes : List ℕ) → InLimits sizes → Taken sizes → (after : List ℕ) → Reads (header leastSize mostSize) sizes (counted numberBytes sizes) after
 unfolding header
-header-back sizes limits after =
+header-back sizes limits taken after =
     let (low, high) = limits .variables in
     limited-back (λ ds. leb (features ds) mostFeatures) length (le-leb (features sizes) mostFeatures (limits .total))
-    (size-list-back leastSize mostSize sizes (omega arith) low high (limits .each) after)
+    (size-list-back leastSize mostSize sizes (omega arith) low high (λ i l. (taken i l, limits .each i l .1)) after)
 
 pub values-back : (sizes state : List ℕ) → Sayable sizes → State sizes state → (after : List ℕ) → Reads (valuesOf sizes) state (bytesOf numberBytes state) after
 values-back sizes state m good after = items-back 0 Range sizes state m (good .full) (λ i l. (omega arith, good .values i l)) after
@@ -166,7 +166,7 @@ task-back T good =
     let limits = fine .limits in
     let small = limits-sayable (T .sizes) limits in
     let few : length (T .sizes) < numberEnd = omega (arith, limits .variables) in
-    reads-then _ (header-back (T .sizes) limits _)
+    reads-then _ (header-back (T .sizes) limits (fine .taken) _)
     (reads-then _ (values-back (T .sizes) (T .start) small (fine .start) _)
     (reads-then _ (values-back (T .sizes) (T .goal) small (fine .goal) _)
     (reads-then _ (feature-list-back (atoms (T .sizes)) (features (T .sizes)) (T .pairs) (omega (arith, limits .total)) (fine .pairs) _)

@@ -11,7 +11,7 @@ use lib.Seq.{sets, sets-eq}
 use lib.Dec.{eqb}
 use borrow.Author.Tests.{lt-ltb, le-ltb}
 use Rattle.meaning.specs.Limits.{group, mostGroups, numberEnd}
-use Rattle.meaning.specs.Number.{Read, got, fault, onRead, Ends, Padded, Endless, groups, groupBytes, numberBytes}
+use Rattle.meaning.specs.Number.{Reason, Read, got, fault, onRead, Ends, Padded, Endless, groups, number, numbersOn, groupBytes, numberBytes}
 use Rattle.theory.specs.NumberBack.{groups-one, groups-give, group-one, group-more, group-bytes-filled}
 
 -- ---- reading
@@ -46,6 +46,21 @@ module _ (first : ℕ) (bytes : List ℕ) (place : ℕ) where
   -- What so many groups hold at most.
   pub groups-below : (k n next : ℕ) → k ≤ mostGroups → groups k first bytes place ≡ got n next → n < numberEnd
   groups-below k n next h e = lt-of-lt-of-le (groups-give bytes k first .gives place n next e .known .below) (pow-le-pow-right (omega arith) h)
+
+-- ---- numbers that are passed over
+
+module _ (bytes : List ℕ) (place count i : ℕ) where
+  pub on-none : count ≤ i → numbersOn (count - i) bytes place ≡ place
+  unfolding numbersOn
+  on-none h = let q : count - i ≡ 0 = omega arith in rw q
+
+  pub on-more : (n next : ℕ) → i < count → number bytes place ≡ got n next → numbersOn (count - i) bytes place ≡ numbersOn (count - (i + 1)) bytes next
+  unfolding numbersOn
+  on-more n next h e = let q : count - i ≡ suc (count - (i + 1)) = omega arith in rw (q, e)
+
+  pub on-fault : (reason : Reason) (there : ℕ) → i < count → number bytes place ≡ fault reason there → numbersOn (count - i) bytes place ≡ place
+  unfolding numbersOn
+  on-fault reason there h e = let q : count - i ≡ suc (count - (i + 1)) = omega arith in rw (q, e)
 
 -- ---- writing
 

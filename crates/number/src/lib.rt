@@ -4,7 +4,7 @@ ghost use mathlib.Core.List.{_++_};
 ghost use Prim.Native.Nat.{_+_, _<_, _≤_};
 ghost use lib.ListN.{length, take, drop};
 ghost use Rattle.meaning.specs.Limits.{mostGroups, numberEnd};
-ghost use Rattle.meaning.specs.Number.{refusal as refusalNumber, groups, number, numberBytes};
+ghost use Rattle.meaning.specs.Number.{refusal as refusalNumber, groups, number, numbersOn, numberBytes};
 ghost use Rattle.meaning.specs.File.{inside, item, rising};
 ghost use Rattle.number.specs.Answers.{reasonOf, numberOf};
 
@@ -128,6 +128,26 @@ pub fn rising_at(bytes: &[u8], at: usize, low: usize, high: usize, least: usize)
         }
         Number::Fault(found, place) => Number::Fault(found, place),
     }
+}
+
+// The place of the number that stands so many numbers behind the one at a place.
+pub fn numbers_on(bytes: &[u8], at: usize, count: usize) -> usize
+    ensures { λ r. ⌜ r ≡ numbersOn count (now (bytes .entry)) at ⌝ }
+{
+    let mut place = at;
+    let mut i = 0;
+    while i < count {
+        match number_at(bytes, place) {
+            Number::Got(_, next) => {
+                place = next;
+            }
+            Number::Fault(_, _) => {
+                return place;
+            }
+        }
+        i += 1;
+    }
+    place
 }
 
 // How many bytes a number has in a file.

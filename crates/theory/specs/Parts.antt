@@ -1,5 +1,5 @@
 -- What is read of each part of a file is in its range, and was read from the very bytes that are written for it.
-use Prim.Native.Nat.{ℕ, zero, suc, _<_, _≤_, max}
+use Prim.Native.Nat.{ℕ, zero, suc, _-_, _<_, _≤_, max}
 use mathlib.Core.Path.{_≡_, refl, sym, ap, ap₂, _∙_}
 use mathlib.Core.Logic.{inl, inr}
 use mathlib.Core.List.{List, [], _∷_, _++_, List·Memᴰ as In, List·Memᴰ·not-nil as not-nil, List·Memᴰ·cases-cons as cases-cons}
@@ -10,11 +10,12 @@ use borrow.Author.Tests.{leb-true, ltb-true}
 use Rattle.meaning.specs.Limits.{leastVariables, mostVariables, leastSize, mostSize, mostFeatures, numberEnd}
 use Rattle.meaning.specs.Task.{Entry, Operator, State, Entries, IsOperator, Run, size, value}
 use Rattle.meaning.specs.Feature.{features}
-use Rattle.meaning.specs.Number.{Reason, Limit, Range, Unordered, number, numbersOn, numberBytes}
+use Rattle.meaning.specs.Number.{Reason, Limit, Range, Unordered, got, number, numbersOn, numberBytes}
 use Rattle.meaning.specs.File.{inside, item, limited, rising, itemsOf, sizesOf, sizeList, header, valuesOf, featuresOf, featureList, entriesOf}
 use Rattle.meaning.specs.File.{operatorOf, operatorsOf, InLimits, Taken, bytesOf, counted, entryBytes, operatorBytes, weightBytes}
 use Rattle.theory.specs.Search.{and-left, and-right}
 use Rattle.theory.specs.Run.{run-none, run-more, run-wider}
+use Rattle.theory.specs.Reading.{got-value, got-next, on-got, test-passed}
 use Rattle.theory.specs.Spent.{Bytes, Gives, gives-known, gives-then, gives-map, gives-give, gives-tested}
 use Rattle.theory.specs.NumberBack.{number-gives}
 use Rattle.theory.specs.ReadBack.{entry-apart}
@@ -49,6 +50,11 @@ exact-entry bytes e es l m n p a b c d small =
 each-more : (P : ℕ → Type 0) (n : ℕ) → P 0 → ((i : ℕ) → i < n → P (suc i)) → (i : ℕ) → i < suc n → P i
 each-more P n h k zero l = h
 each-more P n h k (suc i) l = k i (omega arith)
+
+-- The last of a list, behind another number or not.
+last-of : (v : ℕ) (ns : List ℕ) → 1 ≤ length ns → getD (v ∷ ns) (length ns) 0 ≡ getD ns (length ns - 1) 0
+last-of v [] h = absurd (omega arith)
+last-of v (n ∷ ns) h = let k : suc (length ns) - 1 ≡ length ns = omega arith in rw k refl
 
 -- ---- one number
 
@@ -112,6 +118,29 @@ module _ (bytes : List ℕ) where
 
   pub header-said : Gives bytes (header leastSize mostSize) (λ sizes l. InLimits sizes × Exact bytes (counted numberBytes) sizes l × Taken sizes)
   header-said = header-within leastSize mostSize (omega arith) (omega arith)
+
+  -- Numbers behind another: the last of them all is as many numbers behind that one, and reading went on from there.
+  items-last : (low : ℕ) (reason : Reason) (bounds : List ℕ) (place v next : ℕ) (ns : List ℕ) (after : ℕ) → number bytes place ≡ got v next
+      → itemsOf low reason bounds bytes next ≡ got ns after → number bytes (numbersOn (length ns) bytes place) ≡ got (getD (v ∷ ns) (length ns) 0) after
+  unfolding itemsOf numbersOn item
+  items-last low reason [] place v next ns after e r = rw (← got-value r, ← got-next r) e
+  items-last low reason (bound ∷ bounds) place v next ns after e r =
+      let (n, middle, p, q) = on-got (item (inside low bound) reason bytes next) _ ns after r in
+      let (m, other, first, t) = on-got (number bytes next) _ n middle p in
+      let (passed, z) = test-passed (inside low bound m) (got m other) reason next n middle t in
+      let (others, last, rest, w) = on-got (itemsOf low reason bounds bytes middle) _ ns after q in
+      rw (← got-value w, e) (items-last low reason bounds next n middle others after (first ∙ z) (rest ∙ ap (got others) (got-next w)))
+
+  -- N is placed at the last size.
+  pub sizes-last : (least most place : ℕ) (sizes : List ℕ) (after : ℕ) → sizeList least most bytes place ≡ got sizes after
+      → number bytes (numbersOn (length sizes) bytes place) ≡ got (size sizes (length sizes - 1)) after
+  unfolding sizeList item
+  sizes-last least most place sizes after r =
+      let (v, next, p, q) = on-got (item (inside leastVariables (suc mostVariables)) Limit bytes place) _ sizes after r in
+      let (m, other, first, t) = on-got (number bytes place) _ v next p in
+      let (passed, z) = test-passed (inside leastVariables (suc mostVariables) m) (got m other) Limit place v next t in
+      let known = size-list-said least most .gives place sizes after r .known in
+      items-last least Limit (replicate v (suc most)) place v next sizes after (first ∙ z) q ∙ ap (λ n. got n after) (last-of v sizes (known .0))
 
   pub values-said : (sizes : List ℕ) → Gives bytes (valuesOf sizes) (λ state l. State sizes state × Exact bytes (bytesOf numberBytes) state l)
   values-said sizes = gives-known _ (items-said 0 Range sizes) (λ state l g. (record { full = g .0; values = λ i h. g .1 i h .1 }, g .2))

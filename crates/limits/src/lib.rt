@@ -16,6 +16,9 @@ pub const MOST_FEATURES: usize = 4096;
 // "W = N/64 rounded up", for the most features.
 pub const MOST_WORDS: usize = 64;
 
+// As many words as the atoms of the most variables, each of the most values, fill.
+pub const ATOM_WORDS: usize = 64;
+
 // "An operator is held as one record of its entries, at most 64."
 pub const MOST_ENTRIES: usize = 64;
 

@@ -1,5 +1,5 @@
 -- Every limit of document 01, each under one name.
-use Prim.Native.Nat.{ℕ, _^_}
+use Prim.Native.Nat.{ℕ, _*_, _^_}
 
 -- "v 1 to 64"
 abbrev pub leastVariables : ℕ
@@ -18,6 +18,10 @@ mostSize = 64
 -- "N at most 4,096"
 abbrev pub mostFeatures : ℕ
 mostFeatures = 4096
+
+-- The atoms of the most variables, each of the most values.
+abbrev pub mostAtoms : ℕ
+mostAtoms = mostVariables * mostSize
 
 -- "in groups of seven bits": how many values a group has, and the least byte that says that one group follows.
 abbrev pub group : ℕ

@@ -4,10 +4,11 @@ use mathlib.Core.Path.{_≡_, refl, sym}
 use mathlib.Core.List.{List, [], _∷_}
 use native.Mathlib.Omega.{arith}
 use lib.ListN.{take}
+use Rattle.meaning.specs.Limits.{mostAtoms}
 use Rattle.meaning.specs.Task.{size}
 use Rattle.meaning.specs.Feature.{sumOf, atoms, pairStart, double}
 use Rattle.theory.specs.Numbering.{front-room, front-next, pair-room, double-below}
-use Rattle.numbering.specs.Sizes.{SmallSizes, mostAtoms, mostPairs, sum-small, pairs-small, features-small}
+use Rattle.numbering.specs.Sizes.{SmallSizes, mostPairs, sum-small, pairs-small, features-small}
 
 -- The pairs of variable i with variables before j are as many as its size times the atoms between.
 block-start : (sizes : List ℕ) (i j : ℕ) → i < j

@@ -5,14 +5,14 @@ use mathlib.Core.List.{List}
 use native.Mathlib.Omega.{arith}
 use native.Mathlib.Nat.{div-add-mod', div-lt-iff-lt-mul, mod-lt}
 use lib.ListN.{length}
-use Rattle.meaning.specs.Limits.{mostVariables}
+use Rattle.meaning.specs.Limits.{mostVariables, mostAtoms}
 use Rattle.meaning.specs.Task.{size}
 use Rattle.meaning.specs.Feature.{pairsOf, atoms, features, pairStart, double}
 use Rattle.theory.specs.Truth.{less, same, more, order}
 use Rattle.theory.specs.Numbering.{pair-room}
 use Rattle.theory.specs.NumberOrder.{pair-first, pair-step, pair-turn, pair-last}
 use Rattle.numbering.specs.declared.Block.{Block}
-use Rattle.numbering.specs.Sizes.{SmallSizes, mostAtoms, mostPairs, features-small}
+use Rattle.numbering.specs.Sizes.{SmallSizes, mostPairs, features-small}
 
 -- ---- what the routines say
 

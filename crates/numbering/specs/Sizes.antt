@@ -6,7 +6,7 @@ use mathlib.Core.List.{List, [], _∷_}
 use native.Mathlib.Omega.{arith}
 use native.Mathlib.Nat.{mul-le-mul}
 use lib.ListN.{length}
-use Rattle.meaning.specs.Limits.{mostVariables, mostSize, mostFeatures}
+use Rattle.meaning.specs.Limits.{mostVariables, mostSize, mostFeatures, mostAtoms}
 use Rattle.meaning.specs.Task.{size}
 use Rattle.meaning.specs.Feature.{sumOf, pairsOf, atoms, features, single, both}
 use Rattle.meaning.specs.File.{InLimits}
@@ -18,9 +18,6 @@ pub record SmallSizes (sizes : List ℕ) : Type 0 where
   pub small : (i : ℕ) → i < length sizes → size sizes i ≤ mostSize
 
 -- ---- small counts
-
-abbrev pub mostAtoms : ℕ
-mostAtoms = mostSize * mostVariables
 
 abbrev pub mostPairs : ℕ
 mostPairs = mostSize * mostAtoms * mostVariables
@@ -59,6 +56,9 @@ features-small sizes s = omega (arith, atoms-small sizes s, pairs-small sizes s)
 module _ (sizes : List ℕ) (limits : InLimits sizes) where
   pub limits-small : SmallSizes sizes
   limits-small = record { few = limits .variables .1; small = λ i l. limits .each i l .1 }
+
+  pub atoms-most : atoms sizes ≤ mostAtoms
+  atoms-most = atoms-small sizes limits-small
 
   pub atoms-limit : atoms sizes ≤ mostFeatures
   atoms-limit = omega (arith, atoms-room sizes, limits .total)

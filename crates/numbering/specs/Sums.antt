@@ -7,10 +7,11 @@ use native.Mathlib.Nat.{mul-add, add-mul, mul-le-mul-left}
 use native.Mathlib.Numerals.{add-one}
 use lib.ListN.{length, take}
 use lib.Seq.{take-all, take-length}
+use Rattle.meaning.specs.Limits.{mostAtoms}
 use Rattle.meaning.specs.Task.{size}
 use Rattle.meaning.specs.Feature.{sumOf, pairsOf, atoms, features}
 use Rattle.theory.specs.Numbering.{front-room}
-use Rattle.numbering.specs.Sizes.{SmallSizes, mostAtoms, mostPairs, sum-small, pairs-small}
+use Rattle.numbering.specs.Sizes.{SmallSizes, mostPairs, sum-small, pairs-small}
 
 sum-next : (sizes : List ℕ) (i : ℕ) → sumOf (take (suc i) sizes) ≡ sumOf (take i sizes) + size sizes i
 unfolding sumOf

@@ -3,9 +3,10 @@ use Prim.Native.Nat.{_+_, _*_, _≤_, _-_}
 use mathlib.Core.Path.{_≡_, refl}
 use native.Mathlib.Omega.{arith}
 use lib.ListN.{take, length}
+use Rattle.meaning.specs.Limits.{mostAtoms}
 use Rattle.meaning.specs.Feature.{sumOf, pairsOf}
 use Rattle.numbering.specs.Sums.{atoms-turn, pairs-turn, counted}
-use Rattle.numbering.specs.Sizes.{mostAtoms, mostPairs, features-small}
+use Rattle.numbering.specs.Sizes.{mostPairs, features-small}
 use Rattle.numbering.proofs.features.Statement.{statement}
 use Rattle.numbering.proofs.features.Tie as tie
 

@@ -3,7 +3,8 @@ use Prim.Native.Nat.{_+_, _*_, _≤_}
 use native.Mathlib.Omega.{arith}
 use native.Mathlib.Numerals.{add-one}
 use borrow.Author.Needs.{needs}
-use Rattle.numbering.specs.Sizes.{mostAtoms, mostPairs}
+use Rattle.meaning.specs.Limits.{mostAtoms}
+use Rattle.numbering.specs.Sizes.{mostPairs}
 use Rattle.numbering.specs.Order.{along-small, along-follows, down-follows}
 use Rattle.numbering.proofs.next_block.Statement.{statement}
 use Rattle.numbering.proofs.next_block.Tie as tie

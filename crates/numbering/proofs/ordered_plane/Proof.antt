@@ -4,9 +4,10 @@ use mathlib.Core.Path.{_≡_, ap, _∙_}
 use native.Mathlib.Omega.{arith}
 use lib.ListN.{length, take, getD}
 use borrow.Author.Needs.{needs}
+use Rattle.meaning.specs.Limits.{mostAtoms}
 use Rattle.meaning.specs.Feature.{sumOf, atoms}
 use Rattle.theory.specs.Numbering.{front-room, pair-room}
-use Rattle.numbering.specs.Sizes.{mostAtoms, sum-small, pairs-small}
+use Rattle.numbering.specs.Sizes.{sum-small, pairs-small}
 use Rattle.numbering.specs.Sums.{all-atoms, atoms-turn}
 use Rattle.numbering.specs.Starts.{starting-number}
 use Rattle.numbering.specs.Planes.{plane-ordered}

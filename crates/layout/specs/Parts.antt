@@ -5,7 +5,8 @@ use mathlib.Core.List.{List}
 use native.Mathlib.Omega.{arith}
 use lib.ListN.{length, take, drop, length-drop}
 use lib.Seq.{length-take-le}
-use Rattle.meaning.specs.Workspace.{wordsFor, sizesAt, startAt, goalAt, pairsAt, slotsAt}
+use Rattle.meaning.specs.Limits.{mostVariables, mostFeatures}
+use Rattle.meaning.specs.Workspace.{wordsFor, sizesAt, startAt, goalAt, pairsAt, slotsAt, wordsDue}
 use Rattle.layout.specs.declared.Places.{Places}
 use Rattle.layout.specs.Places.{placesOf}
 
@@ -23,6 +24,14 @@ pairsPart v n ws = take (wordsFor n) (drop (pairsAt v) ws)
 
 abbrev pub slotsPart : ℕ → ℕ → List ℕ → List ℕ
 slotsPart v n ws = take (n * wordsFor n) (drop (slotsAt v n) ws)
+
+-- All words before the slots are there, and few enough to count.
+abbrev pub Headed : ℕ → ℕ → List ℕ → Type 0
+Headed v n ws = (v ≤ mostVariables) × (n ≤ mostFeatures) × (slotsAt v n ≤ length ws)
+
+-- All words that are due are there, and few enough to count.
+abbrev pub Due : ℕ → ℕ → List ℕ → Type 0
+Due v n ws = (v ≤ mostVariables) × (n ≤ mostFeatures) × (wordsDue v n ≤ length ws)
 
 -- The words of a part, where all that are due are there.
 pub length-part : (from n : ℕ) (ws : List ℕ) → from + n ≤ length ws → length (take n (drop from ws)) ≡ n

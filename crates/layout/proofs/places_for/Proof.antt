@@ -8,8 +8,8 @@ use Rattle.layout.proofs.places_for.Tie as tie
 words-for-requires : tie.Need-words-for-requires
 words-for-requires c κs = search needs
 
-add-start : tie.Need-add-start
-add-start c = search needs
+start-at-requires : tie.Need-start-at-requires
+start-at-requires c κs = search needs
 
 add-goal : tie.Need-add-goal
 add-goal c = search needs
@@ -21,15 +21,15 @@ add-slots : tie.Need-add-slots
 add-slots c = search needs
 
 mul-t8 : tie.Need-mul-t8
-mul-t8 c = rw (c .words-for .ensures) (omega (arith, slots-few (c .before .args .n) (c .before .pre .1)))
+mul-t8 c = rw (c .before .words-for .ensures) (omega (arith, slots-few (c .before .before .args .n) (c .before .before .pre .1)))
 
 add-t9 : tie.Need-add-t9
-add-t9 c = rw (c .words-for .ensures) (omega (arith, slots-few (c .before .args .n) (c .before .pre .1)))
+add-t9 c = rw (c .before .words-for .ensures) (omega (arith, c .start-at .ensures, slots-few (c .before .before .args .n) (c .before .before .pre .1)))
 
 returns : tie.Need-returns
-returns c = rw (c .words-for .ensures)
+returns c = rw (c .before .words-for .ensures, c .start-at .ensures)
 
 pub places-for-spec : {M : Type 1} → statement M
 places-for-spec =
     tie.close
-    (tie.spec words-for-requires add-start add-goal add-pairs add-slots mul-t8 add-t9 returns)
+    (tie.spec words-for-requires start-at-requires add-goal add-pairs add-slots mul-t8 add-t9 returns)

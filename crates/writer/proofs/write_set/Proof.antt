@@ -6,11 +6,12 @@ use native.Mathlib.Omega.{arith}
 use lib.ListN.{length}
 use borrow.Author.Needs.{needs}
 use Rattle.meaning.specs.Limits.{wordBits}
-use Rattle.meaning.specs.Number.{numberBytes}
+use Rattle.meaning.specs.Number.{Small, numberBytes}
 use Rattle.meaning.specs.File.{bytesOf, counted, weightBytes}
 use Rattle.meaning.specs.Workspace.{has}
 use Rattle.theory.specs.NumberBack.{number-bytes-length}
 use Rattle.words.specs.Members.{membersIn, members-few}
+use Rattle.writer.specs.Answer.{refused-so}
 use Rattle.writer.specs.Widths.{numbers-few, counted-length}
 use Rattle.writer.specs.Remains.{remains-all, remains-after, remains-none, delivered-small, delivered-done}
 use Rattle.writer.specs.Judging.{weights-delivered}
@@ -34,15 +35,18 @@ add-width c =
     let words = c .before .before .before .before .before .args .words .now in
     omega (arith, c .before .before .before .before .before .pre, number-bytes-length (c .before .before .count .result), members-few (has words) (wordBits * length words), numbers-few (membersIn words))
 
+refuse-requires : tie.Need-refuse-requires
+refuse-requires c κs = search needs
+
 returns : tie.Need-returns
 unfolding weightBytes
 returns c =
-    let start = c .before .before .before .before .before .before in
+    let start = c .before .before .before .before .before .before .before in
     let words = start .args .words .now in
     let room = start .args .room .now in
     let file = counted numberBytes (membersIn words) in
-    let short : length room < length file = omega (arith, c .if1 .taken, counted-length numberBytes (membersIn words), ap (λ n. length (numberBytes n)) (c .before .before .before .count .ensures)) in
-    sym (weights-delivered (membersIn words) room (in-range-fine words (few-in-range words (start .pre))) ∙ delivered-small file room short)
+    let short : length room < length file = omega (arith, c .before .if1 .taken, counted-length numberBytes (membersIn words), ap (λ n. length (numberBytes n)) (c .before .before .before .before .count .ensures)) in
+    refused-so (c .refuse .result) Small room (c .refuse .ensures) ∙ sym (weights-delivered (membersIn words) room (in-range-fine words (few-in-range words (start .pre))) ∙ delivered-small file room short)
 
 write-number-requires : tie.Need-write-number-requires
 write-number-requires c κs =
@@ -81,6 +85,7 @@ write-set-spec =
     members-width-requires
     width-requires
     add-width
+    refuse-requires
     returns
     write-number-requires
     write-members-requires

@@ -106,7 +106,7 @@ module _ (T : Task) (weights : Set) (ok : Acceptable T) where
   pub verdict-judges : (bytes : List ℕ) (at next : ℕ) → operatorsOf (T .sizes) (length (T .operators)) bytes at ≡ got (T .operators) next
       → (v : meaning.Verdict) × (verdictOf (verdictFrom (T .sizes) (T .start) (T .goal) (listed (T .pairs)) weights (length (T .operators)) bytes at) ≡ done v) × Judges T weights v
   unfolding verdictFrom
-  verdict-judges bytes at next read = judged-by _ (breaking-first (T .sizes) (listed (T .pairs)) weights (length (T .operators)) bytes at (T .operators) next read)
+  verdict-judges bytes at next read = judged-by _ (breaking-first (T .sizes) (listed (T .pairs)) weights bytes at (T .operators) next read)
 
 -- ---- room for a row
 
@@ -138,5 +138,3 @@ module _ (n : ℕ) (bytes ws : List ℕ) (end : ℕ) (read : judgedWeights n byt
 
   pub weights-for : RowFor n (featureWords n ws)
   weights-for = record { long = length-packed n (listed ws); past = λ f l. packed-holds n (listed ws) f (past f) ∙ past f l }
-
--- ---- demand 2

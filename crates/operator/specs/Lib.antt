@@ -1,3 +1,4 @@
 pub mod Records
 pub mod Laws
 pub mod Known
+pub mod Fold

@@ -44,7 +44,7 @@ module _ (sizes : List ℕ) (pairs : Set) (start : List ℕ) (count : ℕ) (byte
       rest-closed : (b : Bool) → holds sizes pairs start ≡ false → closedFrom sizes pairs count bytes at ≡ b
           → restOf sizes pairs start count bytes at ≡ cond b (got operators next) (fault Unclosed 0)
       unfolding restOf ended judge
-      rest-closed b h c = rw (read, le-leb (length bytes) next all, h, sym (closed-all sizes bytes pairs count at operators next read) ∙ c)
+      rest-closed b h c = rw (read, le-leb (length bytes) next all, h, sym (closed-all sizes pairs bytes count at operators next read) ∙ c)
 
       pub rest-unclosed : holds sizes pairs start ≡ false → closedFrom sizes pairs count bytes at ≡ false → restOf sizes pairs start count bytes at ≡ fault Unclosed 0
       rest-unclosed = rest-closed false

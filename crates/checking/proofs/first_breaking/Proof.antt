@@ -1,8 +1,8 @@
 -- `first_breaking`: the operators passed so far are allowed, and those that are left lead to the same place.
-use Prim.Native.Nat.{_+_, _-_, _≤_}
-use mathlib.Core.Path.{_≡_, sym, _∙_}
+use Prim.Native.Nat.{_-_, _≤_}
+use mathlib.Core.Path.{_≡_, refl, sym, ap, _∙_}
 use native.Mathlib.Omega.{arith}
-use native.Mathlib.Nat.{sub-zero, zero-add}
+use native.Mathlib.Nat.{sub-zero}
 use lib.ListN.{take}
 use lib.Seq.{length-take-le}
 use borrow.Author.Needs.{needs}
@@ -12,49 +12,64 @@ use Rattle.meaning.specs.Number.{got}
 use Rattle.meaning.specs.File.{operatorOf}
 use Rattle.meaning.specs.Answer.{operatorIn}
 use Rattle.meaning.specs.Workspace.{has}
-use Rattle.meaning.specs.Task.{IsOperator}
+use Rattle.meaning.specs.Task.{Operator, IsOperator}
 use Rattle.theory.specs.Slices.{entriesIn}
 use Rattle.operator.specs.Records.{recordOf}
 use Rattle.operator.specs.Known.{read-next, read-faulted, Room, operator-is}
+use Rattle.operator.specs.Fold.{walked, walk-end, walk-unread, walk-more, walk-left}
 use Rattle.pairs.specs.Ready.{Ready}
-use Rattle.checking.specs.Breaking.{breakingFrom, breaking-more, breaking-here, breaking-unread, breaking-end}
+use Rattle.pairs.specs.Slices.{count-room, slices-read, slices-ready}
+use Rattle.checking.specs.Breaking.{passed, searched, placeAmong, search-passes, search-finds, all-passed}
 use Rattle.checking.proofs.first_breaking.Statement.{statement}
 use Rattle.checking.proofs.first_breaking.Tie as tie
-use Rattle.pairs.specs.Slices.{count-room, slices-read, slices-ready}
 
 abbrev Inv-loop : tie.InvT-loop
-Inv-loop bytes at count sizes pairs weights next₀ k₀ next k =
-    (k ≤ count) × (breakingFrom sizes (has pairs) (has weights) count bytes at ≡ k + breakingFrom sizes (has pairs) (has weights) (count - k) bytes next)
+Inv-loop bytes at count sizes pairs weights next₀ k₀ next k = (k ≤ count)
+    × (walked (searched sizes (has pairs) (has weights)) sizes count bytes at (passed 0) ≡ walked (searched sizes (has pairs) (has weights)) sizes (count - k) bytes next (passed k))
 
 abbrev μ-loop : tie.MeasureT-loop
 μ-loop bytes at count sizes pairs weights next₀ k₀ next k = count - k
 
--- At a turn: the arrays of the operator that was read, that it was read, and that its slices are ready to be judged.
+-- At a turn: what the call began with, and where the walk stands.
+abbrev start : tie.After-step Inv-loop μ-loop → tie.Start Inv-loop μ-loop
+start s = s .before .before .before .before .before .before .before .before .before
+
+abbrev top : tie.After-step Inv-loop μ-loop → tie.At-loop Inv-loop μ-loop
+top s = s .before .before .before .before
+
+-- The arrays of the operator that was read, that it was read, and that its slices are ready to be judged.
 room : (c : tie.After-read-operator Inv-loop μ-loop) → Room (c .read-operator .result .operator)
 room c = record { variables = search needs; befores = search needs; afters = search needs }
 
-read : (c : tie.After-step Inv-loop μ-loop) → let a = c .before .before .before .before .before .before .before .before .before .args in
-    operatorOf (a .sizes .now) (a .bytes .now) (c .before .before .before .before .loop .next) ≡ got (operatorIn (recordOf (c .before .before .read-operator .result .operator))) (c .step .given .0 .0)
-read c = read-next _ _ _ _ _ (c .before .before .read-operator .ensures) (c .step .given .1)
+held : (s : tie.After-step Inv-loop μ-loop) → Room (s .before .before .read-operator .result .operator)
+held s = room (s .before .before)
 
-is : (c : tie.After-step Inv-loop μ-loop) → let a = c .before .before .before .before .before .before .before .before .before .args in
-    IsOperator (a .sizes .now) (operatorIn (recordOf (c .before .before .read-operator .result .operator)))
-is c = operator-is _ _ _ _ _ (read c)
+abbrev operator-of : tie.After-step Inv-loop μ-loop → Operator
+operator-of s = let o = s .before .before .read-operator .result .operator in entriesIn (take (o .count) (o .variables)) (take (o .count) (o .befores)) (take (o .count) (o .afters))
 
-few : (c : tie.After-step Inv-loop μ-loop) → c .before .before .read-operator .result .operator .count ≤ mostVariables
-few c = count-room (room (c .before .before)) (c .before .before .before .before .before .before .before .before .before .pre .0) (is c)
+read : (s : tie.After-step Inv-loop μ-loop) → operatorOf (start s .args .sizes .now) (start s .args .bytes .now) (top s .loop .next)
+    ≡ got (operatorIn (recordOf (s .before .before .read-operator .result .operator))) (s .step .given .0 .0)
+read s = read-next _ _ _ _ _ (s .before .before .read-operator .ensures) (s .step .given .1)
 
-ready : (c : tie.After-step Inv-loop μ-loop) → let a = c .before .before .before .before .before .before .before .before .before .args in let o = c .before .before .read-operator .result .operator in
-    Ready (a .sizes .now) (a .pairs .now) (take (o .count) (o .variables)) (take (o .count) (o .befores)) (take (o .count) (o .afters))
-ready c = slices-ready (room (c .before .before)) (c .before .before .before .before .before .before .before .before .before .pre .0) (is c)
+is : (s : tie.After-step Inv-loop μ-loop) → IsOperator (start s .args .sizes .now) (operatorIn (recordOf (s .before .before .read-operator .result .operator)))
+is s = operator-is _ _ _ _ _ (read s)
 
-parts : (c : tie.After-step Inv-loop μ-loop) → let a = c .before .before .before .before .before .before .before .before .before .args in let o = c .before .before .read-operator .result .operator in
-    operatorOf (a .sizes .now) (a .bytes .now) (c .before .before .before .before .loop .next)
-    ≡ got (entriesIn (take (o .count) (o .variables)) (take (o .count) (o .befores)) (take (o .count) (o .afters))) (c .step .given .0 .0)
-parts c = slices-read (room (c .before .before)) (c .before .before .before .before .before .before .before .before .before .pre .0) (is c) _ _ _ (read c)
+few : (s : tie.After-step Inv-loop μ-loop) → s .before .before .read-operator .result .operator .count ≤ mostVariables
+few s = count-room (held s) (start s .pre .0) (is s)
+
+ready : (s : tie.After-step Inv-loop μ-loop) → let o = s .before .before .read-operator .result .operator in
+    Ready (start s .args .sizes .now) (start s .args .pairs .now) (take (o .count) (o .variables)) (take (o .count) (o .befores)) (take (o .count) (o .afters))
+ready s = slices-ready (held s) (start s .pre .0) (is s)
+
+parts : (s : tie.After-step Inv-loop μ-loop) → operatorOf (start s .args .sizes .now) (start s .args .bytes .now) (top s .loop .next) ≡ got (operator-of s) (s .step .given .0 .0)
+parts s = slices-read (held s) (start s .pre .0) (is s) _ _ _ (read s)
+
+-- The turn in which an operator was judged.
+abbrev turn : tie.After-is-allowed Inv-loop μ-loop → tie.After-step Inv-loop μ-loop
+turn c = c .before .before .before .before .before .before .before .before
 
 loop-holds : tie.Need-loop-holds Inv-loop μ-loop
-loop-holds c = (omega arith, simp (sub-zero, zero-add))
+loop-holds c = (omega arith, simp sub-zero)
 
 read-operator-requires : tie.Need-read-operator-requires Inv-loop μ-loop
 read-operator-requires c κs = omega (arith, c .before .before .before .before .before .before .pre .0 .limits .variables)
@@ -66,31 +81,33 @@ enum-told : tie.Need-enum-told Inv-loop μ-loop
 enum-told c = search needs
 
 returns : tie.Need-returns Inv-loop μ-loop
-returns c = sym (c .before .before .before .before .loop .inv .1 ∙ breaking-unread _ _ _ _ _ _ _ _ _ (c .before .before .before .loop-test .taken) (read-faulted _ _ _ _ _ _ (c .before .before .read-operator .ensures) (c .enum-told .given .1)))
+returns c = sym (ap (placeAmong _) (c .before .before .before .before .loop .inv .1
+    ∙ walk-unread _ _ _ _ _ _ _ _ _ (read-faulted _ _ _ _ _ _ (c .before .before .read-operator .ensures) (c .enum-told .given .1))))
 
 array-share-prefix-variables : tie.Need-array-share-prefix-variables Inv-loop μ-loop
-array-share-prefix-variables c = omega (arith, few (c .before .before .before .before), room (c .before .before .before .before .before .before) .variables)
+array-share-prefix-variables c = let s = c .before .before .before .before in omega (arith, few s, held s .variables)
 
 slice-aggregate-is-allowed : tie.Need-slice-aggregate-is-allowed Inv-loop μ-loop
-slice-aggregate-is-allowed c = sym (length-take-le _ _ (omega (arith, few (c .before .before .before .before .before), room (c .before .before .before .before .before .before .before) .variables)))
+slice-aggregate-is-allowed c = let s = c .before .before .before .before .before in sym (length-take-le _ _ (omega (arith, few s, held s .variables)))
 
 array-share-prefix-befores : tie.Need-array-share-prefix-befores Inv-loop μ-loop
-array-share-prefix-befores c = omega (arith, few (c .before .before .before .before .before), room (c .before .before .before .before .before .before .before) .befores)
+array-share-prefix-befores c = let s = c .before .before .before .before .before in omega (arith, few s, held s .befores)
 
 slice-aggregate-is-allowed-2 : tie.Need-slice-aggregate-is-allowed-2 Inv-loop μ-loop
-slice-aggregate-is-allowed-2 c = sym (length-take-le _ _ (omega (arith, few (c .before .before .before .before .before .before), room (c .before .before .before .before .before .before .before .before) .befores)))
+slice-aggregate-is-allowed-2 c = let s = c .before .before .before .before .before .before in sym (length-take-le _ _ (omega (arith, few s, held s .befores)))
 
 array-share-prefix-afters : tie.Need-array-share-prefix-afters Inv-loop μ-loop
-array-share-prefix-afters c = omega (arith, few (c .before .before .before .before .before .before), room (c .before .before .before .before .before .before .before .before) .afters)
+array-share-prefix-afters c = let s = c .before .before .before .before .before .before in omega (arith, few s, held s .afters)
 
 slice-aggregate-is-allowed-3 : tie.Need-slice-aggregate-is-allowed-3 Inv-loop μ-loop
-slice-aggregate-is-allowed-3 c = sym (length-take-le _ _ (omega (arith, few (c .before .before .before .before .before .before .before), room (c .before .before .before .before .before .before .before .before .before) .afters)))
+slice-aggregate-is-allowed-3 c = let s = c .before .before .before .before .before .before .before in sym (length-take-le _ _ (omega (arith, few s, held s .afters)))
 
 is-allowed-requires : tie.Need-is-allowed-requires Inv-loop μ-loop
-is-allowed-requires c κs = (ready (c .before .before .before .before .before .before .before), c .before .before .before .before .before .before .before .before .before .before .before .before .before .before .before .before .pre .1 .long, c .before .before .before .before .before .before .before .before .before .before .before .before .before .before .before .before .pre .1 .past)
+is-allowed-requires c κs = let s = c .before .before .before .before .before .before .before in (ready s, start s .pre .1 .long, start s .pre .1 .past)
 
 returns-2 : tie.Need-returns-2 Inv-loop μ-loop
-returns-2 c = sym (c .before .before .before .before .before .before .before .before .before .before .before .before .before .loop .inv .1 ∙ breaking-here _ _ _ _ _ _ _ _ _ (c .before .before .before .before .before .before .before .before .before .before .before .before .loop-test .taken) (parts (c .before .before .before .before .before .before .before .before .before)) (sym (c .before .is-allowed .ensures) ∙ not-true _ (c .if1 .taken)))
+returns-2 c = let s = turn (c .before) in let broken = sym (c .before .is-allowed .ensures) ∙ not-true _ (c .if1 .taken) in
+    sym (ap (placeAmong _) (top s .loop .inv .1 ∙ walk-left _ _ _ _ _ _ _ _ _ _ (s .before .before .before .loop-test .taken) (parts s) (search-finds _ _ _ _ _ broken) (λ p. refl)))
 
 add-k : tie.Need-add-k Inv-loop μ-loop
 add-k c = omega arith
@@ -99,10 +116,11 @@ loop-less : tie.Need-loop-less Inv-loop μ-loop
 loop-less c = omega arith
 
 loop-again : tie.Need-loop-again Inv-loop μ-loop
-loop-again c = (omega arith, c .before .before .before .before .before .before .before .before .before .before .before .before .before .loop .inv .1 ∙ breaking-more _ _ _ _ _ _ _ _ _ (c .before .before .before .before .before .before .before .before .before .before .before .before .loop-test .taken) (parts (c .before .before .before .before .before .before .before .before .before)) (sym (c .before .is-allowed .ensures) ∙ not-false _ (c .if1 .left)))
+loop-again c = let s = turn (c .before) in let fine = sym (c .before .is-allowed .ensures) ∙ not-false _ (c .if1 .left) in
+    (omega arith, top s .loop .inv .1 ∙ walk-more _ _ _ _ _ _ _ _ _ _ (s .before .before .before .loop-test .taken) (parts s) (search-passes _ _ _ _ _ fine))
 
 returns-3 : tie.Need-returns-3 Inv-loop μ-loop
-returns-3 c = sym (c .before .loop .inv .1 ∙ breaking-end _ _ _ _ _ _ _ (c .loop-test .left))
+returns-3 c = all-passed _ _ (c .before .loop .inv .0) (c .loop-test .left) ∙ sym (ap (placeAmong _) (c .before .loop .inv .1 ∙ walk-end _ _ _ _ _ _ _ (c .loop-test .left)))
 
 pub first-breaking-spec : {M : Type 1} → statement M
 first-breaking-spec =

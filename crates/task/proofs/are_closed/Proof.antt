@@ -26,7 +26,8 @@ use Rattle.pairs.specs.Ready.{Ready}
 use Rattle.pairs.specs.Judge.{closed-idle}
 use Rattle.pairs.specs.Walk.{Reached, reached-first, reached-next, closed-past, closed-broken}
 use Rattle.pairs.specs.Slices.{count-room, slices-read, slices-ready}
-use Rattle.task.specs.Walk.{closedFrom, closed-more, closed-fails, closed-unread, closed-end}
+use Rattle.operator.specs.Fold.{walked, walk-end, walk-unread, walk-more, walk-left}
+use Rattle.task.specs.Walk.{closedAlso, closedFrom}
 use Rattle.task.proofs.are_closed.Statement.{statement}
 use Rattle.task.proofs.are_closed.Tie as tie
 
@@ -40,7 +41,7 @@ abbrev μ-loop : tie.MeasureT-loop
 abbrev Inv-walk : tie.InvT-walk
 Inv-walk bytes at count sizes pairs end possible₀ closed₀ next₀ judged₀ possible closed next judged =
     (judged ≤ count) × (closed ≡ true) × (length possible ≡ wordsFor mostFeatures)
-    × (closedFrom sizes (has pairs) count bytes at ≡ closedFrom sizes (has pairs) (count - judged) bytes next)
+    × (closedFrom sizes (has pairs) count bytes at ≡ walked (closedAlso sizes (has pairs)) sizes (count - judged) bytes next true)
 
 abbrev μ-walk : tie.MeasureT-walk
 μ-walk bytes at count sizes pairs end possible₀ closed₀ next₀ judged₀ possible closed next judged = count - judged
@@ -190,22 +191,22 @@ walk-again c = let s = turn (c .before) in (
   omega (arith, s .before .before .before .walk-test .taken),
   met c .0,
   omega (arith, c .before .before .before .before .fill-possible .ensures .0, top s .walk .inv .2),
-  top s .walk .inv .3 ∙ closed-more _ _ _ _ _ _ _ _ (s .before .before .before .walk-test .taken) (parts s) (met c .1),
+  top s .walk .inv .3 ∙ walk-more _ _ _ _ _ _ _ _ _ _ (s .before .before .before .walk-test .taken) (parts s) (met c .1),
 )
 
 returns : tie.Need-returns Inv-loop μ-loop Inv-walk μ-walk
-returns c = c .before .walk .inv .1 ∙ sym (c .before .walk .inv .3 ∙ closed-end _ _ _ _ _ _ (c .walk-test .left))
+returns c = c .before .walk .inv .1 ∙ sym (c .before .walk .inv .3 ∙ walk-end _ _ _ _ _ _ _ (c .walk-test .left))
 
 returns-2 : tie.Need-returns-2 Inv-loop μ-loop Inv-walk μ-walk
 returns-2 c = c .before .before .before .before .walk .inv .1 ∙ sym
-    (c .before .before .before .before .walk .inv .3 ∙ closed-unread _ _ _ _ _ _ _ _ (c .before .before .before .walk-test .taken)
+    (c .before .before .before .before .walk .inv .3 ∙ walk-unread _ _ _ _ _ _ _ _ _
     (read-faulted _ _ _ _ _ _ (c .before .before .read-operator .ensures) (c .enum-told .given .1)))
 
 returns-3 : tie.Need-returns-3 Inv-loop μ-loop Inv-walk μ-walk
 returns-3 c = let s = pair-turn (c .before) in
     let busy = sym (c .before .before .before .before .before .before .before .before .is-idle .ensures) ∙ not-true _ (c .before .before .before .before .before .before .before .if1 .taken) in
     let found = closed-broken _ _ _ (ready s .entries) _ (c .before .before .before .before .before .loop .inv .1) busy (below (c .before)) (sym (c .before .is-unclosed .ensures) ∙ c .if3 .taken) in
-    sym (top s .walk .inv .3 ∙ closed-fails _ _ _ _ _ _ _ _ (s .before .before .before .walk-test .taken) (parts s) found)
+    sym (top s .walk .inv .3 ∙ walk-left _ _ _ _ _ _ _ _ _ _ (s .before .before .before .walk-test .taken) (parts s) found (λ p. refl))
 
 pub are-closed-spec : {M : Type 1} → statement M
 are-closed-spec =

@@ -6,7 +6,7 @@ use native.Mathlib.Nat.{sub-zero}
 use Rattle.meaning.specs.File.{operatorsOf}
 use Rattle.number.specs.Answers.{placeOf, place-fault}
 use Rattle.operator.specs.Known.{read-next, read-faulted}
-use Rattle.task.specs.Walk.{place-more, operators-fault, operators-none}
+use Rattle.operator.specs.Fold.{place-more, operators-fault, operators-none}
 use borrow.Author.Needs.{needs}
 use Rattle.task.proofs.operators_at.Statement.{statement}
 use Rattle.task.proofs.operators_at.Tie as tie

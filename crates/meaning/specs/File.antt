@@ -115,12 +115,16 @@ taskOf =
     (λ _. give (record { sizes = sizes; start = start; goal = goal; pairs = pairs; operators = operators }))))))))
 
 -- "Then come 5, 6, 7 by operator": a start that holds a pair, an operator under which the pairs are not closed. Neither has a place.
-unfoldable pub judgedTask : List ℕ → Read Task
-judgedTask bytes =
-    onRead (taskOf bytes 0)
+abbrev pub judgedFrom : Parser Task
+judgedFrom bytes place =
+    onRead (taskOf bytes place)
     (λ T next. cond (holds (T .sizes) (listed (T .pairs)) (T .start))
     (fault Held 0)
     (cond (allOf (closed (T .sizes) (listed (T .pairs))) (T .operators)) (got T next) (fault Unclosed 0)))
+
+-- A task file is judged from its first byte on.
+unfoldable pub judgedTask : List ℕ → Read Task
+judgedTask bytes = judgedFrom bytes 0
 
 -- "A weight file: count and features, strictly increasing. Nothing follows." The features of a task with n features.
 unfoldable pub judgedWeights : ℕ → List ℕ → Read (List ℕ)

@@ -3,6 +3,7 @@ use Prim.Native.Nat.{ℕ}
 use mathlib.Core.Path.{_≡_}
 use mathlib.Core.List.{List, _∷_, _++_}
 use lib.ListN.{length}
+use Rattle.meaning.specs.Limits.{leastSize, mostSize}
 use Rattle.meaning.specs.Task.{Operator, Task}
 use Rattle.meaning.specs.Feature.{atoms, features}
 use Rattle.meaning.specs.Number.{Read, got, fault, number}
@@ -21,7 +22,7 @@ pub record States : Type 0 where
 
 unfoldable pub statesOf : Parser States
 statesOf =
-    then header
+    then (header leastSize mostSize)
     (λ sizes. then (valuesOf sizes) (λ start. then (valuesOf sizes) (λ goal. give (record { sizes = sizes; start = start; goal = goal }))))
 
 -- With the pairs, and how many operators follow.

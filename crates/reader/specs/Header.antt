@@ -1,90 +1,164 @@
 -- The sizes with their count, as the code reads and judges them; and the end of a weight file.
 use Prim.Native.Nat.{ℕ, suc, _+_, _-_, _<_, _≤_}
 use mathlib.Core.Path.{_≡_, refl, sym, ap, _∙_}
-use mathlib.Core.List.{List}
+use mathlib.Core.Bool.{Bool, true, false, cond}
+use mathlib.Core.List.{List, [], _∷_, _++_}
 use native.Mathlib.Omega.{arith}
-use native.Mathlib.Nat.{zero-add}
-use lib.ListN.{length, set, take, drop}
-use lib.Seq.{sets, take-at}
+use native.Mathlib.Numerals.{add-one}
+use lib.ListN.{length, getD, set, take, drop, replicate, length-append, length-drop, length-set, length-replicate}
+use lib.Seq.{take-at, drop-at, length-take-le}
+use lib.Dec.{leb}
 use borrow.Author.Tests.{le-leb, lt-leb}
-use Rattle.meaning.specs.Limits.{leastVariables, mostVariables, mostFeatures}
+use Rattle.meaning.specs.Limits.{leastVariables, mostVariables, mostSize, mostFeatures}
 use Rattle.meaning.specs.Feature.{features}
 use Rattle.meaning.specs.Number as meaning
-use Rattle.meaning.specs.Number.{Limit, got, fault}
-use Rattle.meaning.specs.File.{Parser, inside, item, judge, sizesOf, header, featureList, ended, judgedWeights}
+use Rattle.meaning.specs.Number.{Limit, Read, got, fault, numbersOn}
+use Rattle.meaning.specs.File.{Parser, inside, item, judge, limited, itemsOf, sizesOf, sizeList, header, featureList, ended, judgedWeights}
 use Rattle.meaning.specs.Workspace.{sizesAt, startAt}
-use Rattle.theory.specs.Parts.{item-said, sizes-said}
-use Rattle.number.specs.Laws.{sets-all}
+use Rattle.theory.specs.Parts.{item-said, sizes-said, size-list-said}
+use Rattle.theory.specs.Contents.{sizesIn}
+use Rattle.theory.specs.Flat.{take-replicate}
+use Rattle.number.specs.Answers.{placeOf}
 use Rattle.number.specs.declared.Reason.{Reason}
 use Rattle.number.specs.declared.Reason.the-variants as code
 use Rattle.number.specs.declared.Step.{Step}
 use Rattle.number.specs.declared.Step.the-variants.{Next, Fault}
 use Rattle.numbering.specs.Sizes.{SmallSizes}
-use Rattle.reader.specs.Answer.{begun, sizedWords, ReadsInto, reads-next, reads-fault, answer-next, answer-fault}
+use Rattle.reader.specs.Answer.{written, begun, sizedWords, ReadsInto, reads-next, reads-fault, reads-same, answer-next, answer-fault}
 
 -- How many variables there are.
 abbrev pub countAt : Parser ℕ
 countAt = item (inside leastVariables (suc mostVariables)) Limit
 
--- Where v sizes were read and written behind v: what is known before N is judged.
-pub record Sized (bytes old words : List ℕ) (v after : ℕ) : Type 0 where
-  pub sizes : List ℕ
-  pub are : words ≡ begun old (sizedWords sizes)
-  pub small : SmallSizes (take (sizesAt + v - sizesAt) (drop sizesAt words))
-  pub few : features (take (sizesAt + v - sizesAt) (drop sizesAt words)) ≤ mostFeatures → header bytes 0 ≡ got sizes after
-  pub many : mostFeatures < features (take (sizesAt + v - sizesAt) (drop sizesAt words)) → header bytes 0 ≡ fault Limit after
+-- N as it is judged behind v sizes that begin at a place.
+abbrev pub featuresJudged : List ℕ → ℕ → ℕ → ℕ → ℕ → Read (Unit {0})
+featuresJudged bytes at v n next = cond (leb n mostFeatures) (got tt next) (fault Limit (numbersOn v bytes at))
 
-module _ (bytes : List ℕ) where
-  pub count-fault : (reason : meaning.Reason) (there : ℕ) → countAt bytes 0 ≡ fault reason there → header bytes 0 ≡ fault reason there
-  unfolding header
+-- The sizes as a part of words.
+abbrev pub sizesPart : List ℕ → List ℕ
+sizesPart words = take (sizesAt + getD words 0 0 - sizesAt) (drop sizesAt words)
+
+pub part-sizes : (words : List ℕ) → sizesPart words ≡ sizesIn words
+unfolding sizesIn
+part-sizes words = let k : sizesAt + getD words 0 0 - sizesAt ≡ getD words 0 0 = omega arith in rw k
+
+-- Words that begin with sizes and their count.
+pub sizes-first : (sizes rest left : List ℕ) → left ≡ sizedWords sizes ++ rest → (getD left 0 0 ≡ length sizes) × (sizesIn left ≡ sizes)
+unfolding sizesIn
+sizes-first sizes rest left e = rw e (refl, take-at sizes rest (length sizes) refl)
+
+-- What is known once v and the sizes were read.
+pub record Sized (bytes : List ℕ) (at least most : ℕ) (old words : List ℕ) (next : ℕ) : Type 0 where
+  pub sizes : List ℕ
+  pub read : sizeList least most bytes at ≡ got sizes next
+  pub are : words ≡ begun old (sizedWords sizes)
+  pub count : getD words 0 0 ≡ length sizes
+  pub same : sizesPart words ≡ sizes
+  pub few : length sizes ≤ mostVariables
+  pub small : most ≤ mostSize → SmallSizes (sizesPart words)
+
+-- ---- v and the sizes
+
+-- Words in which v is written, and behind it a part for v numbers.
+abbrev pub laid : List ℕ → ℕ → List ℕ → List ℕ
+laid old v part = take sizesAt (set old 0 v) ++ (part ++ drop (sizesAt + v - sizesAt) (drop sizesAt (set old 0 v)))
+
+laid-are : (old : List ℕ) (v : ℕ) (part : List ℕ) → startAt v ≤ length old → laid old v part ≡ v ∷ (part ++ drop (startAt v) old)
+laid-are [] v part h = absurd (omega arith)
+laid-are (x ∷ old) v part h = let k : sizesAt + v - sizesAt ≡ v = omega arith in let s : sizesAt + v ≡ suc v = omega arith in rw (k, s) refl
+
+-- The same bound for each of v numbers, out of as many as there may be.
+abbrev pub bounds : ℕ → ℕ → List ℕ
+bounds v most = take v (replicate mostVariables (most + 1))
+
+bounds-are : (v most : ℕ) → v ≤ mostVariables → bounds v most ≡ replicate v (suc most)
+bounds-are v most h = take-replicate v mostVariables (most + 1) h ∙ ap (replicate v) (add-one most)
+
+bounds-length : (v most : ℕ) → v ≤ mostVariables → length (bounds v most) ≡ v
+bounds-length v most h = ap length (bounds-are v most h) ∙ length-replicate v (suc most)
+
+module _ (old : List ℕ) (v most : ℕ) (room : startAt mostVariables ≤ length old) (few : v ≤ mostVariables) where
+  -- There is room for them.
+  pub bounds-room : length (take (sizesAt + v - sizesAt) (drop sizesAt (set old 0 v))) ≡ length (bounds v most)
+  bounds-room = length-take-le (sizesAt + v - sizesAt) (drop sizesAt (set old 0 v)) (omega (arith, length-drop sizesAt (set old 0 v), length-set old 0 v))
+      ∙ omega (arith, bounds-length v most few)
+
+  pub laid-length : (part : List ℕ) → part ≡ bounds v most → length (laid old v part) ≡ length old
+  laid-length part e = omega (arith, ap length (laid-are old v part (omega arith)), length-append part (drop (startAt v) old), length-drop (startAt v) old, ap length e, bounds-length v most few)
+
+module _ (bytes : List ℕ) (at least most : ℕ) where
+  pub count-fault : (reason : meaning.Reason) (there : ℕ) → countAt bytes at ≡ fault reason there → sizeList least most bytes at ≡ fault reason there
+  unfolding sizeList
   count-fault reason there e = rw e
 
-  pub count-known : (v next : ℕ) → countAt bytes 0 ≡ got v next → (leastVariables ≤ v) × (v ≤ mostVariables)
-  count-known v next e = let known = item-said bytes leastVariables (suc mostVariables) Limit .gives 0 v next e .known in (known .0, omega (arith, known .1))
+  pub count-known : (v next : ℕ) → countAt bytes at ≡ got v next → (leastVariables ≤ v) × (v ≤ mostVariables)
+  count-known v next e = let known = item-said bytes leastVariables (suc mostVariables) Limit .gives at v next e .known in (known .0, omega (arith, known .1))
 
-  pub sizes-faulted : (v next : ℕ) (reason : meaning.Reason) (there : ℕ) → countAt bytes 0 ≡ got v next → sizesOf v bytes next ≡ fault reason there
-      → header bytes 0 ≡ fault reason there
-  unfolding header
-  sizes-faulted v next reason there e f = rw (e, f)
+  -- The sizes are read over their bounds.
+  pub sizes-over : (v next : ℕ) (old part : List ℕ) (answer : Step) (left : List ℕ) → startAt mostVariables ≤ length old → countAt bytes at ≡ got v next → part ≡ bounds v most
+      → ReadsInto (itemsOf least Limit (take v (drop sizesAt (laid old v part))) bytes next) (written (laid old v part) sizesAt) answer left
+      → ReadsInto (sizeList least most bytes at) (λ sizes. begun old (sizedWords sizes)) answer left
+  unfolding sizeList
+  sizes-over v next old part answer left h counted e read =
+      reads-same (sizeList least most bytes at) (written (laid old v part) sizesAt) (λ sizes. begun old (sizedWords sizes)) answer left
+      (λ sizes after r. same sizes (sizes-said bytes least most v .gives next sizes after (sym begins ∙ r) .known .0))
+      (rw begins (rw are at read))
+    where
+      few : v ≤ mostVariables
+      few = count-known v next counted .1
 
-  module _ (v next after : ℕ) (sizes : List ℕ) (counted : countAt bytes 0 ≡ got v next) (read : sizesOf v bytes next ≡ got sizes after) where
-    sizes-few : features sizes ≤ mostFeatures → header bytes 0 ≡ got sizes after
-    unfolding header judge
-    sizes-few h = rw (counted, read, le-leb (features sizes) mostFeatures h)
+      long : length part ≡ v
+      long = ap length e ∙ bounds-length v most few
 
-    sizes-many : mostFeatures < features sizes → header bytes 0 ≡ fault Limit after
-    unfolding header judge
-    sizes-many h = rw (counted, read, lt-leb (features sizes) mostFeatures h)
+      begins : sizeList least most bytes at ≡ sizesOf least most v bytes next
+      begins = rw counted
 
-    sizes-known : (length sizes ≡ v) × SmallSizes sizes
-    sizes-known =
-        let known = sizes-said bytes v .gives next sizes after read .known in
-        (known .0, record { few = omega (arith, known .0, count-known v next counted); small = λ i l. known .1 i l .1 })
+      are : take v (drop sizesAt (laid old v part)) ≡ replicate v (suc most)
+      are = rw (laid-are old v part (omega (arith, few))) (take-at part _ v long ∙ e ∙ bounds-are v most few)
 
-    sized : (old words : List ℕ) → startAt mostVariables ≤ length old → words ≡ sets (set old 0 v) sizesAt sizes → Sized bytes old words v after
-    sized old words h e = rw (words-are) record {
-      sizes = sizes;
-      are = refl;
-      small = rw part (sizes-known .1);
-      few = rw part sizes-few;
-      many = rw part sizes-many;
-    }
-      where
-        room : length (sizedWords sizes) ≤ length old
-        room = omega (arith, sizes-known .0, count-known v next counted)
+      same : (sizes : List ℕ) → length sizes ≡ v → written (laid old v part) sizesAt sizes ≡ begun old (sizedWords sizes)
+      same sizes q =
+          let s : sizesAt + length sizes ≡ suc v = omega arith in
+          let t : startAt v ≡ suc v = omega arith in
+          rw (laid-are old v part (omega (arith, few)), s, drop-at part (drop (startAt v) old) v long, t) (ap (λ k. k ∷ (sizes ++ drop (suc k) old)) (sym q))
 
-        words-are : words ≡ begun old (sizedWords sizes)
-        words-are = e ∙ ap (λ n. sets (set old 0 n) sizesAt sizes) (sym (sizes-known .0))
-            ∙ sets-all old 0 (length (sizedWords sizes)) (sizedWords sizes) (sym (zero-add _)) room
+  -- ---- N
 
-        part : take (sizesAt + v - sizesAt) (drop sizesAt (begun old (sizedWords sizes))) ≡ sizes
-        part = let k : sizesAt + v - sizesAt ≡ v = omega arith in rw k (take-at sizes _ v (sizes-known .0))
+  pub sizes-known : (old : List ℕ) (answer : Step) (words : List ℕ) (next : ℕ) → ReadsInto (sizeList least most bytes at) (λ sizes. begun old (sizedWords sizes)) answer words
+      → answer ≡ Next next → Sized bytes at least most old words next
+  sizes-known old answer words next read e = known (reads-next (sizeList least most bytes at) (λ sizes. begun old (sizedWords sizes)) answer next words read e)
+    where
+      known : (sizes : List ℕ) × (sizeList least most bytes at ≡ got sizes next) × (words ≡ begun old (sizedWords sizes)) → Sized bytes at least most old words next
+      known (sizes, r, w) =
+          let (first, part) = sizes-first sizes (drop (length (sizedWords sizes)) old) words w in
+          let said = size-list-said bytes least most .gives at sizes next r .known in
+          let same : sizesPart words ≡ sizes = part-sizes words ∙ part in
+          record {
+            sizes = sizes;
+            read = r;
+            are = w;
+            count = first;
+            same = same;
+            few = said .1;
+            small = λ h. rw same (record { few = said .1; small = λ i l. omega (arith, said .2 i l) });
+          }
 
-  pub sizes-read : (v next after : ℕ) (old : List ℕ) (answer : Step) (words : List ℕ) → startAt mostVariables ≤ length old → countAt bytes 0 ≡ got v next
-      → ReadsInto (sizesOf v bytes next) (sets (set old 0 v) sizesAt) answer words → answer ≡ Next after → Sized bytes old words v after
-  sizes-read v next after old answer words h counted read e =
-      let (sizes, r, w) = reads-next (sizesOf v bytes next) (sets (set old 0 v) sizesAt) answer after words read e in
-      sized v next after sizes counted r old words h w
+  pub sizes-unread : (reason : meaning.Reason) (place : ℕ) → sizeList least most bytes at ≡ fault reason place → header least most bytes at ≡ fault reason place
+  unfolding header limited
+  sizes-unread reason place e = rw e
+
+  pub sizes-judged : (old words : List ℕ) (next n : ℕ) (answer : Step) → Sized bytes at least most old words next → n ≡ features (sizesPart words)
+      → answer ≡ placeOf (featuresJudged bytes at (getD words 0 0) n next) → ReadsInto (header least most bytes at) (λ sizes. begun old (sizedWords sizes)) answer words
+  unfolding ReadsInto header limited
+  sizes-judged old words next n answer known total told = rw told (by (leb (features (known .sizes)) mostFeatures) refl)
+    where
+      judged : leb n mostFeatures ≡ leb (features (known .sizes)) mostFeatures
+      judged = rw (total, known .same)
+
+      by : (b : Bool) → leb (features (known .sizes)) mostFeatures ≡ b
+          → ReadsInto (header least most bytes at) (λ sizes. begun old (sizedWords sizes)) (placeOf (featuresJudged bytes at (getD words 0 0) n next)) words
+      by true e = rw (judged, known .read, e) (refl, known .are)
+      by false e = rw (judged, known .read, e, known .count) refl
 
 -- ---- the end of a weight file
 

@@ -1,18 +1,16 @@
 -- The lists of a file as the code reads them: what is still to be read, after each turn, goes into the words as they are then.
 use Prim.Native.Nat.{ℕ, suc, _+_, _-_, _<_, _≤_}
 use mathlib.Core.Path.{_≡_, refl, _∙_}
+use mathlib.Core.Logic.{_≢_}
 use mathlib.Core.List.{List}
 use native.Mathlib.Omega.{arith}
 use native.Mathlib.Numerals.{add-one}
-use lib.ListN.{length, getD, set, drop, length-drop, drop-of-length-le}
+use lib.ListN.{length, getD, set, take, drop, length-drop, drop-of-length-le}
 use lib.Seq.{sets, drop-cons, getD-set-other, getD-take, getD-drop, length-take-le}
-use Rattle.meaning.specs.Limits.{leastSize, mostSize}
 use Rattle.meaning.specs.Number as meaning
-use Rattle.meaning.specs.Number.{Limit, Range, got, fault}
-use Rattle.meaning.specs.File.{Parser, inside, item, rising, sizesOf, valuesOf, featuresOf}
-use Rattle.meaning.specs.Workspace.{sizesAt, startAt}
-use Rattle.theory.specs.Parts.{values-said, rising-said}
-use Rattle.theory.specs.Contents.{sizesIn}
+use Rattle.meaning.specs.Number.{got, fault}
+use Rattle.meaning.specs.File.{Parser, inside, item, itemsOf, rising, featuresOf}
+use Rattle.theory.specs.Parts.{items-said, rising-said}
 use Rattle.number.specs.Laws.{sets-all}
 use Rattle.number.specs.declared.Step.{Step}
 use Rattle.words.specs.Change.{toggled}
@@ -36,63 +34,61 @@ module _ {whole : Parser (List ℕ)} {first : Parser ℕ} {rest : ℕ → Parser
       → placed (whole bytes place) words ≡ fault reason there
   list-fault words reason there e = rw (split .by) (first-fault first rest bytes place words reason there e)
 
--- ---- sizes
+-- ---- numbers with their bounds
 
--- One size.
-abbrev pub sizeAt : Parser ℕ
-sizeAt = item (inside leastSize (suc mostSize)) Limit
+-- Numbers go to words from `to` on and have their bounds in words from `bounds` on: none is written over a bound that is still to be read.
+unfoldable pub Apart : ℕ → ℕ → ℕ → Type 0
+Apart bounds to count = (i j : ℕ) → i < j → j < count → bounds + j ≢ to + i
 
-module _ (v i : ℕ) where
-  pub first-size : i < v → Splits (sizesOf (v - i)) sizeAt (λ _. sizesOf (v - (i + 1)))
-  unfolding sizesOf
-  first-size h = let q : v - i ≡ suc (v - (i + 1)) = omega arith in record { by = rw q }
+-- Each number is written over its own bound; or all are written behind the bounds.
+pub apart-same : (bounds count : ℕ) → Apart bounds bounds count
+unfolding Apart
+apart-same bounds count i j h l = omega arith
 
-  pub sizes-none : (bytes : List ℕ) (place : ℕ) (words : List ℕ) (to : ℕ) → v ≤ i → placed (sizesOf (v - i) bytes place) (sets words to) ≡ got words place
-  unfolding sizesOf
-  sizes-none bytes place words to h = let q : v - i ≡ 0 = omega arith in rw q
+pub apart-behind : (bounds to count : ℕ) → bounds + count ≤ to → Apart bounds to count
+unfolding Apart
+apart-behind bounds to count k i j h l = omega arith
 
--- ---- values
+-- Words in which the bounds from number i on are as they were.
+unfoldable pub Unread : ℕ → ℕ → ℕ → List ℕ → List ℕ → Type 0
+Unread bounds count i old new = (j : ℕ) → i ≤ j → j < count → getD new (bounds + j) 0 ≡ getD old (bounds + j) 0
 
--- Words that are the same before a place.
-unfoldable pub Before : ℕ → List ℕ → List ℕ → Type 0
-Before to old new = (k : ℕ) → k < to → getD new k 0 ≡ getD old k 0
+-- One number, below the bound that stands in the words.
+abbrev pub itemIn : List ℕ → ℕ → ℕ → meaning.Reason → Parser ℕ
+itemIn words bound low reason = item (inside low (getD words bound 0)) reason
 
-pub before-none : (to : ℕ) (words : List ℕ) → Before to words words
-unfolding Before
-before-none to words k l = refl
+module _ (old : List ℕ) (bounds to count : ℕ) (within : bounds + count ≤ length old) (room : to + count ≤ length old) (apart : Apart bounds to count)
+    (low : ℕ) (reason : meaning.Reason) where
+  pub unread-all : Unread bounds count 0 old old
+  unfolding Unread
+  unread-all j h l = refl
 
-pub before-set : (to i x : ℕ) (old new : List ℕ) → Before to old new → Before to old (set new (to + i) x)
-unfolding Before
-before-set to i x old new same k l = getD-set-other new (to + i) k x 0 (omega arith) ∙ same k l
+  pub unread-set : (i n : ℕ) (new : List ℕ) → Unread bounds count i old new → Unread bounds count (i + 1) old (set new (to + i) n)
+  unfolding Unread Apart
+  unread-set i n new same j h l = getD-set-other new (to + i) (bounds + j) n 0 (apart i j (omega arith) l) ∙ same j (omega arith) l
 
--- One value, below the size that stands in the words.
-abbrev pub valueAt : List ℕ → ℕ → Parser ℕ
-valueAt words i = item (inside 0 (getD words (sizesAt + i) 0)) Range
+  bounds-length : length (take count (drop bounds old)) ≡ count
+  bounds-length = length-take-le count (drop bounds old) (omega (arith, length-drop bounds old))
 
--- The sizes stand in words, and values are written behind them.
-module _ (old : List ℕ) (to : ℕ) (behind : startAt (getD old 0 0) ≤ to) (within : to + getD old 0 0 ≤ length old) where
-  sizes-length : length (sizesIn old) ≡ getD old 0 0
-  unfolding sizesIn
-  sizes-length = length-take-le (getD old 0 0) (drop sizesAt old) (omega (arith, length-drop sizesAt old))
-
-  -- Of the values that are still to be read, the first.
-  pub first-value : (new : List ℕ) (i : ℕ) → i < getD old 0 0 → Before to old new
-      → Splits (valuesOf (drop i (sizesIn old))) (valueAt new i) (λ _. valuesOf (drop (i + 1) (sizesIn old)))
-  unfolding Before sizesIn valuesOf
-  first-value new i more same = record {
-    by = rw (drop-cons (sizesIn old) i 0 (omega (arith, sizes-length)), add-one, same (sizesAt + i) (omega arith)) (
-        rw (getD-take (getD old 0 0) (drop sizesAt old) i 0 more, getD-drop sizesAt old i 0) refl);
+  -- Of the numbers that are still to be read, the first.
+  pub first-item : (new : List ℕ) (i : ℕ) → i < count → Unread bounds count i old new
+      → Splits (itemsOf low reason (drop i (take count (drop bounds old)))) (itemIn new (bounds + i) low reason) (λ _. itemsOf low reason (drop (i + 1) (take count (drop bounds old))))
+  unfolding Unread itemsOf
+  first-item new i more same = record {
+    by = rw (drop-cons (take count (drop bounds old)) i 0 (omega (arith, bounds-length)), add-one, same i (omega arith) more) (
+        rw (getD-take count (drop bounds old) i 0 more, getD-drop bounds old i 0) refl);
   }
 
-  pub values-none : (bytes new : List ℕ) (i place next : ℕ) → getD old 0 0 ≤ i → placed (valuesOf (drop i (sizesIn old)) bytes next) (sets new place) ≡ got new next
-  unfolding valuesOf
-  values-none bytes new i place next h = let past : length (sizesIn old) ≤ i = omega (arith, sizes-length) in rw (drop-of-length-le (sizesIn old) past)
+  pub items-none : (bytes new : List ℕ) (i place next : ℕ) → count ≤ i
+      → placed (itemsOf low reason (drop i (take count (drop bounds old))) bytes next) (sets new place) ≡ got new next
+  unfolding itemsOf
+  items-none bytes new i place next h = let past : length (take count (drop bounds old)) ≤ i = omega (arith, bounds-length) in rw (drop-of-length-le (take count (drop bounds old)) past)
 
-  pub values-written : (bytes : List ℕ) (place : ℕ) (answer : Step) (left : List ℕ)
-      → ReadsInto (valuesOf (sizesIn old) bytes place) (sets old to) answer left → ReadsInto (valuesOf (sizesIn old) bytes place) (written old to) answer left
-  values-written bytes place answer left =
-      reads-same (valuesOf (sizesIn old) bytes place) (sets old to) (written old to) answer left
-      (λ xs next e. sets-all old to _ xs refl (omega (arith, sizes-length, values-said bytes (sizesIn old) .gives place xs next e .known .0 .full)))
+  pub items-written : (bytes : List ℕ) (place : ℕ) (answer : Step) (left : List ℕ) → ReadsInto (itemsOf low reason (take count (drop bounds old)) bytes place) (sets old to) answer left
+      → ReadsInto (itemsOf low reason (take count (drop bounds old)) bytes place) (written old to) answer left
+  items-written bytes place answer left =
+      reads-same (itemsOf low reason (take count (drop bounds old)) bytes place) (sets old to) (written old to) answer left
+      (λ ns next e. sets-all old to _ ns refl (omega (arith, bounds-length, items-said bytes low reason (take count (drop bounds old)) .gives place ns next e .known .0)))
 
 -- ---- features
 

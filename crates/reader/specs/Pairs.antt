@@ -26,8 +26,9 @@ use Rattle.number.specs.declared.Step.the-variants.{Next}
 use Rattle.numbering.specs.Sizes.{SmallSizes, limits-small}
 use Rattle.reader.specs.declared.Header.the-variants.{Got, Fault}
 use Rattle.reader.specs.Answer.{written, begun, sizedWords, featureWords, ReadsInto, reads-next, reads-put}
+use Rattle.reader.specs.Header.{sizesPart, part-sizes, sizes-first}
 use Rattle.reader.specs.Front.{States, statesOf, stateWords, frontOf, frontWords, HeaderInto}
-use Rattle.reader.specs.States.{statesWith, begun-more, sizes-first}
+use Rattle.reader.specs.States.{statesWith, begun-more}
 
 -- Words that begin with sizes within the limits, have n features, and have none yet among the words of the pairs.
 pub record Cleared (words : List ℕ) (n : ℕ) : Type 0 where
@@ -35,14 +36,6 @@ pub record Cleared (words : List ℕ) (n : ℕ) : Type 0 where
   pub total : n ≡ features (sizesIn words)
   pub room : slotsAt (getD words 0 0) n ≤ length words
   pub none : take (wordsFor n) (drop (pairsAt (getD words 0 0)) words) ≡ replicate (wordsFor n) 0
-
--- The sizes as a part of words.
-abbrev pub sizesPart : List ℕ → List ℕ
-sizesPart words = take (sizesAt + getD words 0 0 - sizesAt) (drop sizesAt words)
-
-pub part-sizes : (words : List ℕ) → sizesPart words ≡ sizesIn words
-unfolding sizesIn
-part-sizes words = let k : sizesAt + getD words 0 0 - sizesAt ≡ getD words 0 0 = omega arith in rw k
 
 module _ (words : List ℕ) (n : ℕ) (clear : Cleared words n) where
   pub part-small : SmallSizes (sizesPart words)
@@ -87,9 +80,9 @@ state-length states start goal =
     omega (arith, length-append (states .sizes) (states .start ++ states .goal), length-append (states .start) (states .goal), start .full, goal .full)
 
 -- After the goal; `left` are the words then.
-pub record AfterGoal (bytes words left : List ℕ) (next : ℕ) : Type 0 where
+pub record AfterGoal (bytes : List ℕ) (at : ℕ) (words left : List ℕ) (next : ℕ) : Type 0 where
   pub states : States
-  pub read : statesOf bytes 0 ≡ got states next
+  pub read : statesOf bytes at ≡ got states next
   pub limits : InLimits (states .sizes)
   pub long : length (stateWords states) ≡ pairsAt (length (states .sizes))
   pub are : left ≡ begun words (stateWords states)
@@ -101,25 +94,25 @@ zeros-left zero m = rw (sub-zero m)
 zeros-left (suc k) zero = let q : zero - suc k ≡ 0 = omega arith in rw q
 zeros-left (suc k) (suc m) = let q : suc m - suc k ≡ m - k = omega arith in rw q (zeros-left k m)
 
-module _ (bytes words : List ℕ) where
-  pub header-fault : (reason : Reason) (place : ℕ) (left : List ℕ) → frontOf bytes 0 ≡ fault (reasonOf reason) place
-      → HeaderInto (frontOf bytes 0) words (Fault reason place) left
+module _ (bytes : List ℕ) (from : ℕ) (words : List ℕ) where
+  pub header-fault : (reason : Reason) (place : ℕ) (left : List ℕ) → frontOf bytes from ≡ fault (reasonOf reason) place
+      → HeaderInto (frontOf bytes from) words (Fault reason place) left
   unfolding HeaderInto
   header-fault reason place left e = rw e (ap (λ r. Fault r place) (sym (declared-reason reason)))
 
-  pub states-unread : (reason : meaning.Reason) (place : ℕ) → statesOf bytes 0 ≡ fault reason place → frontOf bytes 0 ≡ fault reason place
+  pub states-unread : (reason : meaning.Reason) (place : ℕ) → statesOf bytes from ≡ fault reason place → frontOf bytes from ≡ fault reason place
   unfolding frontOf
   states-unread reason place e = rw e
 
-  pub after-states : (answer : Step) (left : List ℕ) (next : ℕ) → ReadsInto (statesOf bytes 0) (λ states. begun words (stateWords states)) answer left
+  pub after-states : (answer : Step) (left : List ℕ) (next : ℕ) → ReadsInto (statesOf bytes from) (λ states. begun words (stateWords states)) answer left
       → answer ≡ Next next
-      → AfterGoal bytes words left next
+      → AfterGoal bytes from words left next
   unfolding stateWords
-  after-states answer left next read e = known (reads-next (statesOf bytes 0) (λ states. begun words (stateWords states)) answer next left read e)
+  after-states answer left next read e = known (reads-next (statesOf bytes from) (λ states. begun words (stateWords states)) answer next left read e)
     where
-      known : (states : States) × (statesOf bytes 0 ≡ got states next) × (left ≡ begun words (stateWords states)) → AfterGoal bytes words left next
+      known : (states : States) × (statesOf bytes from ≡ got states next) × (left ≡ begun words (stateWords states)) → AfterGoal bytes from words left next
       known (states, r, w) =
-          let said = states-said bytes .gives 0 states next r .known in
+          let said = states-said bytes .gives from states next r .known in
           let first = sizes-first (states .sizes) _ left (w ∙ append-assoc (sizedWords (states .sizes)) (states .start ++ states .goal) _) in
           record {
             states = states;
@@ -131,7 +124,7 @@ module _ (bytes words : List ℕ) where
             same = first .1;
           }
 
-  module _ (old : List ℕ) (next : ℕ) (known : AfterGoal bytes words old next) where
+  module _ (old : List ℕ) (next : ℕ) (known : AfterGoal bytes from words old next) where
     pub states-small : SmallSizes (sizesPart old)
     states-small = rw (part-sizes old, known .same) (limits-small (known .states .sizes) (known .limits))
 
@@ -153,13 +146,13 @@ module _ (bytes words : List ℕ) where
           }
 
       -- What is left to be read.
-      front-rest : frontOf bytes 0 ≡ then (featureList (atoms (sizesIn old)) n)
+      front-rest : frontOf bytes from ≡ then (featureList (atoms (sizesIn old)) n)
           (λ pairs. then number (λ count. give (record { states = known .states; pairs = pairs; count = count }))) bytes next
       unfolding frontOf
       front-rest = rw (known .same, n-is, known .read) refl
 
       pub pairs-unread : (reason : meaning.Reason) (place : ℕ) → featureList (atoms (sizesIn old)) n bytes next ≡ fault reason place
-          → frontOf bytes 0 ≡ fault reason place
+          → frontOf bytes from ≡ fault reason place
       pairs-unread reason place e = front-rest ∙ rw e
 
       module _ (answer : Step) (left : List ℕ) (after : ℕ)
@@ -167,19 +160,19 @@ module _ (bytes words : List ℕ) where
         pairs-read : (pairs : List ℕ) × (featureList (atoms (sizesIn old)) n bytes next ≡ got pairs after) × (left ≡ written old (pairsAt (getD old 0 0)) (featureWords n pairs))
         pairs-read = reads-next (featureList (atoms (sizesIn old)) n bytes next) (λ pairs. written old (pairsAt (getD old 0 0)) (featureWords n pairs)) answer after left read e
 
-        pub count-unread : (reason : meaning.Reason) (place : ℕ) → number bytes after ≡ fault reason place → frontOf bytes 0 ≡ fault reason place
+        pub count-unread : (reason : meaning.Reason) (place : ℕ) → number bytes after ≡ fault reason place → frontOf bytes from ≡ fault reason place
         count-unread reason place f = front-rest ∙ rw (pairs-read .1, f)
 
         pub header-got : (v operators last : ℕ) → v ≡ getD old 0 0 → number bytes after ≡ got operators last
-            → HeaderInto (frontOf bytes 0) words (Got v n operators last) left
+            → HeaderInto (frontOf bytes from) words (Got v n operators last) left
         unfolding frontWords HeaderInto
         header-got v operators last same f = made (pairs-read .0) (pairs-read .1) (pairs-read .2)
           where
             made : (pairs : List ℕ) → featureList (atoms (sizesIn old)) n bytes next ≡ got pairs after
                 → left ≡ written old (pairsAt (getD old 0 0)) (featureWords n pairs)
-                → HeaderInto (frontOf bytes 0) words (Got v n operators last) left
+                → HeaderInto (frontOf bytes from) words (Got v n operators last) left
             made pairs r w =
-                let front : frontOf bytes 0 ≡ got (record { states = known .states; pairs = pairs; count = operators }) last = front-rest ∙ rw (r, f) in
+                let front : frontOf bytes from ≡ got (record { states = known .states; pairs = pairs; count = operators }) last = front-rest ∙ rw (r, f) in
                 rw front (
                   rw (same, known .count, n-is) refl,
                   w ∙ rw (known .count, known .are, n-is) (begun-more words (stateWords (known .states)) (featureWords (features (known .states .sizes)) pairs) _ (known .long)),

@@ -1,13 +1,15 @@
 // Reads what stands before the operators of a task file into words that are laid out as the front of a workspace; and weight files.
 ghost use mathlib.Core.Path.{_≡_};
 ghost use Prim.Native.Nat.{_+_, _*_, _≤_};
-ghost use lib.ListN.{length, getD, replicate};
-ghost use lib.Seq.{sets};
-ghost use Rattle.meaning.specs.Limits.{wordBits, mostVariables, mostFeatures};
-ghost use Rattle.meaning.specs.File.{header as headerOf, sizesOf, valuesOf, featuresOf, featureList, judgedWeights};
-ghost use Rattle.meaning.specs.Workspace.{sizesAt, startAt, pairsAt, slotsAt, wordsFor};
+ghost use lib.ListN.{length, getD, take, drop, replicate};
+ghost use Rattle.meaning.specs.Limits.{wordBits, mostVariables, mostSize, mostFeatures};
+ghost use Rattle.meaning.specs.File.{header as headerOf, itemsOf, sizeList, featuresOf, featureList, judgedWeights};
+ghost use Rattle.meaning.specs.Workspace.{startAt, pairsAt, slotsAt, wordsFor};
 ghost use Rattle.meaning.specs.Feature.{atoms};
 ghost use Rattle.theory.specs.Contents.{sizesIn};
+ghost use Rattle.number.specs.Answers.{reasonOf, placeOf};
+ghost use Rattle.reader.specs.Lists.{Apart};
+ghost use Rattle.reader.specs.Header.{featuresJudged};
 ghost use Rattle.reader.specs.Answer.{written, featureWords, begun, sizedWords, ReadsInto};
 ghost use Rattle.words.specs.Toggled.{toggledAll};
 ghost use Rattle.reader.specs.Front.{statesOf, stateWords, frontOf, HeaderInto};
@@ -35,21 +37,32 @@ pub enum Header {
     Fault(Reason, usize),
 }
 
-// Reads v sizes.
-fn sizes_at(bytes: &[u8], at: usize, header: &mut [u64], v: usize) -> Step
-    requires { ⌜ sizesAt + v ≤ length (now header) ⌝ }
-    ensures { λ r. ⌜ ReadsInto (sizesOf v (now (bytes .entry)) at) (sets (now (header .entry)) sizesAt) r (now (header .exit)) ⌝ }
+// Reads so many numbers from `low` on, each below its bound, into the words from `to` on. The bounds stand in the words from `bounds` on; a number may be
+// written over a bound that has been used.
+pub fn items_at(
+    bytes: &[u8],
+    at: usize,
+    words: &mut [u64],
+    bounds: usize,
+    to: usize,
+    count: usize,
+    low: usize,
+    reason: Reason,
+) -> Step
+    requires { ⌜ (bounds + count ≤ length (now words)) × (to + count ≤ length (now words)) × Apart bounds to count ⌝ }
+    ensures { λ r. ⌜ ReadsInto (itemsOf low (reasonOf reason) (take count (drop bounds (now (words .entry)))) (now (bytes .entry)) at) (written (now (words .entry)) to) r (now (words .exit)) ⌝ }
 {
     let mut next = at;
     let mut i = 0;
-    while i < v {
-        match number::item_at(bytes, next, LEAST_SIZE, MOST_SIZE + 1, Reason::Limit) {
-            Number::Got(size, after) => {
-                header[SIZES_AT + i] = size as u64;
+    while i < count {
+        let bound = words[bounds + i] as usize;
+        match number::item_at(bytes, next, low, bound, reason) {
+            Number::Got(n, after) => {
+                words[to + i] = n as u64;
                 next = after;
             }
-            Number::Fault(reason, place) => {
-                return Step::Fault(reason, place);
+            Number::Fault(found, place) => {
+                return Step::Fault(found, place);
             }
         }
         i += 1;
@@ -57,62 +70,90 @@ fn sizes_at(bytes: &[u8], at: usize, header: &mut [u64], v: usize) -> Step
     Step::Next(next)
 }
 
-// Reads v and the sizes from the first byte on, and judges N after the last size.
-pub fn read_sizes(bytes: &[u8], header: &mut [u64]) -> Step
-    requires { ⌜ startAt mostVariables ≤ length (now header) ⌝ }
-    ensures { λ r. ⌜ ReadsInto (headerOf (now (bytes .entry)) 0) (λ sizes. begun (now (header .entry)) (sizedWords sizes)) r (now (header .exit)) ⌝ }
+// Reads v and v sizes, each from `least` to `most`; N is not judged yet.
+pub fn read_sizes(bytes: &[u8], at: usize, header: &mut [u64], least: usize, most: usize) -> Step
+    requires { ⌜ (startAt mostVariables ≤ length (now header)) × (most ≤ mostSize) ⌝ }
+    ensures { λ r. ⌜ ReadsInto (sizeList least most (now (bytes .entry)) at) (λ sizes. begun (now (header .entry)) (sizedWords sizes)) r (now (header .exit)) ⌝ }
 {
-    match number::item_at(bytes, 0, LEAST_VARIABLES, MOST_VARIABLES + 1, Reason::Limit) {
+    match number::item_at(
+        bytes,
+        at,
+        LEAST_VARIABLES,
+        MOST_VARIABLES + 1,
+        Reason::Limit,
+    ) {
         Number::Got(v, next) => {
             header[0] = v as u64;
-            match sizes_at(bytes, next, &mut *header, v) {
-                Step::Next(after) => {
-                    if MOST_FEATURES < numbering::features(&header[SIZES_AT..SIZES_AT + v]) {
-                        return Step::Fault(Reason::Limit, after);
-                    }
-                    Step::Next(after)
-                }
-                Step::Fault(reason, place) => Step::Fault(reason, place),
-            }
+            let bounds = [(most + 1) as u64; MOST_VARIABLES];
+            words::copy(&mut header[SIZES_AT..SIZES_AT + v], &bounds[..v]);
+            items_at(
+                bytes,
+                next,
+                header,
+                SIZES_AT,
+                SIZES_AT,
+                v,
+                least,
+                Reason::Limit,
+            )
         }
         Number::Fault(reason, place) => Step::Fault(reason, place),
     }
 }
 
-// Reads a value for each variable, as many as the header says, into the words from `to` on.
-pub fn read_values(bytes: &[u8], at: usize, header: &mut [u64], to: usize) -> Step
-    requires { ⌜ (startAt (getD (now header) 0 0) ≤ to) × (to + getD (now header) 0 0 ≤ length (now header)) ⌝ }
-    ensures { λ r. ⌜ ReadsInto (valuesOf (sizesIn (now (header .entry))) (now (bytes .entry)) at) (written (now (header .entry)) to) r (now (header .exit)) ⌝ }
+// Judges N behind v sizes that were read from a place on: `next` is the place after them, and a fault is placed at the last of them.
+pub fn judge_features(bytes: &[u8], at: usize, v: usize, n: usize, next: usize) -> Step
+    ensures { λ r. ⌜ r ≡ placeOf (featuresJudged (now (bytes .entry)) at v n next) ⌝ }
 {
-    let v = header[0] as usize;
-    let mut next = at;
-    let mut i = 0;
-    while i < v {
-        let size = header[SIZES_AT + i] as usize;
-        match number::item_at(bytes, next, 0, size, Reason::Range) {
-            Number::Got(value, after) => {
-                header[to + i] = value as u64;
-                next = after;
-            }
-            Number::Fault(reason, place) => {
-                return Step::Fault(reason, place);
-            }
-        }
-        i += 1;
+    if MOST_FEATURES < n {
+        return Step::Fault(Reason::Limit, number::numbers_on(bytes, at, v));
     }
     Step::Next(next)
 }
 
-// Reads sizes, start and goal.
-fn read_states(bytes: &[u8], header: &mut [u64]) -> Step
-    requires { ⌜ pairsAt mostVariables ≤ length (now header) ⌝ }
-    ensures { λ r. ⌜ ReadsInto (statesOf (now (bytes .entry)) 0) (λ states. begun (now (header .entry)) (stateWords states)) r (now (header .exit)) ⌝ }
+// Reads v and the sizes, and judges N.
+fn read_limited(bytes: &[u8], at: usize, header: &mut [u64], least: usize, most: usize) -> Step
+    requires { ⌜ (startAt mostVariables ≤ length (now header)) × (most ≤ mostSize) ⌝ }
+    ensures { λ r. ⌜ ReadsInto (headerOf least most (now (bytes .entry)) at) (λ sizes. begun (now (header .entry)) (sizedWords sizes)) r (now (header .exit)) ⌝ }
 {
-    match read_sizes(bytes, &mut *header) {
+    match read_sizes(bytes, at, &mut *header, least, most) {
         Step::Next(next) => {
             let v = header[0] as usize;
-            match read_values(bytes, next, &mut *header, SIZES_AT + v) {
-                Step::Next(after) => read_values(bytes, after, &mut *header, SIZES_AT + v + v),
+            let n = numbering::features(&header[SIZES_AT..SIZES_AT + v]);
+            judge_features(bytes, at, v, n, next)
+        }
+        Step::Fault(reason, place) => Step::Fault(reason, place),
+    }
+}
+
+// Reads sizes, start and goal.
+fn read_states(bytes: &[u8], at: usize, header: &mut [u64]) -> Step
+    requires { ⌜ pairsAt mostVariables ≤ length (now header) ⌝ }
+    ensures { λ r. ⌜ ReadsInto (statesOf (now (bytes .entry)) at) (λ states. begun (now (header .entry)) (stateWords states)) r (now (header .exit)) ⌝ }
+{
+    match read_limited(bytes, at, &mut *header, LEAST_SIZE, MOST_SIZE) {
+        Step::Next(next) => {
+            let v = header[0] as usize;
+            match items_at(
+                bytes,
+                next,
+                &mut *header,
+                SIZES_AT,
+                SIZES_AT + v,
+                v,
+                0,
+                Reason::Range,
+            ) {
+                Step::Next(after) => items_at(
+                    bytes,
+                    after,
+                    &mut *header,
+                    SIZES_AT,
+                    SIZES_AT + v + v,
+                    v,
+                    0,
+                    Reason::Range,
+                ),
                 Step::Fault(reason, place) => Step::Fault(reason, place),
             }
         }
@@ -190,12 +231,12 @@ pub fn read_weights(bytes: &[u8], n: usize, words: &mut [u64]) -> Step
     }
 }
 
-// Reads what stands before the operators of a task file, from the first byte on, into words that are all 0.
-pub fn read_header(bytes: &[u8], header: &mut [u64]) -> Header
+// Reads what stands before the operators of a task file, from a place on, into words that are all 0.
+pub fn read_header(bytes: &[u8], at: usize, header: &mut [u64]) -> Header
     requires { ⌜ (slotsAt mostVariables mostFeatures ≤ length (now header)) × (now header ≡ replicate (length (now header)) 0) ⌝ }
-    ensures { λ r. ⌜ HeaderInto (frontOf (now (bytes .entry)) 0) (now (header .entry)) r (now (header .exit)) ⌝ }
+    ensures { λ r. ⌜ HeaderInto (frontOf (now (bytes .entry)) at) (now (header .entry)) r (now (header .exit)) ⌝ }
 {
-    match read_states(bytes, &mut *header) {
+    match read_states(bytes, at, &mut *header) {
         Step::Next(next) => {
             let v = header[0] as usize;
             let n = numbering::features(&header[SIZES_AT..SIZES_AT + v]);

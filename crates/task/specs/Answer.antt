@@ -9,7 +9,7 @@ use Rattle.meaning.specs.Sets.{listed}
 use Rattle.meaning.specs.Task.{Operator, Task, State}
 use Rattle.meaning.specs.Feature.{features}
 use Rattle.meaning.specs.Number.{Read, got, fault}
-use Rattle.meaning.specs.File.{operatorsOf, judgedTask, Writable}
+use Rattle.meaning.specs.File.{operatorsOf, judgedFrom, judgedTask, Writable}
 use Rattle.meaning.specs.Workspace.{sizesAt, startAt, goalAt, pairsAt, slotsAt, has}
 use Rattle.theory.specs.Parts.{operators-said}
 use Rattle.theory.specs.Accepted.{accepted}
@@ -29,15 +29,10 @@ use Rattle.task.specs.Header.{headerWords, pairWords, Headed, front-head
 use Rattle.task.specs.Header.{sizes-part, start-part, goal-part, pairs-part}
 use Rattle.task.specs.Rest.{restOf, behind, front-unread, judged-behind, rest-operators}
 
--- The front of a task: all but its operators, and how many they are.
-abbrev pub frontIn : Task → Front
-frontIn T = record { states = record { sizes = T .sizes; start = T .start; goal = T .goal }; pairs = T .pairs; count = length (T .operators) }
-
 -- An accepted task: the answer has its counts and the place after its front, where its operators are read, and the words left begin with its header.
 pub record AcceptedInto (bytes words : List ℕ) (T : Task) (next : ℕ) (answer : Judged) (left : List ℕ) : Type 0 where
   pub at : ℕ
   pub counts : answer ≡ Accepted (length (T .sizes)) (features (T .sizes)) (length (T .operators)) at
-  pub front : frontOf bytes 0 ≡ got (frontIn T) at
   pub operators : operatorsOf (T .sizes) (length (T .operators)) bytes at ≡ got (T .operators) next
   pub header : left ≡ begun words (headerWords T)
 
@@ -57,7 +52,6 @@ pub record Known (bytes words left : List ℕ) (v n count at : ℕ) : Type 0 whe
   pub variables : v ≡ length (task .sizes)
   pub total : n ≡ features (task .sizes)
   pub many : count ≡ length (task .operators)
-  pub front : frontOf bytes 0 ≡ got (frontIn task) at
   pub operators : operatorsOf (task .sizes) count bytes at ≡ got (task .operators) next
   pub header : left ≡ begun words (headerWords task)
 
@@ -105,7 +99,6 @@ module _ (bytes words : List ℕ) (answer : Judged) (left : List ℕ) where
             variables = first;
             total = second;
             many = third;
-            front = k .front ∙ ap (got (frontIn T)) fourth;
             operators = rw (third, ← fourth) (k .operators);
             header = k .header;
           }
@@ -127,9 +120,9 @@ module _ (bytes words : List ℕ) (answer : Judged) (left : List ℕ) where
 -- ---- what makes an answer
 
 -- What is known once the front was read, by the counts and the place that the reader answers.
-pub record Fronted (bytes words left : List ℕ) (v n count at : ℕ) : Type 0 where
+pub record Fronted (bytes : List ℕ) (from : ℕ) (words left : List ℕ) (v n count at : ℕ) : Type 0 where
   pub front : Front
-  pub read : frontOf bytes 0 ≡ got front at
+  pub read : frontOf bytes from ≡ got front at
   pub variables : v ≡ length (front .states .sizes)
   pub total : n ≡ features (front .states .sizes)
   pub many : count ≡ front .count
@@ -142,26 +135,26 @@ pub record Cuts (v n start goal pairs end : ℕ) : Type 0 where
   pub pairs-is : pairs ≡ pairsAt v
   pub end-is : end ≡ slotsAt v n
 
-module _ (bytes words left : List ℕ) where
-  pub answer-refused : (reason : Reason) (place : ℕ) → judgedTask bytes ≡ fault (reasonOf reason) place → JudgedInto (judgedTask bytes) bytes words (Refused reason place) left
+module _ (bytes : List ℕ) (from : ℕ) (words left : List ℕ) where
+  pub answer-refused : (reason : Reason) (place : ℕ) → judgedFrom bytes from ≡ fault (reasonOf reason) place → JudgedInto (judgedFrom bytes from) bytes words (Refused reason place) left
   unfolding JudgedInto
   answer-refused reason place e = rw e (ap (λ r. Refused r place) (sym (declared-reason reason)))
 
-  module _ (answer : Header) (h : HeaderInto (frontOf bytes 0) words answer left) where
-    pub front-told : (v n count at : ℕ) → answer ≡ Got v n count at → Fronted bytes words left v n count at
+  module _ (answer : Header) (h : HeaderInto (frontOf bytes from) words answer left) where
+    pub front-told : (v n count at : ℕ) → answer ≡ Got v n count at → Fronted bytes from words left v n count at
     unfolding HeaderInto
-    front-told v n count at e = by (frontOf bytes 0) refl h
+    front-told v n count at e = by (frontOf bytes from) refl h
       where
-        by : (read : Read Front) → frontOf bytes 0 ≡ read → HeaderInto read words answer left → Fronted bytes words left v n count at
+        by : (read : Read Front) → frontOf bytes from ≡ read → HeaderInto read words answer left → Fronted bytes from words left v n count at
         by (got front next) q k =
             let same : Got (length (front .states .sizes)) (features (front .states .sizes)) (front .count) next ≡ Got v n count at = sym (k .0) ∙ e in
             let fourth : next ≡ at = cc in
             record { front = front; read = q ∙ ap (got front) fourth; variables = cc; total = cc; many = cc; words-are = k .1 }
         by (fault reason place) q k = absurd (let same : Fault (declaredOf reason) place ≡ Got v n count at = sym k ∙ e in let z : _≡_ {A = ℕ} 0 1 = cc in omega arith)
 
-    pub front-refused : (reason : Reason) (place : ℕ) → answer ≡ Fault reason place → JudgedInto (judgedTask bytes) bytes words (Refused reason place) left
+    pub front-refused : (reason : Reason) (place : ℕ) → answer ≡ Fault reason place → JudgedInto (judgedFrom bytes from) bytes words (Refused reason place) left
     unfolding HeaderInto
-    front-refused reason place e = answer-refused reason place (front-unread bytes (reasonOf reason) place (by (frontOf bytes 0) h))
+    front-refused reason place e = answer-refused reason place (front-unread bytes from (reasonOf reason) place (by (frontOf bytes from) h))
       where
         by : (read : Read Front) → HeaderInto read words answer left → read ≡ fault (reasonOf reason) place
         by (got front next) k =
@@ -172,13 +165,13 @@ module _ (bytes words left : List ℕ) where
             let found : step.Fault (declaredOf other) there ≡ step.Fault reason place = cc in
             place-faulted (fault other there) reason place found
 
-  module _ (v n count at : ℕ) (known : Fronted bytes words left v n count at) where
+  module _ (v n count at : ℕ) (known : Fronted bytes from words left v n count at) where
     -- A task with this front, and its header.
     abbrev begins : List Operator → Task
     begins operators = taskWith (known .front) operators
 
     headed : (operators : List Operator) → Headed (begins operators)
-    headed operators = front-headed bytes (known .front) at operators (known .read)
+    headed operators = front-headed bytes from (known .front) at operators (known .read)
 
     header-words : (operators : List Operator) → left ≡ begun words (headerWords (begins operators))
     header-words operators = known .words-are ∙ ap (begun words) (front-header (known .front) operators)
@@ -214,13 +207,13 @@ module _ (bytes words left : List ℕ) where
       lent-behind = rw (lent .0, lent .1, lent .2, header-has (begins []) (headed []), known .many)
 
       module _ (answer : Step) (told : answer ≡ placeOf (restOf lentSizes (has lentPairs) lentStart count bytes at)) where
-        pub rest-refused : (reason : Reason) (place : ℕ) → answer ≡ step.Fault reason place → JudgedInto (judgedTask bytes) bytes words (Refused reason place) left
+        pub rest-refused : (reason : Reason) (place : ℕ) → answer ≡ step.Fault reason place → JudgedInto (judgedFrom bytes from) bytes words (Refused reason place) left
         rest-refused reason place e =
             let found : behind bytes (known .front) at ≡ fault (reasonOf reason) place
             = sym lent-behind ∙ place-faulted (restOf lentSizes (has lentPairs) lentStart count bytes at) reason place (sym told ∙ e) in
-            answer-refused reason place (judged-behind bytes (known .front) at (known .read) ∙ rw found)
+            answer-refused reason place (judged-behind bytes (known .front) from at (known .read) ∙ rw found)
 
-        pub rest-accepted : (next : ℕ) → answer ≡ Next next → JudgedInto (judgedTask bytes) bytes words (Accepted v n count at) left
+        pub rest-accepted : (next : ℕ) → answer ≡ Next next → JudgedInto (judgedFrom bytes from) bytes words (Accepted v n count at) left
         unfolding JudgedInto
         rest-accepted next e = let (operators, read) = place-next (restOf lentSizes (has lentPairs) lentStart count bytes at) next (sym told ∙ e) in passed operators (sym lent-behind ∙ read)
           where
@@ -229,13 +222,12 @@ module _ (bytes words left : List ℕ) where
             made operators read long = record {
               at = at;
               counts = rw (known .variables, known .total, known .many, long) refl;
-              front = known .read ∙ ap (λ k. got (record { states = known .front .states; pairs = known .front .pairs; count = k }) at) (sym long);
               operators = rw long read;
               header = header-words operators;
             }
 
-            passed : (operators : List Operator) → behind bytes (known .front) at ≡ got operators next → JudgedInto (judgedTask bytes) bytes words (Accepted v n count at) left
+            passed : (operators : List Operator) → behind bytes (known .front) at ≡ got operators next → JudgedInto (judgedFrom bytes from) bytes words (Accepted v n count at) left
             passed operators found =
-                let whole : judgedTask bytes ≡ got (begins operators) next = judged-behind bytes (known .front) at (known .read) ∙ rw found in
+                let whole : judgedFrom bytes from ≡ got (begins operators) next = judged-behind bytes (known .front) from at (known .read) ∙ rw found in
                 let read = rest-operators (known .front .states .sizes) (listed (known .front .pairs)) (known .front .states .start) (known .front .count) bytes at operators next found in
                 rw whole (made operators read (operators-said bytes (known .front .states .sizes) (known .front .count) .gives at operators next read .known .0))

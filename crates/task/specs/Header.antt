@@ -109,6 +109,6 @@ front-said bytes = gives-then _ _
     (λ states l s. gives-then _ _ (feature-list-said bytes (atoms (states .sizes)) (features (states .sizes)) (atoms-room (states .sizes))) (λ pairs m p.
     gives-map (λ count. record { states = states; pairs = pairs; count = count }) _ (number-said bytes) (λ count k c. record { limits = s .0; start = s .1; goal = s .2; pairs = p .0 })))
 
-pub front-headed : (bytes : List ℕ) (front : Front) (at : ℕ) (operators : List Operator) → frontOf bytes 0 ≡ got front at → Headed (taskWith front operators)
-front-headed bytes front at operators e = let known = front-said bytes .gives 0 front at e .known in
+pub front-headed : (bytes : List ℕ) (from : ℕ) (front : Front) (at : ℕ) (operators : List Operator) → frontOf bytes from ≡ got front at → Headed (taskWith front operators)
+front-headed bytes from front at operators e = let known = front-said bytes .gives from front at e .known in
     record { limits = known .limits; start = known .start; goal = known .goal; pairs = known .pairs }

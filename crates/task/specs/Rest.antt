@@ -10,7 +10,7 @@ use Rattle.meaning.specs.Sets.{Set, listed, allOf}
 use Rattle.meaning.specs.Task.{Operator, Task}
 use Rattle.meaning.specs.Pair.{closed, holds}
 use Rattle.meaning.specs.Number.{Reason, Read, got, fault, onRead, LeftOver, Held, Unclosed}
-use Rattle.meaning.specs.File.{Parser, give, then, judge, operatorsOf, ended, judgedTask}
+use Rattle.meaning.specs.File.{Parser, give, then, judge, operatorsOf, ended, judgedFrom}
 use Rattle.theory.specs.Reading.{on-got, test-passed, test-failed, judged-passed}
 use Rattle.reader.specs.Front.{Front, frontOf, taskWith, task-front}
 use Rattle.task.specs.Walk.{closedFrom, closed-all}
@@ -71,9 +71,8 @@ last-made f a next false true = refl
 last-made f a next false false = refl
 
 module _ (bytes : List ℕ) where
-  pub front-unread : (reason : Reason) (place : ℕ) → frontOf bytes 0 ≡ fault reason place → judgedTask bytes ≡ fault reason place
-  unfolding judgedTask
-  front-unread reason place e = rw (task-front bytes 0, e)
+  pub front-unread : (from : ℕ) (reason : Reason) (place : ℕ) → frontOf bytes from ≡ fault reason place → judgedFrom bytes from ≡ fault reason place
+  front-unread from reason place e = rw (task-front bytes from, e)
 
   module _ (front : Front) where
     -- What is judged behind a front.
@@ -99,6 +98,6 @@ module _ (bytes : List ℕ) where
     at-operators (got operators after) = at-end operators (ended bytes after)
     at-operators (fault reason place) = refl
 
-    pub judged-behind : (at : ℕ) → frontOf bytes 0 ≡ got front at → judgedTask bytes ≡ made (behind at)
-    unfolding judgedTask restOf
-    judged-behind at read = rw (task-front bytes 0, read) (at-operators (operatorsOf (front .states .sizes) (front .count) bytes at))
+    pub judged-behind : (from at : ℕ) → frontOf bytes from ≡ got front at → judgedFrom bytes from ≡ made (behind at)
+    unfolding restOf
+    judged-behind from at read = rw (task-front bytes from, read) (at-operators (operatorsOf (front .states .sizes) (front .count) bytes at))

@@ -160,7 +160,7 @@ pub fn judge(bytes: &[u8], header: &mut [u64]) -> Judged
     requires { ⌜ (slotsAt mostVariables mostFeatures ≤ length (now header)) × (now header ≡ replicate (length (now header)) 0) ⌝ }
     ensures { λ r. ⌜ JudgedInto (judgedTask (now (bytes .entry))) (now (bytes .entry)) (now (header .entry)) r (now (header .exit)) ⌝ }
 {
-    match reader::read_header(bytes, &mut *header) {
+    match reader::read_header(bytes, 0, &mut *header) {
         Header::Got {
             variables,
             features,

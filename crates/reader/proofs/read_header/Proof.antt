@@ -12,11 +12,11 @@ use Rattle.reader.proofs.read_header.Statement.{statement}
 use Rattle.reader.proofs.read_header.Tie as tie
 
 -- What is known after the goal.
-known : (c : tie.After-next) → let a = c .before .before .before .before .before .before .before .before .args in AfterGoal (a .bytes .now) (a .header .now)
-    (c .before .before .before .before .read-states .last .1 .0) (c .next .given .0 .0)
-known c = after-states _ _ _ _ _ (c .before .before .before .before .read-states .ensures) (c .next .given .1)
+known : (c : tie.After-next) → let a = c .before .before .before .before .before .before .before .before .args in AfterGoal (a .bytes .now) (a .at) (a .header .now)
+    (c .before .before .before .before .read-states .last .1 .1 .0) (c .next .given .0 .0)
+known c = after-states _ _ _ _ _ _ (c .before .before .before .before .read-states .ensures) (c .next .given .1)
 
-few : (c : tie.After-next) → getD (c .before .before .before .before .read-states .last .1 .0) 0 0 ≤ mostVariables
+few : (c : tie.After-next) → getD (c .before .before .before .before .read-states .last .1 .1 .0) 0 0 ≤ mostVariables
 few c = rw (known c .count) (known c .limits .variables .1)
 
 read-states-requires : tie.Need-read-states-requires
@@ -41,10 +41,10 @@ part-features-end : tie.Need-part-features-end
 part-features-end c = omega (arith, few (c .before .before .before))
 
 features-requires : tie.Need-features-requires
-features-requires c κs = states-small _ _ _ _ (known (c .before .before .before .before))
+features-requires c κs = states-small _ _ _ _ _ (known (c .before .before .before .before))
 
 read-pairs-requires : tie.Need-read-pairs-requires
-read-pairs-requires c κs = cleared _ _ _ _ (known (c .before .before .before .before .before .before)) _ (c .before .features .ensures)
+read-pairs-requires c κs = cleared _ _ _ _ _ (known (c .before .before .before .before .before .before)) _ (c .before .features .ensures)
     (c .before .before .before .before .before .before .before .before .before .before .before .before .before .before .pre .1)
     (c .before .before .before .before .before .before .before .before .before .before .before .before .before .before .pre .0) (omega arith)
 
@@ -70,7 +70,7 @@ same-length : tie.Need-same-length
 same-length c = search needs
 
 returns : tie.Need-returns
-returns c = header-got _ _ _ _ (known (c .before .before .before .before .before .before .before .before .before .before .before .before .before .before .before .before)) _
+returns c = header-got _ _ _ _ _ (known (c .before .before .before .before .before .before .before .before .before .before .before .before .before .before .before .before)) _
     (c .before .before .before .before .before .before .before .before .before .before .before .features .ensures) _ _ _
     (c .before .before .before .before .before .before .before .before .before .read-pairs .ensures) (c .before .before .before .before .before .after .given .1) _ _ _ refl
     (sym (c .before .before .before .number-at .ensures) ∙ ap numberOf (c .before .operators .given .1))
@@ -79,7 +79,7 @@ same-length-2 : tie.Need-same-length-2
 same-length-2 c = search needs
 
 returns-2 : tie.Need-returns-2
-returns-2 c = header-fault _ _ _ _ _ (count-unread _ _ _ _ (known
+returns-2 c = header-fault _ _ _ _ _ _ (count-unread _ _ _ _ _ (known
     (c .before .before .before .before .before .before .before .before .before .before .before .before .before .before .before .before)) _
     (c .before .before .before .before .before .before .before .before .before .before .before .features .ensures) _ _ _
     (c .before .before .before .before .before .before .before .before .before .read-pairs .ensures) (c .before .before .before .before .before .after .given .1) _ _
@@ -89,7 +89,7 @@ same-length-3 : tie.Need-same-length-3
 same-length-3 c = search needs
 
 returns-3 : tie.Need-returns-3
-returns-3 c = header-fault _ _ _ _ _ (pairs-unread _ _ _ _ (known (c .before .before .before .before .before .before .before .before .before .before .before .before)) _
+returns-3 c = header-fault _ _ _ _ _ _ (pairs-unread _ _ _ _ _ (known (c .before .before .before .before .before .before .before .before .before .before .before .before)) _
     (c .before .before .before .before .before .before .before .features .ensures) _ _
     (reads-fault _ _ _ _ _ _ (c .before .before .before .before .before .read-pairs .ensures) (c .before .reason2 .given .1)))
 
@@ -97,7 +97,7 @@ same-length-4 : tie.Need-same-length-4
 same-length-4 c = search needs
 
 returns-4 : tie.Need-returns-4
-returns-4 c = header-fault _ _ _ _ _ (states-unread _ (c .before .before .before .before .before .before .before .before .before .args .header .now) _ _
+returns-4 c = header-fault _ _ _ _ _ _ (states-unread _ _ (c .before .before .before .before .before .before .before .before .before .args .header .now) _ _
     (reads-fault _ _ _ _ _ _ (c .before .before .before .before .before .read-states .ensures) (c .before .reason3 .given .1)))
 
 pub read-header-spec : {M : Type 1} → statement M

@@ -1,31 +1,33 @@
--- `read_sizes` meets its contract: each answer is one law on v, the sizes and N, which is counted over the sizes in the words.
+-- `read_sizes` meets its contract: bounds are laid where the sizes go, and the sizes are read over them.
 use mathlib.Core.Path.{_≡_, sym, ap, _∙_}
 use native.Mathlib.Omega.{arith}
-use Prim.Native.Nat.{_≤_}
+use Prim.Native.Nat.{_+_, _-_, _≤_}
 use lib.ListN.{length, set, length-set}
+use lib.Seq.{length-take-le}
 use Rattle.meaning.specs.Limits.{mostVariables}
 use Rattle.meaning.specs.Number.{got}
 use Rattle.number.specs.Answers.{numberOf}
-use Rattle.reader.specs.Answer.{answer-next, answer-fault, reads-fault}
-use Rattle.reader.specs.Header.{countAt, count-fault, count-known, sizes-faulted, Sized, sizes-read}
+use Rattle.reader.specs.Answer.{answer-fault}
+use Rattle.reader.specs.Lists.{apart-same}
+use Rattle.reader.specs.Header.{countAt, count-fault, count-known, laid, laid-length, bounds-room, sizes-over}
 use borrow.Author.Needs.{needs}
 use Rattle.reader.proofs.read_sizes.Statement.{statement}
 use Rattle.reader.proofs.read_sizes.Tie as tie
 
 -- The count that was read.
-counted : (c : tie.After-v) → countAt (c .before .before .before .before .before .args .bytes .now) 0 ≡ got (c .v .given .0 .0) (c .v .given .0 .1 .0)
+counted : (c : tie.After-v) → let a = c .before .before .before .before .before .args in countAt (a .bytes .now) (a .at) ≡ got (c .v .given .0 .0) (c .v .given .0 .1 .0)
 counted c = sym (c .before .before .item-at .ensures) ∙ ap numberOf (c .v .given .1)
 
 room : (c : tie.After-v) → let header = c .before .before .before .before .before .args .header .now in
     (c .v .given .0 .0 ≤ mostVariables) × (length (set header 0 (c .v .given .0 .0)) ≡ length header)
-room c = (count-known _ _ _ (counted c) .1, length-set (c .before .before .before .before .before .args .header .now) 0 (c .v .given .0 .0))
+room c = let a = c .before .before .before .before .before .args in
+    (count-known (a .bytes .now) (a .at) (a .least) (a .most) _ _ (counted c) .1, length-set (a .header .now) 0 (c .v .given .0 .0))
 
--- What is known before N is judged.
-sized : (c : tie.After-after) → let a = c .before .before .before .before .before .before .before .before .before .before .before .before .args in
-    Sized (a .bytes .now) (a .header .now) (c .before .before .before .before .sizes-at .last .1 .1 .0) (c .before .before .before .before .before .before .before .v .given .0 .0)
-    (c .after .given .0 .0)
-sized c = sizes-read _ _ _ _ _ _ _ (c .before .before .before .before .before .before .before .before .before .before .before .before .pre)
-    (counted (c .before .before .before .before .before .before .before)) (c .before .before .before .before .sizes-at .ensures) (c .after .given .1)
+-- Words with bounds are as long as before.
+long : (c : tie.After-copy) → let a = c .before .before .before .before .before .before .before .before .before .args in
+    length (laid (a .header .now) (c .before .before .before .before .v .given .0 .0) (c .copy .last .0)) ≡ length (a .header .now)
+long c = let s = c .before .before .before .before .before .before .before .before .before in
+    laid-length (s .args .header .now) _ (s .args .most) (s .pre .0) (room (c .before .before .before .before) .0) _ (c .copy .ensures)
 
 add-item-at : tie.Need-add-item-at
 add-item-at c = search needs
@@ -39,55 +41,52 @@ enum-known-v c = search needs
 slice-write-header : tie.Need-slice-write-header
 slice-write-header c = search needs
 
-sizes-at-requires : tie.Need-sizes-at-requires
-sizes-at-requires c κs = omega (arith, room (c .before .before))
+add-bounds : tie.Need-add-bounds
+add-bounds c = omega arith
 
-enum-known-after : tie.Need-enum-known-after
-enum-known-after c = search needs
+add-copy : tie.Need-add-copy
+add-copy c = omega (arith, room (c .before))
 
-add-features : tie.Need-add-features
-add-features c = omega (arith, room (c .before .before .before .before .before .before .before .before))
+sub-copy : tie.Need-sub-copy
+sub-copy c = search needs
 
-sub-features : tie.Need-sub-features
-sub-features c = search needs
+part-copy-start : tie.Need-part-copy-start
+part-copy-start c = search needs
 
-part-features-start : tie.Need-part-features-start
-part-features-start c = search needs
+part-copy-end : tie.Need-part-copy-end
+part-copy-end c = omega (arith, room (c .before))
 
-part-features-end : tie.Need-part-features-end
-part-features-end c = omega (arith, room (c .before .before .before .before .before .before .before .before .before))
+array-share-prefix-bounds : tie.Need-array-share-prefix-bounds
+array-share-prefix-bounds c = omega (arith, room (c .before .before))
 
-features-requires : tie.Need-features-requires
-features-requires c κs = sized (c .before .before .before) .small
+slice-aggregate-copy : tie.Need-slice-aggregate-copy
+slice-aggregate-copy c = sym (length-take-le _ _ (room (c .before .before .before) .0))
 
-same-length : tie.Need-same-length
-same-length c = omega (arith, room (c .before .before .before .before .before .before .before .before .before .before .before .before))
+copy-requires : tie.Need-copy-requires
+copy-requires c κs = let s = c .before .before .before .before .before .before .before .before in
+    bounds-room (s .args .header .now) _ (s .args .most) (s .pre .0) (room (c .before .before .before) .0)
 
-returns : tie.Need-returns
-returns c = answer-fault _ _ _ _ _ (sized (c .before .before .before .before .before) .many (omega (arith, c .before .features .ensures)))
+items-at-requires : tie.Need-items-at-requires
+items-at-requires c κs = (
+  omega (arith, long (c .before .before .before), room (c .before .before .before .before .before .before .before)),
+  omega (arith, long (c .before .before .before), room (c .before .before .before .before .before .before .before)),
+  apart-same 1 _,
+)
 
 enum-known-reason : tie.Need-enum-known-reason
 enum-known-reason c = search needs
 
-enum-known-reason-2 : tie.Need-enum-known-reason-2
-enum-known-reason-2 c = search needs
+same-length : tie.Need-same-length
+same-length c = omega (arith, long (c .before .before .before .before .before .before))
 
-same-length-2 : tie.Need-same-length-2
-same-length-2 c = omega (arith, room (c .before .before .before .before .before .before .before .before .before .before .before .before))
+returns : tie.Need-returns
+returns c = let s = c .before .before .before .before .before .before .before .before .before .before .before .before .before .before .before in
+    sizes-over (s .args .bytes .now) (s .args .at) (s .args .least) (s .args .most) _ _ (s .args .header .now) _ _ _ (s .pre .0)
+    (counted (c .before .before .before .before .before .before .before .before .before .before)) (c .before .before .before .before .before .before .copy .ensures)
+    (c .before .before .items-at .ensures)
 
 returns-2 : tie.Need-returns-2
-returns-2 c = answer-next _ _ (sized (c .before .before .before .before .before) .sizes) _ _
-    (sized (c .before .before .before .before .before) .few (omega (arith, c .before .features .ensures))) (sized (c .before .before .before .before .before) .are)
-
-same-length-3 : tie.Need-same-length-3
-same-length-3 c = omega (arith, room (c .before .before .before .before .before .before .before .before))
-
-returns-3 : tie.Need-returns-3
-returns-3 c = answer-fault _ _ _ _ _ (sizes-faulted _ _ _ _ _ (counted (c .before .before .before .before .before .before .before .before))
-    (reads-fault _ _ _ _ _ _ (c .before .before .before .before .before .sizes-at .ensures) (c .before .reason .given .1)))
-
-returns-4 : tie.Need-returns-4
-returns-4 c = answer-fault _ _ _ _ _ (count-fault _ _ _ (sym (c .before .before .before .item-at .ensures) ∙ ap numberOf (c .before .reason2 .given .1)))
+returns-2 c = answer-fault _ _ _ _ _ (count-fault _ _ _ _ _ _ (sym (c .before .before .before .item-at .ensures) ∙ ap numberOf (c .before .reason .given .1)))
 
 pub read-sizes-spec : {M : Type 1} → statement M
 read-sizes-spec =
@@ -97,19 +96,16 @@ read-sizes-spec =
     item-at-requires
     enum-known-v
     slice-write-header
-    sizes-at-requires
-    enum-known-after
-    add-features
-    sub-features
-    part-features-start
-    part-features-end
-    features-requires
+    add-bounds
+    add-copy
+    sub-copy
+    part-copy-start
+    part-copy-end
+    array-share-prefix-bounds
+    slice-aggregate-copy
+    copy-requires
+    items-at-requires
+    enum-known-reason
     same-length
     returns
-    enum-known-reason
-    enum-known-reason-2
-    same-length-2
-    returns-2
-    same-length-3
-    returns-3
-    returns-4)
+    returns-2)

@@ -1,0 +1,84 @@
+-- `read_limited` meets its contract: what is known after the sizes, and then N is judged.
+use Prim.Native.Nat.{_≤_}
+use native.Mathlib.Omega.{arith}
+use lib.ListN.{getD}
+use Rattle.meaning.specs.Limits.{mostVariables}
+use Rattle.reader.specs.Answer.{answer-fault, reads-fault}
+use Rattle.reader.specs.Header.{Sized, sizes-known, sizes-unread, sizes-judged}
+use borrow.Author.Needs.{needs}
+use Rattle.reader.proofs.read_limited.Statement.{statement}
+use Rattle.reader.proofs.read_limited.Tie as tie
+
+-- What the call began with.
+abbrev start : tie.After-next → tie.Start
+start c = c .before .before .before .before .before .before .before .before
+
+-- What is known after the sizes.
+sized : (c : tie.After-next) → let a = start c .args in
+    Sized (a .bytes .now) (a .at) (a .least) (a .most) (a .header .now) (c .before .before .before .before .read-sizes .last .1 .1 .0) (c .next .given .0 .0)
+sized c = sizes-known _ _ _ _ _ _ _ _ (c .before .before .before .before .read-sizes .ensures) (c .next .given .1)
+
+few : (c : tie.After-next) → getD (c .before .before .before .before .read-sizes .last .1 .1 .0) 0 0 ≤ mostVariables
+few c = omega (arith, sized c .count, sized c .few)
+
+read-sizes-requires : tie.Need-read-sizes-requires
+read-sizes-requires c κs = search needs
+
+enum-known-next : tie.Need-enum-known-next
+enum-known-next c = search needs
+
+slice-read-v : tie.Need-slice-read-v
+slice-read-v c = search needs
+
+add-features : tie.Need-add-features
+add-features c = omega (arith, few (c .before .before))
+
+sub-features : tie.Need-sub-features
+sub-features c = search needs
+
+part-features-start : tie.Need-part-features-start
+part-features-start c = search needs
+
+part-features-end : tie.Need-part-features-end
+part-features-end c = omega (arith, few (c .before .before .before))
+
+features-requires : tie.Need-features-requires
+features-requires c κs = sized (c .before .before .before .before) .small (start (c .before .before .before .before) .pre .1)
+
+judge-features-requires : tie.Need-judge-features-requires
+judge-features-requires c κs = search needs
+
+enum-known-reason : tie.Need-enum-known-reason
+enum-known-reason c = search needs
+
+same-length : tie.Need-same-length
+same-length c = search needs
+
+returns : tie.Need-returns
+returns c = let s = c .before .before .before .before .before .before in
+    sizes-judged _ _ _ _ _ _ _ _ _ (sized s) (c .before .features .ensures) (c .judge-features .ensures)
+
+same-length-2 : tie.Need-same-length-2
+same-length-2 c = search needs
+
+returns-2 : tie.Need-returns-2
+returns-2 c = answer-fault _ _ _ _ _ (sizes-unread _ _ _ _ _ _ (reads-fault _ _ _ _ _ _ (c .before .before .before .before .before .read-sizes .ensures) (c .before .reason .given .1)))
+
+pub read-limited-spec : {M : Type 1} → statement M
+read-limited-spec =
+    tie.close
+    (tie.spec
+    read-sizes-requires
+    enum-known-next
+    slice-read-v
+    add-features
+    sub-features
+    part-features-start
+    part-features-end
+    features-requires
+    judge-features-requires
+    enum-known-reason
+    same-length
+    returns
+    same-length-2
+    returns-2)

@@ -1,14 +1,14 @@
 -- Operators read one after another, and their rows inserted into the slots of a workspace.
-use Prim.Native.Nat.{ℕ, zero, suc, _+_, _-_, _<_, _≤_}
-use mathlib.Core.Path.{_≡_, sym, ap, _∙_, fun-ext}
-use mathlib.Core.List.{List, [], _∷_, _++_}
+use Prim.Native.Nat.{ℕ, _+_, _-_, _<_, _≤_}
+use mathlib.Core.Path.{_≡_, refl, sym, ap, _∙_, fun-ext}
+use mathlib.Core.List.{List, [], _∷_, _++_, flatMap, foldl}
 use native.Mathlib.Omega.{arith}
 use lib.ListN.{length, length-append}
 use Rattle.meaning.specs.Limits.{mostVariables, mostFeatures}
 use Rattle.meaning.specs.Sets.{Slots}
 use Rattle.meaning.specs.Task.{Operator}
 use Rattle.meaning.specs.Feature.{features}
-use Rattle.meaning.specs.Number.{Read, got, fault}
+use Rattle.meaning.specs.Number.{got}
 use Rattle.meaning.specs.File.{operatorOf, operatorsOf}
 use Rattle.meaning.specs.Slot.{Reduced}
 use Rattle.meaning.specs.Workspace.{wordsDue, has, packed, Content, wordsOf, Proper}
@@ -16,13 +16,11 @@ use Rattle.theory.specs.Words.{length-packed, packed-holds}
 use Rattle.theory.specs.Contents.{slotWords, length-words, read-sizes, read-pairs, pairs-past, withSlots, slots-changed}
 use Rattle.theory.specs.InsertAll.{insertAll, insertAll-join, insertAll-reduced}
 use Rattle.theory.specs.Rows.{rowsOf, rowsAll}
-use mathlib.Core.List.{flatMap}
-use Rattle.number.specs.Answers.{placeOf, place-next, place-faulted}
-use Rattle.number.specs.declared.Reason.{Reason}
+use Rattle.number.specs.Answers.{placeOf}
 use Rattle.number.specs.declared.Step.{Step}
-use Rattle.number.specs.declared.Step.the-variants.{Next, Fault}
+use Rattle.number.specs.declared.Step.the-variants.{Next}
 use Rattle.pairs.specs.Ready.{Listed, Ready}
-use Rattle.task.specs.Walk.{operators-step}
+use Rattle.operator.specs.Fold.{walked, walk-keeps, walk-all, turn-more}
 use Rattle.condition.specs.Slotted.{sizeWords, pairWords, slotArea, heldSlots, slotted, area-slotted, held-slotted as slots-back, Opened}
 
 -- The words of a proper content for v variables and n features, with further words behind them; and a workspace that holds some.
@@ -36,23 +34,12 @@ abbrev pub Workable : ℕ → ℕ → List ℕ → Type 0
 Workable v n ws = (c : Content) × (further : List ℕ) × Holds v n c further ws
 
 -- A workspace with the rows of an operator inserted.
-unfoldable pub withRows : ℕ → ℕ → Operator → List ℕ → List ℕ
-withRows v n o ws = slotted v n ws (insertAll n (heldSlots v n ws) (rowsOf (sizeWords v ws) (has (pairWords v n ws)) o))
-
--- The same for an operator that was read; where there is a fault, the workspace as it was.
-abbrev pub withRead : ℕ → ℕ → Read Operator → List ℕ → List ℕ
-withRead v n (got o next) ws = withRows v n o ws
-withRead v n (fault reason place) ws = ws
-
--- What is done with an operator that was read and the place after it.
-abbrev pub afterRead : Read Operator → List ℕ → (Operator → ℕ → List ℕ) → List ℕ
-afterRead (got o next) ws further = further o next
-afterRead (fault reason place) ws further = ws
+unfoldable pub withRows : ℕ → ℕ → List ℕ → Operator → List ℕ
+withRows v n ws o = slotted v n ws (insertAll n (heldSlots v n ws) (rowsOf (sizeWords v ws) (has (pairWords v n ws)) o))
 
 -- The rows of so many operators inserted, as far as they can be read.
-unfoldable pub addedFrom : ℕ → ℕ → ℕ → List ℕ → ℕ → List ℕ → List ℕ
-addedFrom v n zero bytes at ws = ws
-addedFrom v n (suc k) bytes at ws = afterRead (operatorOf (sizeWords v ws) bytes at) ws (λ o next. addedFrom v n k bytes next (withRows v n o ws))
+abbrev pub addedFrom : ℕ → ℕ → ℕ → List ℕ → ℕ → List ℕ → List ℕ
+addedFrom v n count bytes at ws = walked (withRows v n) (sizeWords v ws) count bytes at ws
 
 -- ---- the parts of a workspace
 
@@ -121,46 +108,37 @@ module _ (v n : ℕ) (c : Content) (further ws : List ℕ) (h : Holds v n c furt
   abbrev inserted : Operator → Slots
   inserted o = insertAll n (c .slots) (rowsOf (c .sizes) (c .pairs) o)
 
-  pub held-rows : (o : Operator) → Holds v n (withSlots c (inserted o)) further (withRows v n o ws)
+  pub held-rows : (o : Operator) → Holds v n (withSlots c (inserted o)) further (withRows v n ws o)
   unfolding withRows
   held-rows o = rw (held-slots, held-sizes, held-has) (held-again (inserted o) (insertAll-reduced held-reduced _))
 
 -- ---- operators one after another
 
 module _ (v n : ℕ) (bytes : List ℕ) where
-  module _ (count k at : ℕ) (ws : List ℕ) where
-    pub added-end : count ≤ k → addedFrom v n (count - k) bytes at ws ≡ ws
-    unfolding addedFrom
-    added-end h = let none : count - k ≡ 0 = omega arith in rw none
+  -- Rows leave a workspace that holds a content with the same sizes.
+  added-keeps : (count at : ℕ) (ws : List ℕ) → Workable v n ws → Workable v n (addedFrom v n count bytes at ws) × (sizeWords v (addedFrom v n count bytes at ws) ≡ sizeWords v ws)
+  added-keeps count at ws w = walk-keeps (withRows v n) (sizeWords v ws) bytes (λ l. Workable v n l × (sizeWords v l ≡ sizeWords v ws)) (λ l o h.
+      let (c, further, held) = h .0 in let more = held-rows v n c further l held o in
+      ((_, further, more), held-sizes v n _ further (withRows v n l o) more ∙ sym (held-sizes v n c further l held) ∙ h .1)) count at ws (w, refl)
 
-    module _ (more : k < count) (answer : Step) (left : List ℕ) (place : answer ≡ placeOf (operatorOf (sizeWords v ws) bytes at))
-        (rows : left ≡ withRead v n (operatorOf (sizeWords v ws) bytes at) ws) where
-      pub added-more : (next : ℕ) → answer ≡ Next next → addedFrom v n (count - k) bytes at ws ≡ addedFrom v n (count - (k + 1)) bytes next left
-      unfolding addedFrom
-      added-more next e = let turn : count - k ≡ suc (count - (k + 1)) = omega arith in
-          let (o, read) = place-next (operatorOf (sizeWords v ws) bytes at) next (sym place ∙ e) in
-          rw (turn, rows, read)
+  -- A turn that inserts the rows of one operator.
+  module _ (count k at : ℕ) (ws : List ℕ) (workable : Workable v n ws) (answer : Step) (left : List ℕ) (more : k < count)
+      (place : answer ≡ placeOf (operatorOf (sizeWords v ws) bytes at)) (rows : left ≡ addedFrom v n 1 bytes at ws) where
+    pub added-workable : Workable v n left
+    added-workable = rw rows (added-keeps 1 at ws workable .0)
 
-      pub added-unread : (reason : Reason) (there : ℕ) → answer ≡ Fault reason there → addedFrom v n (count - k) bytes at ws ≡ left
-      unfolding addedFrom
-      added-unread reason there e = let turn : count - k ≡ suc (count - (k + 1)) = omega arith in
-          let read = place-faulted (operatorOf (sizeWords v ws) bytes at) reason there (sym place ∙ e) in
-          rw (turn, rows, read)
+    pub added-more : (next : ℕ) → answer ≡ Next next → addedFrom v n (count - k) bytes at ws ≡ addedFrom v n (count - (k + 1)) bytes next left
+    added-more next e = turn-more (withRows v n) (sizeWords v ws) bytes count k at ws answer left more place rows next e
+        ∙ ap (λ sizes. walked (withRows v n) sizes (count - (k + 1)) bytes next left) (sym (ap (sizeWords v) rows ∙ added-keeps 1 at ws workable .1))
 
-      pub read-workable : Workable v n ws → Workable v n left
-      read-workable (c, further, h) = rw rows (by (operatorOf (sizeWords v ws) bytes at))
-        where
-          by : (read : Read Operator) → Workable v n (withRead v n read ws)
-          by (got o next) = (_, further, held-rows v n c further ws h o)
-          by (fault reason place) = (c, further, h)
+  fold-rows : (os : List Operator) (c : Content) (further ws : List ℕ) → Holds v n c further ws
+      → foldl (withRows v n) ws os ≡ wordsOf (withSlots c (insertAll n (c .slots) (rowsAll (c .sizes) (c .pairs) os))) ++ further
+  unfolding rowsAll flatMap insertAll
+  fold-rows [] c further ws h = h .words
+  fold-rows (o ∷ os) c further ws h = fold-rows os _ further (withRows v n ws o) (held-rows v n c further ws h o)
+      ∙ ap (λ slots. wordsOf (withSlots c slots) ++ further) (sym (insertAll-join n (c .slots) (rowsOf (c .sizes) (c .pairs) o) (rowsAll (c .sizes) (c .pairs) os)))
 
   -- Where the operators were read, the rows of all of them are inserted.
   pub added-all : (os : List Operator) (at next : ℕ) (c : Content) (further ws : List ℕ) → Holds v n c further ws → operatorsOf (c .sizes) (length os) bytes at ≡ got os next
       → addedFrom v n (length os) bytes at ws ≡ wordsOf (withSlots c (insertAll n (c .slots) (rowsAll (c .sizes) (c .pairs) os))) ++ further
-  unfolding addedFrom rowsAll flatMap insertAll
-  added-all [] at next c further ws h e = h .words
-  added-all (o ∷ os) at next c further ws h e =
-      let (middle, first, rest) = operators-step (c .sizes) bytes (length os) at o os next .0 e in
-      let read : operatorOf (sizeWords v ws) bytes at ≡ got o middle = rw (held-sizes v n c further ws h) first in
-      rw read (added-all os middle next _ further (withRows v n o ws) (held-rows v n c further ws h o) rest)
-      ∙ ap (λ slots. wordsOf (withSlots c slots) ++ further) (sym (insertAll-join n (c .slots) (rowsOf (c .sizes) (c .pairs) o) (rowsAll (c .sizes) (c .pairs) os)))
+  added-all os at next c further ws h e = walk-all (withRows v n) (sizeWords v ws) bytes (length os) at os next ws (rw (held-sizes v n c further ws h) e) ∙ fold-rows os c further ws h

@@ -18,9 +18,10 @@ use Rattle.number.specs.declared.Step.the-variants.{Next, Fault}
 use Rattle.operator.specs.declared.OperatorRead.{OperatorRead}
 use Rattle.operator.specs.Records.{recordOf, operatorReadOf}
 use Rattle.operator.specs.Known.{read-next, read-faulted, Room, operator-is}
+use Rattle.operator.specs.Fold.{walked, walk-unread}
 use Rattle.pairs.specs.Slices.{count-room, slices-read, slices-ready}
 use Rattle.condition.specs.Slotted.{sizeWords, pairWords, heldSlots, slotted, sizes-part, Opened}
-use Rattle.opening.specs.Adding.{Workable, withRows, withRead, held-due, held-limits, held-listed, held-opened}
+use Rattle.opening.specs.Adding.{Workable, withRows, addedFrom, held-due, held-limits, held-listed, held-opened}
 
 module _ (v n : ℕ) (ws : List ℕ) (h : Workable v n ws) where
   pub work-limits : (v ≤ mostVariables) × (n ≤ mostFeatures)
@@ -63,8 +64,8 @@ module _ (v n : ℕ) (ws : List ℕ) (h : Workable v n ws) where
       step-place = rw parts
 
       pub step-rows : (left : List ℕ) → left ≡ slotted v n ws (insertAll n (heldSlots v n ws) (rowsOf (sizeWords v ws) (has (pairWords v n ws)) (entriesIn variables befores afters)))
-          → left ≡ withRead v n (operatorOf (sizeWords v ws) bytes at) ws
-      unfolding withRows
+          → left ≡ addedFrom v n 1 bytes at ws
+      unfolding withRows walked
       step-rows left q = rw parts q
 
     module _ (reason : Reason) (place : ℕ) (went : r .step ≡ Fault reason place) where
@@ -74,5 +75,5 @@ module _ (v n : ℕ) (ws : List ℕ) (h : Workable v n ws) where
       pub fault-place : Fault reason place ≡ placeOf (operatorOf (sizeWords v ws) bytes at)
       fault-place = sym (place-fault (operatorOf (sizeWords v ws) bytes at) reason place unread)
 
-      pub fault-rows : ws ≡ withRead v n (operatorOf (sizeWords v ws) bytes at) ws
-      fault-rows = rw unread
+      pub fault-rows : ws ≡ addedFrom v n 1 bytes at ws
+      fault-rows = sym (walk-unread (withRows v n) (sizeWords v ws) bytes 1 0 at ws (reasonOf reason) place unread)

@@ -10,7 +10,7 @@ ghost use Rattle.meaning.specs.Answer.{Opens};
 ghost use Rattle.number.specs.Answers.{placeOf};
 ghost use Rattle.condition.specs.Slotted.{sizeWords};
 ghost use Rattle.opening.specs.Answer.{openedOf};
-ghost use Rattle.opening.specs.Adding.{Workable, withRead, addedFrom};
+ghost use Rattle.opening.specs.Adding.{Workable, addedFrom};
 use limits::HEADER_WORDS;
 use limits::SIZES_AT;
 use number::Reason;
@@ -46,7 +46,7 @@ fn begin(room: &mut [u64], header: &[u64], due: usize)
 fn add_operator(bytes: &[u8], at: usize, room: &mut [u64], v: usize, n: usize) -> Step
     requires { ⌜ Workable v n (now room) ⌝ }
     ensures place { λ r. ⌜ r ≡ placeOf (operatorOf (sizeWords v (now (room .entry))) (now (bytes .entry)) at) ⌝ }
-    ensures rows { λ r. ⌜ now (room .exit) ≡ withRead v n (operatorOf (sizeWords v (now (room .entry))) (now (bytes .entry)) at) (now (room .entry)) ⌝ }
+    ensures rows { λ r. ⌜ now (room .exit) ≡ addedFrom v n 1 (now (bytes .entry)) at (now (room .entry)) ⌝ }
 {
     let end = task::start_at(v);
     let read = operator::read_operator(bytes, at, &room[SIZES_AT..end]);

@@ -5,7 +5,8 @@ use native.Mathlib.Omega.{arith}
 use native.Mathlib.Nat.{sub-zero}
 use lib.ListN.{length}
 use borrow.Author.Needs.{needs}
-use Rattle.opening.specs.Adding.{Workable, addedFrom, added-more, added-unread, added-end, read-workable}
+use Rattle.operator.specs.Fold.{walk-end, turn-unread}
+use Rattle.opening.specs.Adding.{Workable, addedFrom, added-workable, added-more}
 use Rattle.opening.proofs.add_operators.Statement.{statement}
 use Rattle.opening.proofs.add_operators.Tie as tie
 
@@ -33,7 +34,7 @@ same-length c = omega (arith, c .before .before .before .before .before .before 
 
 returns : tie.Need-returns Inv-loop μ-loop
 returns c = let loop = c .before .before .before .before .before .before .before .loop in let told = c .before .before .before .before .add-operator .ensures in
-    sym (loop .inv .3 ∙ added-unread _ _ _ _ _ _ _ (c .before .before .before .before .before .before .loop-test .taken) _ _ (told .0) (told .1) _ _ (c .enum-told .given .1))
+    sym (loop .inv .3 ∙ turn-unread _ _ _ _ _ _ _ _ _ (c .before .before .before .before .before .before .loop-test .taken) (told .0) (told .1) _ _ (c .enum-told .given .1))
 
 add-k : tie.Need-add-k Inv-loop μ-loop
 add-k c = omega arith
@@ -44,16 +45,16 @@ loop-less c = omega arith
 loop-again : tie.Need-loop-again Inv-loop μ-loop
 loop-again c = let loop = c .before .before .before .before .before .before .before .before .loop in let more = c .before .before .before .before .before .before .before .loop-test .taken in let told = c .before .before .before .before .before .add-operator .ensures in (
   omega arith,
-  read-workable _ _ _ _ _ _ _ more _ _ (told .0) (told .1) (loop .inv .1),
+  added-workable _ _ _ _ _ _ _ (loop .inv .1) _ _ more (told .0) (told .1),
   omega (arith, loop .inv .2),
-  loop .inv .3 ∙ added-more _ _ _ _ _ _ _ more _ _ (told .0) (told .1) _ (c .before .after .given .1),
+  loop .inv .3 ∙ added-more _ _ _ _ _ _ _ (loop .inv .1) _ _ more (told .0) (told .1) _ (c .before .after .given .1),
 )
 
 same-length-2 : tie.Need-same-length-2 Inv-loop μ-loop
 same-length-2 c = c .before .loop .inv .2
 
 returns-2 : tie.Need-returns-2 Inv-loop μ-loop
-returns-2 c = sym (c .before .loop .inv .3 ∙ added-end _ _ _ _ _ _ _ (c .loop-test .left))
+returns-2 c = sym (c .before .loop .inv .3 ∙ walk-end _ _ _ _ _ _ _ (c .loop-test .left))
 
 pub add-operators-spec : {M : Type 1} → statement M
 add-operators-spec =

@@ -1,16 +1,15 @@
 -- What the judge's answer and the words that it leaves say of a task file; what an answer tells, and what makes one.
-use Prim.Native.Nat.{ℕ, _-_, _≤_}
+use Prim.Native.Nat.{ℕ}
 use mathlib.Core.Path.{_≡_, refl, sym, ap, _∙_}
 use mathlib.Core.List.{List, []}
 use native.Mathlib.Omega.{arith}
-use lib.ListN.{length, take, drop}
-use Rattle.meaning.specs.Limits.{mostVariables, mostFeatures}
+use lib.ListN.{length, take}
 use Rattle.meaning.specs.Sets.{listed}
 use Rattle.meaning.specs.Task.{Operator, Task, State}
 use Rattle.meaning.specs.Feature.{features}
 use Rattle.meaning.specs.Number.{Read, got, fault}
 use Rattle.meaning.specs.File.{operatorsOf, judgedFrom, judgedTask, Writable}
-use Rattle.meaning.specs.Workspace.{sizesAt, startAt, goalAt, pairsAt, slotsAt, has}
+use Rattle.meaning.specs.Workspace.{slotsAt, has}
 use Rattle.theory.specs.Parts.{operators-said}
 use Rattle.theory.specs.Accepted.{accepted}
 use Rattle.number.specs.Answers.{reasonOf, declaredOf, declared-reason, placeOf, place-next, place-faulted}
@@ -18,6 +17,8 @@ use Rattle.number.specs.declared.Reason.{Reason}
 use Rattle.number.specs.declared.Step.{Step}
 use Rattle.number.specs.declared.Step.the-variants as step
 use Rattle.number.specs.declared.Step.the-variants.{Next}
+use Rattle.layout.specs.Parts as layout
+use Rattle.layout.specs.Parts.{sizesPart, startPart, goalPart, pairsPart}
 use Rattle.reader.specs.declared.Header.{Header}
 use Rattle.reader.specs.declared.Header.the-variants.{Got, Fault}
 use Rattle.reader.specs.Answer.{begun}
@@ -25,8 +26,7 @@ use Rattle.reader.specs.Front.{Front, frontOf, frontWords, HeaderInto, taskWith
 use Rattle.pairs.specs.Ready.{Listed}
 use Rattle.task.specs.declared.Judged.{Judged}
 use Rattle.task.specs.declared.Judged.the-variants.{Accepted, Refused}
-use Rattle.task.specs.Header.{headerWords, pairWords, Headed, front-header, front-headed, header-listed, header-has, header-front, header-room}
-use Rattle.task.specs.Header.{sizes-part, start-part, goal-part, pairs-part}
+use Rattle.task.specs.Header.{headerWords, Headed, front-header, front-headed, header-front, header-room, header-parts, header-ready, header-has}
 use Rattle.task.specs.Rest.{restOf, behind, front-unread, judged-behind, rest-operators}
 
 -- An accepted task: the answer has its counts and the place after its front, where its operators are read, and the words left begin with its header.
@@ -59,25 +59,20 @@ module _ {bytes words left : List ℕ} {v n count at : ℕ} (known : Known bytes
   pub known-headed : Headed (known .task)
   known-headed = let a = known .writable .acceptable in record { limits = a .limits; start = a .start; goal = a .goal; pairs = a .pairs }
 
-  pub known-limits : (v ≤ mostVariables) × (n ≤ mostFeatures)
-  known-limits = let limits = known-headed .limits in (omega (arith, known .variables, limits .variables), omega (arith, known .total, limits .total))
-
-  -- The front of the words that are left is the header, and they are as long.
+  -- The front of the words that are left is the header, and all before the slots is there.
   pub known-header : take (slotsAt v n) left ≡ headerWords (known .task)
   known-header = header-front (known .task) known-headed words left (known .header) v n (known .variables) (known .total)
 
-  pub known-room : slotsAt v n ≤ length left
+  pub known-room : layout.Headed v n left
   known-room = header-room (known .task) known-headed words left (known .header) v n (known .variables) (known .total)
 
   -- The parts of the words that are left, as they are lent: sizes, start, goal and pairs.
-  pub known-parts : (take (startAt v - sizesAt) (drop sizesAt left) ≡ known .task .sizes) × (take (goalAt v - startAt v) (drop (startAt v) left) ≡ known .task .start)
-      × (take (pairsAt v - goalAt v) (drop (goalAt v) left) ≡ known .task .goal) × (take (slotsAt v n - pairsAt v) (drop (pairsAt v) left) ≡ pairWords (known .task))
-  known-parts = (
-    sizes-part (known .task) known-headed words left (known .header) v n (known .variables) (known .total),
-    start-part (known .task) known-headed words left (known .header) v n (known .variables) (known .total),
-    goal-part (known .task) known-headed words left (known .header) v n (known .variables) (known .total),
-    pairs-part (known .task) known-headed words left (known .header) v n (known .variables) (known .total),
-  )
+  pub known-parts : (sizesPart v left ≡ known .task .sizes) × (startPart v left ≡ known .task .start) × (goalPart v left ≡ known .task .goal) × (has (pairsPart v n left) ≡ listed (known .task .pairs))
+  known-parts = let (sizes, start, goal, pairs) = header-parts (known .task) known-headed words left (known .header) v n (known .variables) (known .total) in
+      (sizes, start, goal, header-has (known .task) known-headed words left (known .header) v n (known .variables) (known .total))
+
+  pub known-ready : Listed (sizesPart v left) (pairsPart v n left) × State (sizesPart v left) (startPart v left) × State (sizesPart v left) (goalPart v left)
+  known-ready = header-ready (known .task) known-headed words left (known .header) v n (known .variables) (known .total)
 
 module _ (bytes words : List ℕ) (answer : Judged) (left : List ℕ) where
   pub judged-accepted : (v n count at : ℕ) → JudgedInto (judgedTask bytes) bytes words answer left → answer ≡ Accepted v n count at → Known bytes words left v n count at
@@ -128,13 +123,6 @@ pub record Fronted (bytes : List ℕ) (from : ℕ) (words left : List ℕ) (v n 
   pub many : count ≡ front .count
   pub words-are : left ≡ begun words (frontWords front)
 
--- Where the parts of the words begin and end.
-pub record Cuts (v n start goal pairs end : ℕ) : Type 0 where
-  pub start-is : start ≡ startAt v
-  pub goal-is : goal ≡ goalAt v
-  pub pairs-is : pairs ≡ pairsAt v
-  pub end-is : end ≡ slotsAt v n
-
 module _ (bytes : List ℕ) (from : ℕ) (words left : List ℕ) where
   pub answer-refused : (reason : Reason) (place : ℕ) → judgedFrom bytes from ≡ fault (reasonOf reason) place → JudgedInto (judgedFrom bytes from) bytes words (Refused reason place) left
   unfolding JudgedInto
@@ -176,46 +164,29 @@ module _ (bytes : List ℕ) (from : ℕ) (words left : List ℕ) where
     header-words : (operators : List Operator) → left ≡ begun words (headerWords (begins operators))
     header-words operators = known .words-are ∙ ap (begun words) (front-header (known .front) operators)
 
-    pub fronted-limits : (v ≤ mostVariables) × (n ≤ mostFeatures)
-    fronted-limits = (omega (arith, known .variables, headed [] .limits .variables), omega (arith, known .total, headed [] .limits .total))
-
-    pub fronted-room : slotsAt v n ≤ length left
+    pub fronted-room : layout.Headed v n left
     fronted-room = header-room (begins []) (headed []) words left (header-words []) v n (known .variables) (known .total)
 
-    module _ (start goal pairs end : ℕ) (cuts : Cuts v n start goal pairs end) where
-      -- Sizes, start and pairs, as the code lends them.
-      abbrev lentSizes : List ℕ
-      lentSizes = take (start - sizesAt) (drop sizesAt left)
+    -- Its sizes, start and pairs, as they are lent.
+    module _ (sizes start pairs : List ℕ) (sizes-are : sizes ≡ sizesPart v left) (start-is : start ≡ startPart v left) (pairs-are : pairs ≡ pairsPart v n left) where
+      pub lent-ready : Listed sizes pairs × State sizes start
+      lent-ready = let ready = header-ready (begins []) (headed []) words left (header-words []) v n (known .variables) (known .total) in
+          rw (sizes-are, start-is, pairs-are) (ready .0, ready .1)
 
-      abbrev lentStart : List ℕ
-      lentStart = take (goal - start) (drop start left)
+      lent-behind : restOf sizes (has pairs) start count bytes at ≡ behind bytes (known .front) at
+      lent-behind = let parts = header-parts (begins []) (headed []) words left (header-words []) v n (known .variables) (known .total) in
+          rw (sizes-are ∙ parts .0, start-is ∙ parts .1, ap has pairs-are ∙ header-has (begins []) (headed []) words left (header-words []) v n (known .variables) (known .total), known .many)
 
-      abbrev lentPairs : List ℕ
-      lentPairs = take (end - pairs) (drop pairs left)
-
-      lent : (lentSizes ≡ known .front .states .sizes) × (lentStart ≡ known .front .states .start) × (lentPairs ≡ pairWords (begins []))
-      lent = rw (cuts .start-is, cuts .goal-is, cuts .pairs-is, cuts .end-is) (
-        sizes-part (begins []) (headed []) words left (header-words []) v n (known .variables) (known .total),
-        start-part (begins []) (headed []) words left (header-words []) v n (known .variables) (known .total),
-        pairs-part (begins []) (headed []) words left (header-words []) v n (known .variables) (known .total),
-      )
-
-      pub lent-ready : Listed lentSizes lentPairs × State lentSizes lentStart
-      lent-ready = rw (lent .0, lent .1, lent .2) (header-listed (begins []) (headed []), headed [] .start)
-
-      lent-behind : restOf lentSizes (has lentPairs) lentStart count bytes at ≡ behind bytes (known .front) at
-      lent-behind = rw (lent .0, lent .1, lent .2, header-has (begins []) (headed []), known .many)
-
-      module _ (answer : Step) (told : answer ≡ placeOf (restOf lentSizes (has lentPairs) lentStart count bytes at)) where
+      module _ (answer : Step) (told : answer ≡ placeOf (restOf sizes (has pairs) start count bytes at)) where
         pub rest-refused : (reason : Reason) (place : ℕ) → answer ≡ step.Fault reason place → JudgedInto (judgedFrom bytes from) bytes words (Refused reason place) left
         rest-refused reason place e =
             let found : behind bytes (known .front) at ≡ fault (reasonOf reason) place
-            = sym lent-behind ∙ place-faulted (restOf lentSizes (has lentPairs) lentStart count bytes at) reason place (sym told ∙ e) in
+            = sym lent-behind ∙ place-faulted (restOf sizes (has pairs) start count bytes at) reason place (sym told ∙ e) in
             answer-refused reason place (judged-behind bytes (known .front) from at (known .read) ∙ rw found)
 
         pub rest-accepted : (next : ℕ) → answer ≡ Next next → JudgedInto (judgedFrom bytes from) bytes words (Accepted v n count at) left
         unfolding JudgedInto
-        rest-accepted next e = let (operators, read) = place-next (restOf lentSizes (has lentPairs) lentStart count bytes at) next (sym told ∙ e) in passed operators (sym lent-behind ∙ read)
+        rest-accepted next e = let (operators, read) = place-next (restOf sizes (has pairs) start count bytes at) next (sym told ∙ e) in passed operators (sym lent-behind ∙ read)
           where
             made : (operators : List Operator) → operatorsOf (known .front .states .sizes) (known .front .count) bytes at ≡ got operators next → length operators ≡ known .front .count
                 → AcceptedInto bytes words (begins operators) next (Accepted v n count at) left

@@ -1,6 +1,6 @@
 -- The header of a task in words: where each part is read back, and what is known of a front that was read.
-use Prim.Native.Nat.{ℕ, _+_, _-_, _≤_}
-use mathlib.Core.Path.{_≡_, refl, ap, _∙_, fun-ext}
+use Prim.Native.Nat.{ℕ, _≤_}
+use mathlib.Core.Path.{_≡_, refl, sym, ap, _∙_, fun-ext}
 use mathlib.Core.Bool.{false}
 use mathlib.Core.List.{List, [], _∷_, _++_, append-assoc}
 use native.Mathlib.Omega.{arith}
@@ -11,7 +11,7 @@ use Rattle.meaning.specs.Task.{Operator, Task, State, Run}
 use Rattle.meaning.specs.Feature.{atoms, features}
 use Rattle.meaning.specs.Number.{got}
 use Rattle.meaning.specs.File.{InLimits}
-use Rattle.meaning.specs.Workspace.{sizesAt, startAt, goalAt, pairsAt, slotsAt, has, packed, wordsOf, contentOf}
+use Rattle.meaning.specs.Workspace.{wordsFor, sizesAt, startAt, goalAt, pairsAt, slotsAt, has, packed, wordsOf, contentOf}
 use Rattle.theory.specs.Search.{listed-in}
 use Rattle.theory.specs.Numbering.{atoms-room}
 use Rattle.theory.specs.Run.{run-in}
@@ -19,6 +19,8 @@ use Rattle.theory.specs.Truth.{on, off, test}
 use Rattle.theory.specs.Words.{length-packed, packed-holds}
 use Rattle.theory.specs.Spent.{Gives, gives-then, gives-map}
 use Rattle.theory.specs.Parts.{header-said, values-said, feature-list-said, number-said}
+use Rattle.layout.specs.Parts as layout
+use Rattle.layout.specs.Parts.{sizesPart, startPart, goalPart, pairsPart}
 use Rattle.reader.specs.Answer.{begun, featureWords}
 use Rattle.reader.specs.Front.{Front, statesOf, frontOf, stateWords, frontWords, taskWith}
 use Rattle.reader.specs.States.{statesWith}
@@ -37,9 +39,9 @@ pub header-content : (T : Task) (slots : Slots) → let n = features (T .sizes) 
 unfolding wordsOf headerWords
 header-content T slots = simp append-assoc
 
--- A part of a list, from place a on and before place b.
-part-at : (left front part rest : List ℕ) (a b : ℕ) → left ≡ front ++ (part ++ rest) → length front ≡ a → a + length part ≡ b → take (b - a) (drop a left) ≡ part
-part-at left front part rest a b e h k = rw (e, drop-at front (part ++ rest) a h) (take-at part rest (b - a) (omega arith))
+-- So many elements of a list from place a on.
+part-at : (left front part rest : List ℕ) (a k : ℕ) → left ≡ front ++ (part ++ rest) → length front ≡ a → length part ≡ k → take k (drop a left) ≡ part
+part-at left front part rest a k e h l = rw (e, drop-at front (part ++ rest) a h) (take-at part rest k l)
 
 -- What is known of the header of a task that is read, before its operators are.
 pub record Headed (T : Task) : Type 0 where
@@ -49,15 +51,15 @@ pub record Headed (T : Task) : Type 0 where
   pub pairs : Run (atoms (T .sizes)) (T .pairs) (features (T .sizes))
 
 -- The words of its pairs.
-abbrev pub pairWords : Task → List ℕ
+abbrev pairWords : Task → List ℕ
 pairWords T = featureWords (features (T .sizes)) (T .pairs)
 
 module _ (T : Task) (known : Headed T) where
-  pub header-listed : Listed (T .sizes) (pairWords T)
+  header-listed : Listed (T .sizes) (pairWords T)
   header-listed = record { limits = known .limits; due = length-packed (features (T .sizes)) (listed (T .pairs)) }
 
-  pub header-has : has (pairWords T) ≡ listed (T .pairs)
-  header-has = fun-ext (λ f. packed-holds (features (T .sizes)) (listed (T .pairs)) f (past f))
+  pairs-has : has (pairWords T) ≡ listed (T .pairs)
+  pairs-has = fun-ext (λ f. packed-holds (features (T .sizes)) (listed (T .pairs)) f (past f))
     where
       past : (f : ℕ) → features (T .sizes) ≤ f → listed (T .pairs) f ≡ false
       past f l = elim (test (listed (T .pairs) f)) [ on e ↦ absurd (omega (arith, run-in (atoms (T .sizes)) (features (T .sizes)) (T .pairs) f (known .pairs) (listed-in (T .pairs) f e))) | off e ↦ e ]
@@ -72,32 +74,37 @@ module _ (T : Task) (known : Headed T) where
     abbrev further : List ℕ
     further = drop (length (headerWords T)) words
 
-    -- The front of the words, and that they are as long.
+    -- The front of the words, and that all before the slots is there.
     pub header-front : take (slotsAt v n) left ≡ headerWords T
     header-front = rw (e, many, total) (take-at (headerWords T) further (slotsAt (length (T .sizes)) (features (T .sizes))) header-length)
 
-    pub header-room : slotsAt v n ≤ length left
-    header-room = omega (arith, many, total, header-length, ap length e, length-append (headerWords T) further)
+    pub header-room : layout.Headed v n left
+    header-room = (
+      omega (arith, many, known .limits .variables),
+      omega (arith, total, known .limits .total),
+      omega (arith, many, total, header-length, ap length e, length-append (headerWords T) further),
+    )
 
-    pub sizes-part : take (startAt v - sizesAt) (drop sizesAt left) ≡ T .sizes
+    -- Sizes, start, goal and pairs.
+    pub header-parts : (sizesPart v left ≡ T .sizes) × (startPart v left ≡ T .start) × (goalPart v left ≡ T .goal) × (pairsPart v n left ≡ pairWords T)
     unfolding headerWords
-    sizes-part = part-at left (length (T .sizes) ∷ []) (T .sizes) ((T .start ++ (T .goal ++ pairWords T)) ++ further) sizesAt (startAt v) (e ∙ simp append-assoc) refl (omega arith)
+    header-parts = (
+      part-at left (length (T .sizes) ∷ []) (T .sizes) ((T .start ++ (T .goal ++ pairWords T)) ++ further) sizesAt v (e ∙ simp append-assoc) refl (sym many),
+      part-at left (length (T .sizes) ∷ T .sizes) (T .start) ((T .goal ++ pairWords T) ++ further) (startAt v) v (e ∙ simp append-assoc) (omega arith)
+          (omega (arith, known .start .full)),
+      part-at left (length (T .sizes) ∷ (T .sizes ++ T .start)) (T .goal) (pairWords T ++ further) (goalAt v) v (e ∙ simp append-assoc)
+          (omega (arith, known .start .full, length-append (T .sizes) (T .start))) (omega (arith, known .goal .full)),
+      part-at left (length (T .sizes) ∷ (T .sizes ++ (T .start ++ T .goal))) (pairWords T) further (pairsAt v) (wordsFor n) (e ∙ simp append-assoc)
+          (omega (arith, known .start .full, known .goal .full, length-append (T .sizes) (T .start ++ T .goal), length-append (T .start) (T .goal)))
+          (length-packed (features (T .sizes)) (listed (T .pairs)) ∙ ap wordsFor (sym total)),
+    )
 
-    pub start-part : take (goalAt v - startAt v) (drop (startAt v) left) ≡ T .start
-    unfolding headerWords
-    start-part = part-at left (length (T .sizes) ∷ T .sizes) (T .start) ((T .goal ++ pairWords T) ++ further) (startAt v) (goalAt v) (e ∙ simp append-assoc) (omega arith)
-        (omega (arith, known .start .full))
+    -- What is known of the parts as they are lent.
+    pub header-ready : Listed (sizesPart v left) (pairsPart v n left) × State (sizesPart v left) (startPart v left) × State (sizesPart v left) (goalPart v left)
+    header-ready = rw (header-parts .0, header-parts .1, header-parts .2, header-parts .3) (header-listed, known .start, known .goal)
 
-    pub goal-part : take (pairsAt v - goalAt v) (drop (goalAt v) left) ≡ T .goal
-    unfolding headerWords
-    goal-part = part-at left (length (T .sizes) ∷ (T .sizes ++ T .start)) (T .goal) (pairWords T ++ further) (goalAt v) (pairsAt v) (e ∙ simp append-assoc)
-        (omega (arith, known .start .full, length-append (T .sizes) (T .start))) (omega (arith, known .goal .full))
-
-    pub pairs-part : take (slotsAt v n - pairsAt v) (drop (pairsAt v) left) ≡ pairWords T
-    unfolding headerWords
-    pairs-part = part-at left (length (T .sizes) ∷ (T .sizes ++ (T .start ++ T .goal))) (pairWords T) further (pairsAt v) (slotsAt v n) (e ∙ simp append-assoc)
-        (omega (arith, known .start .full, known .goal .full, length-append (T .sizes) (T .start ++ T .goal), length-append (T .start) (T .goal)))
-        (omega (arith, length-packed (features (T .sizes)) (listed (T .pairs))))
+    pub header-has : has (pairsPart v n left) ≡ listed (T .pairs)
+    header-has = ap has (header-parts .3) ∙ pairs-has
 
 -- ---- a front that was read
 

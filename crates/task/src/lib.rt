@@ -5,18 +5,16 @@ ghost use lib.ListN.{length, replicate};
 ghost use Rattle.meaning.specs.Limits.{mostVariables, mostFeatures};
 ghost use Rattle.meaning.specs.Task.{State};
 ghost use Rattle.meaning.specs.File.{operatorsOf, judgedTask};
-ghost use Rattle.meaning.specs.Workspace.{startAt, goalAt, pairsAt, slotsAt, has};
+ghost use Rattle.meaning.specs.Workspace.{slotsAt, has};
 ghost use Rattle.number.specs.Answers.{placeOf};
 ghost use Rattle.pairs.specs.Ready.{Listed};
 ghost use Rattle.task.specs.Walk.{closedFrom};
 ghost use Rattle.task.specs.Rest.{restOf};
 ghost use Rattle.task.specs.Answer.{JudgedInto};
 use limits::MOST_WORDS;
-use limits::SIZES_AT;
 use number::Reason;
 use number::Step;
 use reader::Header;
-use words::WORD_BITS;
 
 // What a task file is judged to be: accepted, with how many variables, features and operators it has and the place of the first operator; or the
 // first fault.
@@ -123,38 +121,6 @@ fn judge_rest(
     }
 }
 
-// Where the start values begin.
-pub fn start_at(v: usize) -> usize
-    requires { ⌜ v ≤ mostVariables ⌝ }
-    ensures { λ r. ⌜ r ≡ startAt v ⌝ }
-{
-    SIZES_AT + v
-}
-
-// Where the goal values begin.
-pub fn goal_at(v: usize) -> usize
-    requires { ⌜ v ≤ mostVariables ⌝ }
-    ensures { λ r. ⌜ r ≡ goalAt v ⌝ }
-{
-    SIZES_AT + v + v
-}
-
-// Where the listed pairs begin.
-pub fn pairs_at(v: usize) -> usize
-    requires { ⌜ v ≤ mostVariables ⌝ }
-    ensures { λ r. ⌜ r ≡ pairsAt v ⌝ }
-{
-    SIZES_AT + v + v + v
-}
-
-// Where the slots of a task with n features begin.
-pub fn slots_at(v: usize, n: usize) -> usize
-    requires { ⌜ (v ≤ mostVariables) × (n ≤ mostFeatures) ⌝ }
-    ensures { λ r. ⌜ r ≡ slotsAt v n ⌝ }
-{
-    pairs_at(v) + (n + (WORD_BITS - 1)) / WORD_BITS
-}
-
 // Judges a task file, and leaves the header of an accepted one in words that are all 0.
 pub fn judge(bytes: &[u8], header: &mut [u64]) -> Judged
     requires { ⌜ (slotsAt mostVariables mostFeatures ≤ length (now header)) × (now header ≡ replicate (length (now header)) 0) ⌝ }
@@ -167,18 +133,14 @@ pub fn judge(bytes: &[u8], header: &mut [u64]) -> Judged
             operators,
             next,
         } => {
-            let start = start_at(variables);
-            let goal = goal_at(variables);
-            let pairs = pairs_at(variables);
-            let end = slots_at(variables, features);
             let words = &header[..];
             match judge_rest(
                 bytes,
                 next,
                 operators,
-                &words[SIZES_AT..start],
-                &words[start..goal],
-                &words[pairs..end],
+                layout::sizes(words, variables),
+                layout::start(words, variables, features),
+                layout::pairs(words, variables, features),
             ) {
                 Step::Next(_) => Judged::Accepted {
                     variables: variables,

@@ -6,7 +6,8 @@ use lib.ListN.{length}
 use Rattle.meaning.specs.Workspace.{wordsDue, Proper, WellFormed}
 use Rattle.theory.specs.Determined.{AtMostOne}
 use Rattle.theory.specs.Contents.{contentIn, variablesIn, featuresIn, formed-proper}
-use Rattle.formed.specs.Parts.{Cut, Sized, sizesPart, startPart, goalPart, pairsPart, slotsPart, contentParts, sized-length, sized-content, sized-cut, sized-due, formed-sized}
+use Rattle.layout.specs.Parts.{sizesPart, startPart, goalPart, pairsPart, slotsPart, Due}
+use Rattle.formed.specs.Parts.{Cut, Sized, contentParts, sized-length, sized-content, sized-cut, sized-due, formed-sized}
 use Rattle.formed.specs.declared.Formed.{Formed}
 use Rattle.formed.specs.declared.Formed.the-variants.{Yes, No}
 
@@ -50,12 +51,12 @@ module _ (ws : List ℕ) (v n : ℕ) (yes : FormedIs ws (Yes v n)) where
   yes-sized = let s = formed-sized ws yes-formed in
       record { count = yes .1 ∙ sized-length ws _ _ s; room = rw (yes .1, sized-length ws _ _ s) (s .room); limits = s .limits; total = yes .2 }
 
-  pub yes-due : wordsDue v n ≤ length ws
+  pub yes-due : Due v n ws
   yes-due = sized-due ws v n yes-sized yes-formed
 
   -- The lengths of the parts, and the limits.
   pub yes-cut : Cut (sizesPart v ws) (startPart v ws) (goalPart v ws) (pairsPart v n ws) (slotsPart v n ws) n
-  yes-cut = sized-cut ws v n yes-sized yes-due
+  yes-cut = sized-cut ws v n yes-sized (yes-due .words)
 
   -- The parts make the content.
   pub yes-content : contentParts v n ws ≡ contentIn ws

@@ -1,15 +1,14 @@
 -- The parts of a workspace, and the content that they make.
-use Prim.Native.Nat.{ℕ, zero, suc, _+_, _-_, _*_, _<_, _≤_}
+use Prim.Native.Nat.{ℕ, zero, suc, _+_, _*_, _<_, _≤_}
 use mathlib.Core.Path.{_≡_, refl, ap, sym, _∙_, fun-ext, subst}
 use mathlib.Core.Bool.{Bool, false, _&&_}
 use mathlib.Core.List.{List, [], _∷_}
 use native.Mathlib.Omega.{arith}
-use native.Mathlib.Nat.{mul-le-mul}
 use lib.Dec.{ltb}
-use lib.ListN.{length, getD, take, drop, length-drop}
-use lib.Seq.{take-take, length-take-le, drop-drop}
+use lib.ListN.{length, getD, take, drop}
+use lib.Seq.{take-take, drop-drop}
 use borrow.Author.Tests.{ltb-true}
-use Rattle.meaning.specs.Limits.{leastVariables, mostVariables, mostFeatures, wordBits}
+use Rattle.meaning.specs.Limits.{leastVariables, mostVariables, mostFeatures}
 use Rattle.meaning.specs.Task.{State}
 use Rattle.meaning.specs.Feature.{atoms, features}
 use Rattle.meaning.specs.Pair.{holds}
@@ -21,6 +20,7 @@ use Rattle.theory.specs.Tells.{Tells, tells-map}
 use Rattle.theory.specs.Words.{Words}
 use Rattle.theory.specs.Numbering.{atoms-room}
 use Rattle.theory.specs.Contents.{sizesIn, contentBy, contentIn, formed-by, formed-proper, formed-due}
+use Rattle.layout.specs.Parts.{sizesPart, startPart, goalPart, pairsPart, slotsPart, Due, length-part}
 use Rattle.numbering.specs.Sizes.{SmallSizes, limits-small}
 use Rattle.pairs.specs.Ready.{Listed}
 use Rattle.slots.specs.Area.{slotAt, slotsIn, slot-in}
@@ -70,10 +70,6 @@ module _ {sizes start goal pairs area : List ℕ} {n : ℕ} (cut : Cut sizes sta
 -- ---- parts of lists
 
 module _ {A : Type 0} where
-  -- The part of a list that is lent from one place to another.
-  pub lent : (from n : ℕ) (l : List A) → take (from + n - from) (drop from l) ≡ take n (drop from l)
-  lent from n l = let e : from + n - from ≡ n = omega arith in rw e
-
   part-inside : (k n m : ℕ) (l : List A) → k + n ≤ m → take n (drop k (take m l)) ≡ take n (drop k l)
   part-inside zero n m l h = take-take n m l (omega arith)
   part-inside (suc k) n zero l h = absurd (omega arith)
@@ -94,21 +90,6 @@ slots-area n at ws = fun-ext (λ i. fun-ext (each i))
 
 -- ---- the parts of a workspace with v variables and n features
 
-abbrev pub sizesPart : ℕ → List ℕ → List ℕ
-sizesPart v ws = take v (drop sizesAt ws)
-
-abbrev pub startPart : ℕ → List ℕ → List ℕ
-startPart v ws = take v (drop (startAt v) ws)
-
-abbrev pub goalPart : ℕ → List ℕ → List ℕ
-goalPart v ws = take v (drop (goalAt v) ws)
-
-abbrev pub pairsPart : ℕ → ℕ → List ℕ → List ℕ
-pairsPart v n ws = take (wordsFor n) (drop (pairsAt v) ws)
-
-abbrev pub slotsPart : ℕ → ℕ → List ℕ → List ℕ
-slotsPart v n ws = take (n * wordsFor n) (drop (slotsAt v n) ws)
-
 -- The content that its parts make.
 abbrev pub contentParts : ℕ → ℕ → List ℕ → Content
 contentParts v n ws = contentFrom (sizesPart v ws) (startPart v ws) (goalPart v ws) (pairsPart v n ws) (slotsPart v n ws)
@@ -116,10 +97,6 @@ contentParts v n ws = contentFrom (sizesPart v ws) (startPart v ws) (goalPart v 
 content-by : (sizes ws : List ℕ) (v n : ℕ) → v ≡ length sizes → n ≡ features sizes
     → contentFrom sizes (startPart v ws) (goalPart v ws) (pairsPart v n ws) (slotsPart v n ws) ≡ contentBy sizes ws
 content-by sizes ws v n e q = rw (e, q, slots-area (features sizes) (slotsAt (length sizes) (features sizes)) ws)
-
--- The words of a part, where all that are due are there.
-pub length-part : (from n : ℕ) (ws : List ℕ) → from + n ≤ length ws → length (take n (drop from ws)) ≡ n
-length-part from n ws h = length-take-le n (drop from ws) (rw (length-drop from ws) (omega arith))
 
 module _ (ws : List ℕ) (v n : ℕ) (s : Sized ws v n) where
   pub sized-sizes : sizesPart v ws ≡ sizesIn ws
@@ -147,33 +124,15 @@ module _ (ws : List ℕ) (v n : ℕ) (s : Sized ws v n) where
       size : length (sizesPart v ws) ≡ v
       size = length-part sizesAt v ws (s .room)
 
-  -- All numbers of words are small.
-  pub sized-small : (v ≤ mostVariables) × (n ≤ mostFeatures) × (n * wordsFor n ≤ mostFeatures * wordBits)
-  sized-small = (omega (arith, s .limits .variables, sized-length), few, mul-le-mul few words)
-    where
-      few : n ≤ mostFeatures
-      few = rw (s .total) (s .limits .total)
+  pub sized-few : (v ≤ mostVariables) × (n ≤ mostFeatures)
+  sized-few = (omega (arith, s .limits .variables, sized-length), rw (s .total) (s .limits .total))
 
-      words : wordsFor n ≤ wordBits
-      words = omega (arith, few)
-
-  pub sized-due : WellFormed ws → wordsDue v n ≤ length ws
-  sized-due f = rw (s .count, s .total) (formed-due ws f)
+  pub sized-due : WellFormed ws → Due v n ws
+  sized-due f = record { variables = sized-few .0; features = sized-few .1; words = rw (s .count, s .total) (formed-due ws f) }
 
   -- What tells whether the parts are proper tells whether the workspace is well formed.
   pub sized-formed : {b : Bool} → wordsDue v n ≤ length ws → Words ws → Tells b (Proper (contentParts v n ws)) → Tells b (WellFormed ws)
   sized-formed due w = tells-map (λ p. formed-by ws (rw (← (s .count), ← (s .total)) due) w (subst Proper sized-content p)) (λ f. subst Proper (sym sized-content) (formed-proper ws f))
-
--- The parts as they are lent, from one place to the next.
-module _ (ws : List ℕ) (v n : ℕ) where
-  pub lent-content : contentFrom (take (startAt v - sizesAt) (drop sizesAt ws)) (take (goalAt v - startAt v) (drop (startAt v) ws)) (take (pairsAt v - goalAt v) (drop (goalAt v) ws))
-      (take (slotsAt v n - pairsAt v) (drop (pairsAt v) ws)) (take (wordsDue v n - slotsAt v n) (drop (slotsAt v n) ws)) ≡ contentParts v n ws
-  lent-content = rw (lent sizesAt v ws, lent (startAt v) v ws, lent (goalAt v) v ws, lent (pairsAt v) (wordsFor n) ws, lent (slotsAt v n) (n * wordsFor n) ws)
-
-  pub lent-cut : Sized ws v n → wordsDue v n ≤ length ws
-      → Cut (take (startAt v - sizesAt) (drop sizesAt ws)) (take (goalAt v - startAt v) (drop (startAt v) ws)) (take (pairsAt v - goalAt v) (drop (goalAt v) ws))
-      (take (slotsAt v n - pairsAt v) (drop (pairsAt v) ws)) (take (wordsDue v n - slotsAt v n) (drop (slotsAt v n) ws)) n
-  lent-cut s due = rw (lent sizesAt v ws, lent (startAt v) v ws, lent (goalAt v) v ws, lent (pairsAt v) (wordsFor n) ws, lent (slotsAt v n) (n * wordsFor n) ws) (sized-cut ws v n s due)
 
 -- A well formed workspace begins with sizes within their limits.
 pub formed-sized : (ws : List ℕ) → WellFormed ws → Sized ws (getD ws 0 0) (features (sizesIn ws))
@@ -186,9 +145,9 @@ pub formed-count : (ws : List ℕ) → WellFormed ws → (leastVariables ≤ get
 formed-count ws f = let s = formed-sized ws f in
     (omega (arith, s .limits .variables, sized-length ws _ _ s), omega (arith, s .limits .variables, sized-length ws _ _ s), s .room)
 
-pub lent-sizes : (ws : List ℕ) → take (startAt (getD ws 0 0) - sizesAt) (drop sizesAt ws) ≡ sizesIn ws
+pub sizes-first : (ws : List ℕ) → sizesPart (getD ws 0 0) ws ≡ sizesIn ws
 unfolding sizesIn
-lent-sizes ws = lent sizesAt (getD ws 0 0) ws
+sizes-first ws = refl
 
 module _ (ws sizes : List ℕ) (q : sizes ≡ sizesIn ws) where
   pub no-sizes : (EachSize sizes (length sizes) → ⊥) → WellFormed ws → ⊥

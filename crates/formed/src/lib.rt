@@ -14,7 +14,6 @@ use limits::LEAST_VARIABLES;
 use limits::MOST_FEATURES;
 use limits::MOST_SIZE;
 use limits::MOST_VARIABLES;
-use limits::SIZES_AT;
 use words::WORD_BITS;
 
 // Whether words are a well formed workspace, and how many variables and features it has then.
@@ -99,21 +98,16 @@ fn is_formed(workspace: &[u64], v: usize, n: usize) -> bool
     requires { ⌜ Sized (now workspace) v n ⌝ }
     ensures { λ r. ⌜ Tells r (WellFormed (now (workspace .entry))) ⌝ }
 {
-    let w = (n + (WORD_BITS - 1)) / WORD_BITS;
-    let start = SIZES_AT + v;
-    let goal = start + v;
-    let pairs = goal + v;
-    let slots = pairs + w;
-    let end = slots + n * w;
-    if workspace.len() < end {
+    let at = layout::places_for(v, n);
+    if workspace.len() < at.end {
         return false;
     }
     is_proper(
-        &workspace[SIZES_AT..start],
-        &workspace[start..goal],
-        &workspace[goal..pairs],
-        &workspace[pairs..slots],
-        &workspace[slots..end],
+        layout::sizes(workspace, v),
+        layout::start(workspace, v, n),
+        layout::goal(workspace, v, n),
+        layout::pairs(workspace, v, n),
+        layout::slots(workspace, v, n),
         n,
     )
 }
@@ -132,14 +126,14 @@ pub fn well_formed(workspace: &[u64]) -> Formed
     if MOST_VARIABLES < v {
         return Formed::No;
     }
-    let start = SIZES_AT + v;
-    if workspace.len() < start {
+    if workspace.len() < layout::start_at(v) {
         return Formed::No;
     }
-    if !are_sizes(&workspace[SIZES_AT..start]) {
+    let sizes = layout::sizes(workspace, v);
+    if !are_sizes(sizes) {
         return Formed::No;
     }
-    let n = numbering::features(&workspace[SIZES_AT..start]);
+    let n = numbering::features(sizes);
     if MOST_FEATURES < n {
         return Formed::No;
     }

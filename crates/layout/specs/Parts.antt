@@ -26,12 +26,24 @@ abbrev pub slotsPart : ℕ → ℕ → List ℕ → List ℕ
 slotsPart v n ws = take (n * wordsFor n) (drop (slotsAt v n) ws)
 
 -- All words before the slots are there, and few enough to count.
-abbrev pub Headed : ℕ → ℕ → List ℕ → Type 0
-Headed v n ws = (v ≤ mostVariables) × (n ≤ mostFeatures) × (slotsAt v n ≤ length ws)
+pub record Headed (v n : ℕ) (ws : List ℕ) : Type 0 where
+  pub variables : v ≤ mostVariables
+  pub features : n ≤ mostFeatures
+  pub words : slotsAt v n ≤ length ws
 
 -- All words that are due are there, and few enough to count.
-abbrev pub Due : ℕ → ℕ → List ℕ → Type 0
-Due v n ws = (v ≤ mostVariables) × (n ≤ mostFeatures) × (wordsDue v n ≤ length ws)
+pub record Due (v n : ℕ) (ws : List ℕ) : Type 0 where
+  pub variables : v ≤ mostVariables
+  pub features : n ≤ mostFeatures
+  pub words : wordsDue v n ≤ length ws
+
+-- What is asked to lend a part.
+module _ {v n : ℕ} {ws : List ℕ} (due : Due v n ws) where
+  pub due-sizes : (v ≤ mostVariables) × (startAt v ≤ length ws)
+  due-sizes = (due .variables, omega (arith, due .words))
+
+  pub due-headed : Headed v n ws
+  due-headed = record { variables = due .variables; features = due .features; words = omega (arith, due .words) }
 
 -- The words of a part, where all that are due are there.
 pub length-part : (from n : ℕ) (ws : List ℕ) → from + n ≤ length ws → length (take n (drop from ws)) ≡ n

@@ -239,7 +239,7 @@ pub fn is_reduced(area: &[u64], n: usize) -> bool
     requires { ⌜ (length (now area) ≡ n * wordsFor n) × (n ≤ mostFeatures) ⌝ }
     ensures { λ r. ⌜ Tells r (Reduced n (slotsIn n (now (area .entry)))) ⌝ }
 {
-    let w = (n + (words::WORD_BITS - 1)) / words::WORD_BITS;
+    let w = layout::words_for(n);
     let mut full = [0u64; MOST_WORDS];
     is_reduced_by(area, n, &mut full[..w])
 }

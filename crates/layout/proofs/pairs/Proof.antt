@@ -11,7 +11,7 @@ places-for-requires : tie.Need-places-for-requires
 places-for-requires c κs = search needs
 
 between-requires : tie.Need-between-requires
-between-requires c κs = let are = places-are _ _ _ (c .places-for .ensures) in (omega (arith, are), omega (arith, c .before .before .pre, are))
+between-requires c κs = let are = places-are _ _ _ (c .places-for .ensures) in (omega (arith, are), omega (arith, c .before .before .pre .words, are))
 
 returns : tie.Need-returns
 returns c = c .between .ensures ∙ lent-pairs _ _ _ (c .before .places-for .ensures) _

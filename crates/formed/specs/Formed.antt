@@ -49,7 +49,7 @@ module _ (ws : List ℕ) (v n : ℕ) (yes : FormedIs ws (Yes v n)) where
   pub yes-sized : Sized ws v n
   unfolding FormedIs
   yes-sized = let s = formed-sized ws yes-formed in
-      record { count = yes .1 ∙ sized-length ws _ _ s; room = rw (yes .1, sized-length ws _ _ s) (s .room); limits = s .limits; total = yes .2 }
+      record { count = yes .1 ∙ sized-length ws _ _ s; room = rw (yes .1, sized-length ws _ _ s) (s .room); limits = s .limits; taken = s .taken; total = yes .2 }
 
   pub yes-due : Due v n ws
   yes-due = sized-due ws v n yes-sized yes-formed

@@ -13,7 +13,7 @@ use Rattle.meaning.specs.Task.{State}
 use Rattle.meaning.specs.Feature.{atoms, features}
 use Rattle.meaning.specs.Pair.{holds}
 use Rattle.meaning.specs.Slot.{Reduced}
-use Rattle.meaning.specs.File.{InLimits}
+use Rattle.meaning.specs.File.{InLimits, Taken}
 use Rattle.meaning.specs.Workspace.{has, wordsFor, sizesAt, startAt, goalAt, pairsAt, slotsAt, wordsDue, Content, Proper, WellFormed}
 use Rattle.theory.specs.Truth.{on, off, test}
 use Rattle.theory.specs.Tells.{Tells, tells-map}
@@ -33,6 +33,7 @@ contentFrom sizes start goal pairs area = record { sizes = sizes; start = start;
 -- Parts with the lengths that are due for sizes within their limits, of n features.
 pub record Cut (sizes start goal pairs area : List ℕ) (n : ℕ) : Type 0 where
   pub limits : InLimits sizes
+  pub taken : Taken sizes
   pub total : n ≡ features sizes
   pub starts : length start ≡ length sizes
   pub goals : length goal ≡ length sizes
@@ -44,6 +45,7 @@ pub record Sized (ws : List ℕ) (v n : ℕ) : Type 0 where
   pub count : v ≡ getD ws 0 0
   pub room : startAt v ≤ length ws
   pub limits : InLimits (sizesIn ws)
+  pub taken : Taken (sizesIn ws)
   pub total : n ≡ features (sizesIn ws)
 
 -- ---- parts that are cut
@@ -65,7 +67,7 @@ module _ {sizes start goal pairs area : List ℕ} {n : ℕ} (cut : Cut sizes sta
   -- Where all else is proper, what tells the shape of the slots tells that the content is proper.
   pub cut-proper : {b : Bool} → State sizes start → State sizes goal → Within (has pairs) (atoms sizes) (features sizes) → holds sizes (has pairs) start ≡ false
       → Tells b (Reduced n (slotsIn n area)) → Tells b (Proper (contentFrom sizes start goal pairs area))
-  cut-proper s g w h t = tells-map (λ R. record { limits = cut .limits; start = s; goal = g; pairs = w; free = h; slots = R }) (λ p. p .slots) (rw (cut .total) at t)
+  cut-proper s g w h t = tells-map (λ R. record { limits = cut .limits; taken = cut .taken; start = s; goal = g; pairs = w; free = h; slots = R }) (λ p. p .slots) (rw (cut .total) at t)
 
 -- ---- parts of lists
 
@@ -114,6 +116,7 @@ module _ (ws : List ℕ) (v n : ℕ) (s : Sized ws v n) where
   pub sized-cut : wordsDue v n ≤ length ws → Cut (sizesPart v ws) (startPart v ws) (goalPart v ws) (pairsPart v n ws) (slotsPart v n ws) n
   sized-cut due = record {
     limits = rw sized-sizes (s .limits);
+    taken = rw sized-sizes (s .taken);
     total = rw sized-sizes (s .total);
     starts = length-part (startAt v) v ws (omega arith) ∙ sym size;
     goals = length-part (goalAt v) v ws (omega arith) ∙ sym size;
@@ -136,7 +139,7 @@ module _ (ws : List ℕ) (v n : ℕ) (s : Sized ws v n) where
 
 -- A well formed workspace begins with sizes within their limits.
 pub formed-sized : (ws : List ℕ) → WellFormed ws → Sized ws (getD ws 0 0) (features (sizesIn ws))
-formed-sized ws f = record { count = refl; room = omega (arith, formed-due ws f); limits = formed-proper ws f .limits; total = refl }
+formed-sized ws f = record { count = refl; room = omega (arith, formed-due ws f); limits = formed-proper ws f .limits; taken = formed-proper ws f .taken; total = refl }
 
 -- ---- the sizes that words begin with
 
@@ -151,7 +154,7 @@ sizes-first ws = refl
 
 module _ (ws sizes : List ℕ) (q : sizes ≡ sizesIn ws) where
   pub no-sizes : (EachSize sizes (length sizes) → ⊥) → WellFormed ws → ⊥
-  no-sizes d f = d (rw q (formed-sized ws f .limits .each))
+  no-sizes d f = let s = formed-sized ws f in d (rw q (λ i l. (s .taken i l, s .limits .each i l .1)))
 
   pub no-total : (n : ℕ) → n ≡ features sizes → mostFeatures < n → WellFormed ws → ⊥
   no-total n e l f = omega (arith, formed-sized ws f .limits .total, ap features q)
@@ -165,7 +168,7 @@ module _ (ws sizes : List ℕ) (q : sizes ≡ sizesIn ws) where
     sizes-small = record { few = omega (arith, count); small = λ i l. each i l .1 }
 
     pub sizes-sized : (n : ℕ) → n ≡ features sizes → n ≤ mostFeatures → Sized ws (getD ws 0 0) n
-    sizes-sized n e l = record { count = refl; room = room; limits = subst InLimits q within; total = e ∙ ap features q }
+    sizes-sized n e l = record { count = refl; room = room; limits = subst InLimits q within; taken = subst Taken q (λ i l. each i l .0); total = e ∙ ap features q }
       where
         within : InLimits sizes
-        within = record { variables = (omega (arith, count), omega (arith, count)); each = each; total = omega (arith, e) }
+        within = record { variables = (omega (arith, count), omega (arith, count)); each = λ i l. (omega (arith, each i l .0), each i l .1); total = omega (arith, e) }

@@ -39,7 +39,7 @@ within-low words low n r e l h k = told-no (λ w. omega (arith, w r (h .member (
 -- There is none: it is left that no member is at n or beyond.
 pub within-past : (words : List ℕ) (low n r q : ℕ) → Next (has words) (wordBits * length words) 0 r → low ≤ r → Next (has words) (wordBits * length words) n q
     → Tells (eqb q (length words * wordBits)) (Within (has words) low n)
-within-past words low n r q h l k = tells-map to from (tells-eq q (length words * 64))
+within-past words low n r q h l k = tells-map to from (tells-eq q (length words * wordBits))
   where
     above : (f : ℕ) → has words f ≡ true → low ≤ f
     above f e = elim (test (ltb f low)) [ on t ↦ absurd (clash e (h .clear f (omega arith) (omega (arith, ltb-true f low t)))) | off t ↦ ltb-false f low t ]

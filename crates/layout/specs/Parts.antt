@@ -38,12 +38,15 @@ pub record Due (v n : ℕ) (ws : List ℕ) : Type 0 where
   pub words : wordsDue v n ≤ length ws
 
 -- What is asked to lend a part.
-module _ {v n : ℕ} {ws : List ℕ} (due : Due v n ws) where
-  pub due-sizes : (v ≤ mostVariables) × (startAt v ≤ length ws)
-  due-sizes = (due .variables, omega (arith, due .words))
+pub headed-sizes : {v n : ℕ} {ws : List ℕ} → Headed v n ws → (v ≤ mostVariables) × (startAt v ≤ length ws)
+headed-sizes {n = n} headed = (headed .variables, omega (arith, headed .words))
 
+module _ {v n : ℕ} {ws : List ℕ} (due : Due v n ws) where
   pub due-headed : Headed v n ws
   due-headed = record { variables = due .variables; features = due .features; words = omega (arith, due .words) }
+
+  pub due-sizes : (v ≤ mostVariables) × (startAt v ≤ length ws)
+  due-sizes = headed-sizes due-headed
 
 -- The words of a part, where all that are due are there.
 pub length-part : (from n : ℕ) (ws : List ℕ) → from + n ≤ length ws → length (take n (drop from ws)) ≡ n

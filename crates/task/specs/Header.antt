@@ -79,11 +79,11 @@ module _ (T : Task) (known : Headed T) where
     header-front = rw (e, many, total) (take-at (headerWords T) further (slotsAt (length (T .sizes)) (features (T .sizes))) header-length)
 
     pub header-room : layout.Headed v n left
-    header-room = (
-      omega (arith, many, known .limits .variables),
-      omega (arith, total, known .limits .total),
-      omega (arith, many, total, header-length, ap length e, length-append (headerWords T) further),
-    )
+    header-room = record {
+      variables = omega (arith, many, known .limits .variables);
+      features = omega (arith, total, known .limits .total);
+      words = omega (arith, many, total, header-length, ap length e, length-append (headerWords T) further);
+    }
 
     -- Sizes, start, goal and pairs.
     pub header-parts : (sizesPart v left ≡ T .sizes) × (startPart v left ≡ T .start) × (goalPart v left ≡ T .goal) × (pairsPart v n left ≡ pairWords T)

@@ -2,6 +2,7 @@
 use native.Mathlib.Omega.{arith}
 use borrow.Author.Needs.{needs}
 use Rattle.meaning.specs.File.{judgedTask}
+use Rattle.layout.specs.Parts.{headed-sizes}
 use Rattle.task.specs.Answer.{Fronted, front-told, front-refused, fronted-room, lent-ready, rest-refused, rest-accepted}
 use Rattle.task.proofs.judge.Statement.{statement}
 use Rattle.task.proofs.judge.Tie as tie
@@ -26,7 +27,7 @@ enum-known-variables : tie.Need-enum-known-variables
 enum-known-variables c = search needs
 
 sizes-requires : tie.Need-sizes-requires
-sizes-requires c κs = let room = fronted-room _ _ _ _ _ _ _ _ (known (c .before .before)) in (room .0, omega (arith, room .2))
+sizes-requires c κs = headed-sizes (fronted-room _ _ _ _ _ _ _ _ (known (c .before .before)))
 
 start-requires : tie.Need-start-requires
 start-requires c κs = fronted-room _ _ _ _ _ _ _ _ (known (c .before .before .before))

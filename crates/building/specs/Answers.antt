@@ -7,9 +7,6 @@ use Rattle.meaning.specs.Number.{Mislabelled, Read, got, fault}
 use Rattle.meaning.specs.File.{Parser, give, then, valuesOf, ended, taskBytes}
 use Rattle.meaning.specs.Bay.{Bay, slotCount, baySizes, eachOnce, bayTask}
 use Rattle.meaning.specs.Answer as meaning
-use Rattle.number.specs.Answers.{reasonOf}
-use Rattle.number.specs.declared.Step.{Step}
-use Rattle.number.specs.declared.Step.the-variants.{Next, Fault}
 use Rattle.building.specs.declared.Built.{Built}
 use Rattle.building.specs.declared.Built.the-variants.{Built as Whole, Refused}
 
@@ -20,11 +17,6 @@ builtOf (Refused k) = meaning.refused k
 -- An answer with the room as it is then.
 abbrev pub outcomeOf : Built → List ℕ → meaning.Outcome ℕ
 outcomeOf r room = record { answer = builtOf r; lent = room }
-
--- What was read: the labels, as they stand in an array, or the first fault.
-abbrev pub labelsOf : Step → List ℕ → Read (List ℕ)
-labelsOf (Next next) labels = got labels next
-labelsOf (Fault reason place) labels = fault (reasonOf reason) place
 
 -- The sides of a bay that were read and judged.
 abbrev pub Sides : ℕ → ℕ → Type 0

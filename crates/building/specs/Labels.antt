@@ -1,51 +1,44 @@
 -- Labels that are read and judged one at a time: the turns of the code's loops.
-use Prim.Native.Nat.{ℕ, suc, _+_, _-_, _<_, _≤_}
+use Prim.Native.Nat.{ℕ, _+_, _<_, _≤_}
 use mathlib.Core.Path.{_≡_, refl, sym, ap, _∙_}
 use mathlib.Core.Logic.{_≢_}
 use mathlib.Core.Bool.{true, false, cond}
-use mathlib.Core.List.{List, [], _∷_, _++_, append-assoc, append-nil}
+use mathlib.Core.List.{List, append-nil}
 use native.Mathlib.Omega.{arith}
 use native.Mathlib.Numerals.{add-one}
-use lib.ListN.{length, getD, drop, replicate, drop-of-length-le}
-use lib.Seq.{drop-cons}
+use lib.ListN.{length, getD, take, drop, drop-of-length-le}
+use lib.Seq.{drop-cons, take-all}
 use lib.Dec.{eqb}
 use borrow.Author.Tests.{eq-eqb, ne-eqb}
 use Rattle.meaning.specs.Sets.{every}
-use Rattle.meaning.specs.Number.{Reason, Range, Read, got, fault, onRead}
-use Rattle.meaning.specs.File.{inside, item, valuesOf}
-use Rattle.meaning.specs.Bay.{occurrences, eachOnce}
+use Rattle.meaning.specs.Number.{got, fault}
+use Rattle.meaning.specs.File.{valuesOf}
+use Rattle.meaning.specs.Bay.{baySizes, occurrences, eachOnce}
 use Rattle.theory.specs.Search.{and-both, every-not}
+use Rattle.theory.specs.Parts.{values-said}
+use Rattle.number.specs.Answers.{reasonOf}
+use Rattle.number.specs.declared.Reason.{Reason}
+use Rattle.number.specs.declared.Step.{Step}
+use Rattle.number.specs.declared.Step.the-variants.{Next, Fault}
+use Rattle.reader.specs.Answer.{written, ReadsInto, reads-next, reads-fault}
 
--- Labels that were read before others.
-abbrev pub behind : List ℕ → Read (List ℕ) → Read (List ℕ)
-behind done rest = onRead rest (λ labels next. got (done ++ labels) next)
+-- Labels are read over their bounds, n of each: what an answer tells of those that are then in the words.
+module _ (n : ℕ) (bytes : List ℕ) (at : ℕ) (old : List ℕ) (count : ℕ) (answer : Step) (labels : List ℕ) (bounds : old ≡ baySizes n) (all : length old ≤ count)
+    (read : ReadsInto (valuesOf (take count (drop 0 old)) bytes at) (written old 0) answer labels) where
+  whole : take count (drop 0 old) ≡ baySizes n
+  whole = take-all count old all ∙ bounds
 
-pub behind-none : (r : Read (List ℕ)) → behind [] r ≡ r
-behind-none (got labels next) = refl
-behind-none (fault reason place) = refl
+  pub labels-fault : (reason : Reason) (place : ℕ) → answer ≡ Fault reason place → valuesOf (baySizes n) bytes at ≡ fault (reasonOf reason) place
+  labels-fault reason place e = rw whole at (reads-fault (valuesOf (take count (drop 0 old)) bytes at) (written old 0) answer reason place labels read e)
 
-behind-more : (done : List ℕ) (x : ℕ) (r : Read (List ℕ)) → behind done (onRead r (λ labels next. got (x ∷ labels) next)) ≡ behind (done ++ (x ∷ [])) r
-behind-more done x (got labels next) = ap (λ l. got l next) (sym (append-assoc done (x ∷ []) labels))
-behind-more done x (fault reason place) = refl
-
-module _ (bytes : List ℕ) (n i : ℕ) (done : List ℕ) (at : ℕ) where
-  -- The labels that are left.
-  abbrev pub labelsLeft : Read (List ℕ)
-  labelsLeft = behind done (valuesOf (replicate (n - i) n) bytes at)
-
-  pub labels-more : (x next : ℕ) → i < n → item (inside 0 n) Range bytes at ≡ got x next
-      → labelsLeft ≡ behind (done ++ (x ∷ [])) (valuesOf (replicate (n - (i + 1)) n) bytes next)
-  unfolding valuesOf
-  labels-more x next h e =
-      let k : n - i ≡ suc (n - (i + 1)) = omega arith in rw (k, e) (behind-more done x (valuesOf (replicate (n - (i + 1)) n) bytes next))
-
-  pub labels-fault : (reason : Reason) (place : ℕ) → i < n → item (inside 0 n) Range bytes at ≡ fault reason place → labelsLeft ≡ fault reason place
-  unfolding valuesOf
-  labels-fault reason place h e = let k : n - i ≡ suc (n - (i + 1)) = omega arith in rw (k, e) refl
-
-  pub labels-none : n ≤ i → labelsLeft ≡ got done at
-  unfolding valuesOf
-  labels-none h = let k : n - i ≡ 0 = omega arith in rw k (ap (λ l. got l at) (append-nil done))
+  pub labels-read : (next : ℕ) → answer ≡ Next next → valuesOf (baySizes n) bytes at ≡ got labels next
+  labels-read next e = known (reads-next (valuesOf (take count (drop 0 old)) bytes at) (written old 0) answer next labels read e)
+    where
+      known : (values : List ℕ) × (valuesOf (take count (drop 0 old)) bytes at ≡ got values next) × (labels ≡ written old 0 values) → valuesOf (baySizes n) bytes at ≡ got labels next
+      known (values, r, w) =
+          let long : length values ≡ length old = values-said bytes (take count (drop 0 old)) .gives at values next r .known .0 .full ∙ ap length (take-all count old all) in
+          let past : length old ≤ 0 + length values = omega arith in
+          rw whole at r ∙ ap (λ l. got l next) (sym (w ∙ rw (drop-of-length-le old past) (append-nil values)))
 
 -- ---- counts
 

@@ -8,10 +8,11 @@ use native.Mathlib.Nat.{mul-le-mul}
 use lib.ListN.{length}
 use borrow.Author.Tests.{lt-leb, le-leb, lt-ltb, le-ltb}
 use Rattle.meaning.specs.Limits.{leastSide, mostSide, leastSlots, mostSlots}
-use Rattle.meaning.specs.Number.{Reason, Limit, LeftOver, Mislabelled, refusal, Read, got, fault, onRead}
-use Rattle.meaning.specs.File.{inside, item, judge, ended, valuesOf, taskBytes}
+use Rattle.meaning.specs.Number.{Reason, Limit, LeftOver, Mislabelled, refusal, Read, got, fault, onRead, numbersOn}
+use Rattle.meaning.specs.File.{inside, judge, limited, ended, valuesOf, taskBytes}
 use Rattle.meaning.specs.Answer.{Outcome, refused, refuses, delivered, byRead}
-use Rattle.meaning.specs.Bay.{Bay, slotCount, baySizes, bayOf, eachOnce, judgedBay, bayTask, Builds}
+use Rattle.meaning.specs.Bay.{Bay, slotCount, baySizes, side, sidesOf, bayOf, eachOnce, judgedBay, bayTask, Builds}
+use Rattle.theory.specs.Reading.{item-read}
 use Rattle.theory.specs.Parts.{item-said}
 use Rattle.theory.specs.Truth.{on, off, test}
 use Rattle.building.specs.declared.Built.{Built}
@@ -58,18 +59,18 @@ module _ (rows columns : ℕ) (bytes : List ℕ) (at : ℕ) where
 module _ (bytes : List ℕ) where
   -- A side that stands at a place.
   abbrev pub sideAt : ℕ → Read ℕ
-  sideAt place = item (inside leastSide (suc mostSide)) Limit bytes place
+  sideAt place = side bytes place
 
   pub side-limit : (place n next : ℕ) → sideAt place ≡ got n next → (leastSide ≤ n) × (n ≤ mostSide)
   side-limit place n next e = let known = item-said bytes leastSide (suc mostSide) Limit .gives place n next e .known in (known .0, omega (arith, known .1))
 
   pub rows-fault : (reason : Reason) (place : ℕ) → sideAt 0 ≡ fault reason place → bayOf bytes 0 ≡ fault reason place
-  unfolding bayOf
+  unfolding bayOf sidesOf limited
   rows-fault reason place e = rw e refl
 
   module _ (rows next : ℕ) (e : sideAt 0 ≡ got rows next) where
     pub columns-fault : (reason : Reason) (place : ℕ) → sideAt next ≡ fault reason place → bayOf bytes 0 ≡ fault reason place
-    unfolding bayOf
+    unfolding bayOf sidesOf limited
     columns-fault reason place q = rw (e, q) refl
 
     module _ (columns after : ℕ) (q : sideAt next ≡ got columns after) where
@@ -82,16 +83,21 @@ module _ (bytes : List ℕ) where
           let c = side-limit next columns after q in
           (r .0, r .1, c .0, c .1, h, k)
 
-      pub few-slots : rows * columns < leastSlots → bayOf bytes 0 ≡ fault Limit after
-      unfolding bayOf judge
-      few-slots h = rw (e, q, lt-leb leastSlots (rows * columns) h) refl
+      -- A limit over both sides is placed at the columns.
+      columns-at : numbersOn 1 bytes 0 ≡ next
+      unfolding numbersOn
+      columns-at = rw (item-read (inside leastSide (suc mostSide)) Limit bytes 0 rows next e)
 
-      pub many-slots : leastSlots ≤ rows * columns → mostSlots < rows * columns → bayOf bytes 0 ≡ fault Limit after
-      unfolding bayOf judge
-      many-slots h k = rw (e, q, le-leb leastSlots (rows * columns) h, le-ltb (rows * columns) (suc mostSlots) k) refl
+      pub few-slots : rows * columns < leastSlots → bayOf bytes 0 ≡ fault Limit next
+      unfolding bayOf sidesOf limited
+      few-slots h = rw (e, q, lt-leb leastSlots (rows * columns) h, columns-at) refl
+
+      pub many-slots : leastSlots ≤ rows * columns → mostSlots < rows * columns → bayOf bytes 0 ≡ fault Limit next
+      unfolding bayOf sidesOf limited
+      many-slots h k = rw (e, q, le-leb leastSlots (rows * columns) h, le-ltb (rows * columns) (suc mostSlots) k, columns-at) refl
 
       pub sides-read : leastSlots ≤ rows * columns → rows * columns ≤ mostSlots → bayOf bytes 0 ≡ labelled rows columns bytes after
-      unfolding bayOf labelled judge
+      unfolding bayOf sidesOf limited labelled
       sides-read h k = rw (e, q, le-leb leastSlots (rows * columns) h, lt-ltb (rows * columns) (suc mostSlots) (omega arith)) refl
 
 -- ---- the call

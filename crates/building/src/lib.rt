@@ -6,12 +6,12 @@ ghost use lib.ListN.{length, take, drop};
 ghost use Rattle.meaning.specs.Limits.{mostSlots, numberEnd};
 ghost use Rattle.meaning.specs.Number.{refusal as refusalNumber, got};
 ghost use Rattle.meaning.specs.Task.{State};
-ghost use Rattle.meaning.specs.File.{valuesOf, operatorBytes, counted, taskBytes};
+ghost use Rattle.meaning.specs.File.{operatorBytes, counted, taskBytes};
 ghost use Rattle.meaning.specs.Bay.{occurrences, eachOnce, oneApart, neighbours, baySizes, bayPairs, slide, bayOperators, bayTask, Builds};
 ghost use Rattle.meaning.specs.Answer.{refused, delivered};
 ghost use Rattle.number.specs.Answers.{reasonOf};
 ghost use Rattle.writer.specs.Parts.{Numbers, Countable};
-ghost use Rattle.building.specs.Answers.{builtOf, outcomeOf, labelsOf, Sides, bayWith, labelled, madeOf};
+ghost use Rattle.building.specs.Answers.{builtOf, outcomeOf, Sides, bayWith, labelled, madeOf};
 ghost use Rattle.building.specs.Parts.{Uniform, labelPairs, slotPairs, slideBytes, gapBytes, walkBytes, frontBytes};
 use number::Number;
 use number::Reason;
@@ -43,28 +43,6 @@ fn refuse(reason: Reason) -> Built
     ensures { λ r. ⌜ builtOf r ≡ refused (refusalNumber (reasonOf reason)) ⌝ }
 {
     Built::Refused(number::refusal(reason))
-}
-
-// Reads a label for each place of the list.
-fn read_labels(bytes: &[u8], at: usize, labels: &mut [u64]) -> Step
-    ensures { λ r. ⌜ labelsOf r (now (labels .exit)) ≡ valuesOf (baySizes (length (now (labels .entry)))) (now (bytes .entry)) at ⌝ }
-{
-    let n = labels.len();
-    let mut next = at;
-    let mut i = 0;
-    while i < n {
-        match number::item_at(bytes, next, 0, n, Reason::Range) {
-            Number::Got(label, after) => {
-                labels[i] = label as u64;
-                next = after;
-                i += 1;
-            }
-            Number::Fault(reason, place) => {
-                return Step::Fault(reason, place);
-            }
-        }
-    }
-    Step::Next(next)
 }
 
 // How often a label stands in a list.
@@ -335,7 +313,7 @@ fn build_judged(rows: usize, columns: usize, start: &[u64], goal: &[u64], room: 
     deliver(rows, columns, start, goal, room)
 }
 
-// Reads what stands behind the sides of a bay, and goes on with it.
+// Reads what stands behind the sides of a bay, each label over its bound, and goes on with it.
 fn build_labelled(
     bay: &[u8],
     at: usize,
@@ -345,11 +323,21 @@ fn build_labelled(
     goal: &mut [u64],
     room: &mut [u8],
 ) -> Built
-    requires { ⌜ Sides rows columns × (length (now start) ≡ rows * columns) × (length (now goal) ≡ rows * columns) ⌝ }
+    requires { ⌜ Sides rows columns × (now start ≡ baySizes (rows * columns)) × (now goal ≡ baySizes (rows * columns)) ⌝ }
     ensures { λ r. ⌜ outcomeOf r (now (room .exit)) ≡ madeOf (labelled rows columns (now (bay .entry)) at) (now (room .entry)) ⌝ }
 {
-    match read_labels(bay, at, &mut *start) {
-        Step::Next(next) => match read_labels(bay, next, &mut *goal) {
+    let n = start.len();
+    match reader::items_at(bay, at, &mut *start, 0, 0, n, 0, Reason::Range) {
+        Step::Next(next) => match reader::items_at(
+            bay,
+            next,
+            &mut *goal,
+            0,
+            0,
+            n,
+            0,
+            Reason::Range,
+        ) {
             Step::Next(end) => {
                 if end < bay.len() {
                     return refuse(Reason::LeftOver);
@@ -382,8 +370,8 @@ pub fn build(bay: &[u8], room: &mut [u8]) -> Built
                 if MOST_SLOTS < n {
                     return refuse(Reason::Limit);
                 }
-                let mut start = [0u64; MOST_SLOTS];
-                let mut goal = [0u64; MOST_SLOTS];
+                let mut start = [n as u64; MOST_SLOTS];
+                let mut goal = [n as u64; MOST_SLOTS];
                 build_labelled(
                     bay,
                     after,

@@ -15,7 +15,7 @@ use Rattle.meaning.specs.File.{inside, item, limited, rising, itemsOf, sizesOf,
 use Rattle.meaning.specs.File.{operatorOf, operatorsOf, InLimits, Taken, bytesOf, counted, entryBytes, operatorBytes, weightBytes}
 use Rattle.theory.specs.Search.{and-left, and-right}
 use Rattle.theory.specs.Run.{run-none, run-more, run-wider}
-use Rattle.theory.specs.Reading.{got-value, got-next, on-got, test-passed}
+use Rattle.theory.specs.Reading.{got-value, got-next, on-got, item-read}
 use Rattle.theory.specs.Spent.{Bytes, Gives, gives-known, gives-then, gives-map, gives-give, gives-tested}
 use Rattle.theory.specs.NumberBack.{number-gives}
 use Rattle.theory.specs.ReadBack.{entry-apart}
@@ -122,25 +122,22 @@ module _ (bytes : List ℕ) where
   -- Numbers behind another: the last of them all is as many numbers behind that one, and reading went on from there.
   items-last : (low : ℕ) (reason : Reason) (bounds : List ℕ) (place v next : ℕ) (ns : List ℕ) (after : ℕ) → number bytes place ≡ got v next
       → itemsOf low reason bounds bytes next ≡ got ns after → number bytes (numbersOn (length ns) bytes place) ≡ got (getD (v ∷ ns) (length ns) 0) after
-  unfolding itemsOf numbersOn item
+  unfolding itemsOf numbersOn
   items-last low reason [] place v next ns after e r = rw (← got-value r, ← got-next r) e
   items-last low reason (bound ∷ bounds) place v next ns after e r =
       let (n, middle, p, q) = on-got (item (inside low bound) reason bytes next) _ ns after r in
-      let (m, other, first, t) = on-got (number bytes next) _ n middle p in
-      let (passed, z) = test-passed (inside low bound m) (got m other) reason next n middle t in
       let (others, last, rest, w) = on-got (itemsOf low reason bounds bytes middle) _ ns after q in
-      rw (← got-value w, e) (items-last low reason bounds next n middle others after (first ∙ z) (rest ∙ ap (got others) (got-next w)))
+      rw (← got-value w, e) (items-last low reason bounds next n middle others after (item-read (inside low bound) reason bytes next n middle p) (rest ∙ ap (got others) (got-next w)))
 
   -- N is placed at the last size.
   pub sizes-last : (least most place : ℕ) (sizes : List ℕ) (after : ℕ) → sizeList least most bytes place ≡ got sizes after
       → number bytes (numbersOn (length sizes) bytes place) ≡ got (size sizes (length sizes - 1)) after
-  unfolding sizeList item
+  unfolding sizeList
   sizes-last least most place sizes after r =
       let (v, next, p, q) = on-got (item (inside leastVariables (suc mostVariables)) Limit bytes place) _ sizes after r in
-      let (m, other, first, t) = on-got (number bytes place) _ v next p in
-      let (passed, z) = test-passed (inside leastVariables (suc mostVariables) m) (got m other) Limit place v next t in
+      let first = item-read (inside leastVariables (suc mostVariables)) Limit bytes place v next p in
       let known = size-list-said least most .gives place sizes after r .known in
-      items-last least Limit (replicate v (suc most)) place v next sizes after (first ∙ z) q ∙ ap (λ n. got n after) (last-of v sizes (known .0))
+      items-last least Limit (replicate v (suc most)) place v next sizes after first q ∙ ap (λ n. got n after) (last-of v sizes (known .0))
 
   pub values-said : (sizes : List ℕ) → Gives bytes (valuesOf sizes) (λ state l. State sizes state × Exact bytes (bytesOf numberBytes) state l)
   values-said sizes = gives-known _ (items-said 0 Range sizes) (λ state l g. (record { full = g .0; values = λ i h. g .1 i h .1 }, g .2))

@@ -1,12 +1,12 @@
 -- The outcome of a read; and bytes that were written for a value and are read as that value, part after part.
 use Prim.Native.Nat.{ℕ, _+_}
-use mathlib.Core.Path.{_≡_, refl, sym, ap, subst}
+use mathlib.Core.Path.{_≡_, refl, sym, ap, subst, _∙_}
 use mathlib.Core.Bool.{Bool, true, false, cond}
 use mathlib.Core.List.{List, [], _++_, append-assoc}
 use native.Mathlib.Nat.{add-zero, add-assoc}
 use lib.ListN.{length, length-append}
-use Rattle.meaning.specs.Number.{Reason, Read, got, fault, onRead}
-use Rattle.meaning.specs.File.{Parser, give, then, judge}
+use Rattle.meaning.specs.Number.{Reason, Read, got, fault, onRead, number}
+use Rattle.meaning.specs.File.{Parser, give, then, item, judge}
 use Rattle.meaning.specs.Answer.{byRead}
 
 -- ---- the outcome of a read
@@ -55,6 +55,14 @@ pub test-failed : {A : Type 0} (b : Bool) (r : Read A) (reason : Reason) (place 
     → cond b (fault reason place) r ≡ got a next → (b ≡ false) × (r ≡ got a next)
 test-failed true r reason place a next e = absurd (not-got e)
 test-failed false r reason place a next e = (refl, e)
+
+-- A number that passed a test was read.
+pub item-read : (test : ℕ → Bool) (reason : Reason) (bytes : List ℕ) (place n next : ℕ) → item test reason bytes place ≡ got n next → number bytes place ≡ got n next
+unfolding item
+item-read test reason bytes place n next e =
+    let (m, other, read, t) = on-got (number bytes place) _ n next e in
+    let (passed, z) = test-passed (test m) (got m other) reason place n next t in
+    read ∙ z
 
 -- A judgement that was passed.
 pub judged-passed : {A : Type 0} (b : Bool) (reason : Reason) (bytes : List ℕ) (place : ℕ) (a c : A) (next : ℕ)

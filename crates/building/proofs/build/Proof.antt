@@ -4,6 +4,7 @@ use native.Mathlib.Omega.{arith}
 use lib.Seq.{length-take-le}
 use borrow.Author.Needs.{needs}
 use Rattle.meaning.specs.Number.{Limit, got}
+use Rattle.theory.specs.Flat.{take-replicate}
 use Rattle.number.specs.Answers.{reasonOf, numberOf}
 use Rattle.building.specs.Answers.{madeOf}
 use Rattle.building.specs.Outcomes.{refused-so, sideAt, rows-fault, columns-fault, slots-product, sides-limit, few-slots, many-slots, sides-read, builds-made}
@@ -71,7 +72,7 @@ slice-aggregate-build-labelled-2 : tie.Need-slice-aggregate-build-labelled-2
 slice-aggregate-build-labelled-2 c = sym (length-take-le _ _ (c .before .before .if2 .left))
 
 build-labelled-requires : tie.Need-build-labelled-requires
-build-labelled-requires c κs = (sides-limit (c .before .before .before .before .before .before .before .before .before .before .before .before .before .before .before .args .bay .now) _ _ (rows-read (c .before .before .before .before .before .before .before .before .before .before)) _ _ (columns-read (c .before .before .before .before .before .before)) (c .before .before .before .before .if1 .left) (c .before .before .before .if2 .left), length-take-le _ _ (c .before .before .before .if2 .left), length-take-le _ _ (c .before .before .before .if2 .left))
+build-labelled-requires c κs = (sides-limit (c .before .before .before .before .before .before .before .before .before .before .before .before .before .before .before .args .bay .now) _ _ (rows-read (c .before .before .before .before .before .before .before .before .before .before)) _ _ (columns-read (c .before .before .before .before .before .before)) (c .before .before .before .before .if1 .left) (c .before .before .before .if2 .left), take-replicate _ 9 _ (c .before .before .before .if2 .left), take-replicate _ 9 _ (c .before .before .before .if2 .left))
 
 enum-known-reason : tie.Need-enum-known-reason
 enum-known-reason c = search needs

@@ -1,40 +1,48 @@
 -- `build_labelled` goes on with what was read, or refuses by the first fault.
 use Prim.Native.Nat.{_*_}
 use mathlib.Core.Path.{_≡_, sym, ap, _∙_}
+use native.Mathlib.Omega.{arith}
+use lib.ListN.{length}
 use borrow.Author.Needs.{needs}
 use Rattle.meaning.specs.Number.{LeftOver, got}
 use Rattle.meaning.specs.File.{valuesOf}
 use Rattle.meaning.specs.Bay.{baySizes}
 use Rattle.theory.specs.Parts.{values-said}
 use Rattle.number.specs.Answers.{reasonOf}
-use Rattle.building.specs.Answers.{labelsOf, madeOf}
+use Rattle.reader.specs.Lists.{apart-same}
+use Rattle.building.specs.Answers.{madeOf}
+use Rattle.building.specs.Labels.{labels-read, labels-fault}
 use Rattle.building.specs.Outcomes.{refused-so, start-fault, goal-fault, left-over, labelled-whole}
 use Rattle.building.proofs.build_labelled.Statement.{statement}
 use Rattle.building.proofs.build_labelled.Tie as tie
 
+-- There are as many bounds for the goal as for the start.
+as-many : (c : tie.Start) → length (c .args .goal .now) ≡ length (c .args .start .now)
+as-many c = ap length (c .pre .2) ∙ sym (ap length (c .pre .1))
+
 -- The start that was read, and the goal.
 start-read : (c : tie.After-next) → let a = c .before .before .before .before .before .before .before .before .before .before .args in
-    valuesOf (baySizes (a .rows * a .columns)) (a .bay .now) (a .at) ≡ got (c .before .before .before .before .read-labels .last .1 .1 .0) (c .next .given .0 .0)
+    valuesOf (baySizes (a .rows * a .columns)) (a .bay .now) (a .at) ≡ got (c .before .before .before .before .items-at .last .1 .1 .0) (c .next .given .0 .0)
 start-read c =
     let start = c .before .before .before .before .before .before .before .before .before .before in
-    let read = c .before .before .before .before .read-labels in
-    ap (λ k. valuesOf (baySizes k) (start .args .bay .now) (start .args .at)) (sym (start .pre .1)) ∙ sym (read .ensures) ∙ ap (λ r. labelsOf r (read .last .1 .1 .0)) (c .next .given .1)
+    labels-read (start .args .rows * start .args .columns) _ _ (start .args .start .now) (length (start .args .start .now)) _ _ (start .pre .1) (omega arith) (c .before .before .before .before .items-at .ensures) _ (c .next .given .1)
 
 goal-read : (c : tie.After-end) → let a = c .before .before .before .before .before .before .before .before .before .before .before .before .before .before .before .before .before .args in
-    valuesOf (baySizes (a .rows * a .columns)) (a .bay .now) (c .before .before .before .before .before .before .before .next .given .0 .0) ≡ got (c .before .before .before .before .read-labels2 .last .1 .1 .0) (c .end .given .0 .0)
+    valuesOf (baySizes (a .rows * a .columns)) (a .bay .now) (c .before .before .before .before .before .before .before .next .given .0 .0) ≡ got (c .before .before .before .before .items-at2 .last .1 .1 .0) (c .end .given .0 .0)
 goal-read c =
     let start = c .before .before .before .before .before .before .before .before .before .before .before .before .before .before .before .before .before in
-    let read = c .before .before .before .before .read-labels2 in
-    ap (λ k. valuesOf (baySizes k) (start .args .bay .now) (c .before .before .before .before .before .before .before .next .given .0 .0)) (sym (start .pre .2)) ∙ sym (read .ensures) ∙ ap (λ r. labelsOf r (read .last .1 .1 .0)) (c .end .given .1)
+    labels-read (start .args .rows * start .args .columns) _ _ (start .args .goal .now) (length (start .args .start .now)) _ _ (start .pre .2) (omega (arith, as-many start)) (c .before .before .before .before .items-at2 .ensures) _ (c .end .given .1)
 
-read-labels-requires : tie.Need-read-labels-requires
-read-labels-requires c κs = search needs
+items-at-requires : tie.Need-items-at-requires
+items-at-requires c κs = (omega arith, omega arith, apart-same 0 _)
 
 enum-known-next : tie.Need-enum-known-next
 enum-known-next c = search needs
 
-read-labels-requires-2 : tie.Need-read-labels-requires-2
-read-labels-requires-2 c κs = search needs
+items-at-requires-2 : tie.Need-items-at-requires-2
+items-at-requires-2 c κs =
+    let start = c .before .before .before .before .before .before .before .before .before .before .before .before in
+    (omega (arith, as-many start), omega (arith, as-many start), apart-same 0 _)
 
 enum-known-end : tie.Need-enum-known-end
 enum-known-end c = search needs
@@ -101,7 +109,8 @@ returns-3 c =
     let room = a .room .now in
     let reason = c .before .before .reason .given .0 .0 in
     let place = c .before .before .reason .given .0 .1 .0 in
-    let e = ap (λ k. valuesOf (baySizes k) (a .bay .now) (c .before .before .before .before .before .before .before .before .before .next .given .0 .0)) (sym (c .before .before .before .before .before .before .before .before .before .before .before .before .before .before .before .before .before .before .before .pre .2)) ∙ sym (c .before .before .before .before .before .before .read-labels2 .ensures) ∙ ap (λ r. labelsOf r (c .before .before .before .before .before .before .read-labels2 .last .1 .1 .0)) (c .before .before .reason .given .1) in
+    let begun = c .before .before .before .before .before .before .before .before .before .before .before .before .before .before .before .before .before .before .before in
+    let e = labels-fault (a .rows * a .columns) _ _ (a .goal .now) (length (a .start .now)) _ _ (begun .pre .2) (omega (arith, as-many begun)) (c .before .before .before .before .before .before .items-at2 .ensures) _ _ (c .before .before .reason .given .1) in
     refused-so (c .refuse2 .result) (reasonOf reason) room (c .refuse2 .ensures)
     ∙ ap (λ r. madeOf r room) (sym (goal-fault (a .rows) (a .columns) (a .bay .now) (a .at) _ _ (start-read (c .before .before .before .before .before .before .before .before .before)) (reasonOf reason) place e))
 
@@ -114,7 +123,8 @@ returns-4 c =
     let room = a .room .now in
     let reason = c .before .before .reason2 .given .0 .0 in
     let place = c .before .before .reason2 .given .0 .1 .0 in
-    let e = ap (λ k. valuesOf (baySizes k) (a .bay .now) (a .at)) (sym (c .before .before .before .before .before .before .before .before .before .before .before .before .pre .1)) ∙ sym (c .before .before .before .before .before .before .read-labels .ensures) ∙ ap (λ r. labelsOf r (c .before .before .before .before .before .before .read-labels .last .1 .1 .0)) (c .before .before .reason2 .given .1) in
+    let begun = c .before .before .before .before .before .before .before .before .before .before .before .before in
+    let e = labels-fault (a .rows * a .columns) _ _ (a .start .now) (length (a .start .now)) _ _ (begun .pre .1) (omega arith) (c .before .before .before .before .before .before .items-at .ensures) _ _ (c .before .before .reason2 .given .1) in
     refused-so (c .refuse3 .result) (reasonOf reason) room (c .refuse3 .ensures)
     ∙ ap (λ r. madeOf r room) (sym (start-fault (a .rows) (a .columns) (a .bay .now) (a .at) (reasonOf reason) place e))
 
@@ -122,9 +132,9 @@ pub build-labelled-spec : {M : Type 1} → statement M
 build-labelled-spec =
     tie.close
     (tie.spec
-    read-labels-requires
+    items-at-requires
     enum-known-next
-    read-labels-requires-2
+    items-at-requires-2
     enum-known-end
     refuse-requires
     same-length

@@ -16,10 +16,8 @@ ghost use Rattle.checking.specs.Breaking.{breakingFrom};
 ghost use Rattle.checking.specs.Answer.{verdictOf, verdictFrom};
 use limits::HEADER_WORDS;
 use limits::MOST_WORDS;
-use limits::SIZES_AT;
 use number::Step;
 use task::Judged;
-use words::WORD_BITS;
 
 // The checker's answers: accepted, rejected as the ends are alike, rejected at an operator, or refused with the paper's number.
 pub enum Verdict {
@@ -128,22 +126,16 @@ fn weigh(
     ensures { λ r. ⌜ Checks (now (bytes .entry)) (now (weights .entry)) (verdictOf r) ⌝ }
 {
     match reader::read_weights(weights, n, &mut *words) {
-        Step::Next(_) => {
-            let start = task::start_at(v);
-            let goal = task::goal_at(v);
-            let pairs = task::pairs_at(v);
-            let end = task::slots_at(v, n);
-            judge_weights(
-                bytes,
-                at,
-                count,
-                &header[SIZES_AT..start],
-                &header[start..goal],
-                &header[goal..pairs],
-                &header[pairs..end],
-                words,
-            )
-        }
+        Step::Next(_) => judge_weights(
+            bytes,
+            at,
+            count,
+            layout::sizes(header, v),
+            layout::start(header, v, n),
+            layout::goal(header, v, n),
+            layout::pairs(header, v, n),
+            words,
+        ),
         Step::Fault(reason, _) => Verdict::Refused(number::refusal(reason)),
     }
 }
@@ -161,7 +153,7 @@ pub fn check(task: &[u8], weights: &[u8]) -> Verdict
             at,
         } => {
             let mut words = [0u64; MOST_WORDS];
-            let w = (features + (WORD_BITS - 1)) / WORD_BITS;
+            let w = layout::words_for(features);
             weigh(
                 task,
                 weights,

@@ -1,3 +1,4 @@
 pub mod Ends
 pub mod Walk
 pub mod Slotted
+pub mod Holds

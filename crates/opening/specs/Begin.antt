@@ -5,12 +5,10 @@ use mathlib.Core.Logic.{Iff·symm}
 use mathlib.Core.Bool.{false}
 use mathlib.Core.List.{List, _++_, append-assoc}
 use native.Mathlib.Omega.{arith}
-use native.Mathlib.Nat.{mul-le-mul}
 use lib.Dec.{ltb}
 use lib.ListN.{length, take, drop, replicate, length-drop, length-replicate, replicate-append-replicate}
 use lib.Seq.{take-at, drop-at, drop-drop, length-take-le}
 use borrow.Author.Tests.{lt-ltb, le-ltb}
-use Rattle.meaning.specs.Limits.{mostFeatures}
 use Rattle.meaning.specs.Sets.{Slots, flat, listed}
 use Rattle.meaning.specs.Task.{Task}
 use Rattle.meaning.specs.Feature.{features}
@@ -29,7 +27,8 @@ use Rattle.theory.specs.SlotsOf.{slots-along}
 use Rattle.words.specs.Part.{has-none, words-none}
 use Rattle.task.specs.Header.{headerWords, header-content, header-length}
 use Rattle.task.specs.Answer.{Known, known-headed, known-header}
-use Rattle.opening.specs.Adding.{Holds, Workable, addedFrom, added-all}
+use Rattle.condition.specs.Holds.{Holds}
+use Rattle.opening.specs.Adding.{Workable, addedFrom, added-all}
 
 -- ---- two parts written one after the other
 
@@ -44,11 +43,6 @@ begin-made room front copied cleared due h k q z =
     let long : length (take (due - end) (drop end room)) ≡ due - end = length-take-le (due - end) (drop end room) (rw (length-drop end room) (omega arith)) in
     let zeros : cleared ≡ replicate (due - end) 0 = rw (back, long) at (rw q at z) in
     rw (q, take-at front (drop end room) end refl, back, drop-drop (due - end) end room, rest, zeros)
-
--- ---- how many words are due
-
-pub slots-few : (n : ℕ) → n ≤ mostFeatures → n * wordsFor n ≤ mostFeatures * wordsFor mostFeatures
-slots-few n h = mul-le-mul h (let k : wordsFor n ≤ wordsFor mostFeatures = omega arith in k)
 
 -- ---- empty slots
 

@@ -3,33 +3,21 @@ ghost use mathlib.Core.Path.{_≡_};
 ghost use mathlib.Core.List.{_++_};
 ghost use Prim.Native.Nat.{_-_, _≤_};
 ghost use lib.ListN.{length, replicate, drop};
-ghost use Rattle.meaning.specs.Limits.{mostVariables, mostFeatures};
 ghost use Rattle.meaning.specs.File.{operatorOf};
-ghost use Rattle.meaning.specs.Workspace.{wordsDue};
 ghost use Rattle.meaning.specs.Answer.{Opens};
 ghost use Rattle.number.specs.Answers.{placeOf};
-ghost use Rattle.condition.specs.Slotted.{sizeWords};
+ghost use Rattle.layout.specs.Parts.{sizesPart};
 ghost use Rattle.opening.specs.Answer.{openedOf};
 ghost use Rattle.opening.specs.Adding.{Workable, addedFrom};
 use limits::HEADER_WORDS;
-use limits::SIZES_AT;
 use number::Reason;
 use number::Step;
 use task::Judged;
-use words::WORD_BITS;
 
 // The number of words due, or the paper's number of a refusal.
 pub enum Opened {
     Opened(usize),
     Refused(u64),
-}
-
-// How many words are due for v variables and n features.
-fn words_due(v: usize, n: usize) -> usize
-    requires { ⌜ (v ≤ mostVariables) × (n ≤ mostFeatures) ⌝ }
-    ensures { λ r. ⌜ r ≡ wordsDue v n ⌝ }
-{
-    task::slots_at(v, n) + n * ((n + (WORD_BITS - 1)) / WORD_BITS)
 }
 
 // Puts a header in front, and clears the slots behind it.
@@ -45,11 +33,10 @@ fn begin(room: &mut [u64], header: &[u64], due: usize)
 // Reads an operator and inserts its rows; nothing is inserted where there is a fault.
 fn add_operator(bytes: &[u8], at: usize, room: &mut [u64], v: usize, n: usize) -> Step
     requires { ⌜ Workable v n (now room) ⌝ }
-    ensures place { λ r. ⌜ r ≡ placeOf (operatorOf (sizeWords v (now (room .entry))) (now (bytes .entry)) at) ⌝ }
+    ensures place { λ r. ⌜ r ≡ placeOf (operatorOf (sizesPart v (now (room .entry))) (now (bytes .entry)) at) ⌝ }
     ensures rows { λ r. ⌜ now (room .exit) ≡ addedFrom v n 1 (now (bytes .entry)) at (now (room .entry)) ⌝ }
 {
-    let end = task::start_at(v);
-    let read = operator::read_operator(bytes, at, &room[SIZES_AT..end]);
+    let read = operator::read_operator(bytes, at, layout::sizes(room, v));
     let step = read.step;
     match step {
         Step::Next(next) => {
@@ -103,14 +90,13 @@ pub fn open(task: &[u8], room: &mut [u64]) -> Opened
             operators,
             at,
         } => {
-            let due = words_due(variables, features);
-            if room.len() < due {
+            let places = layout::places_for(variables, features);
+            if room.len() < places.end {
                 return Opened::Refused(number::refusal(Reason::Small));
             }
-            let slots = task::slots_at(variables, features);
-            begin(room, &header[..slots], due);
+            begin(room, &header[..places.slots], places.end);
             add_operators(task, at, operators, room, variables, features);
-            Opened::Opened(due)
+            Opened::Opened(places.end)
         }
         Judged::Refused(reason, _) => Opened::Refused(number::refusal(reason)),
     }

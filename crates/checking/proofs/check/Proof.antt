@@ -1,18 +1,24 @@
 -- `check`: what is known of an accepted task goes to `weigh`; a refusal is answered by its number.
-use mathlib.Core.Path.{refl}
 use native.Mathlib.Omega.{arith}
 use lib.ListN.{length-take, replicate}
-use Rattle.task.specs.Answer.{Known, judged-accepted, judged-refused, known-limits}
+use borrow.Author.Needs.{needs}
+use Rattle.meaning.specs.Limits.{mostVariables, mostFeatures}
+use Rattle.meaning.specs.Workspace.{slotsAt}
+use Rattle.task.specs.Answer.{Known, judged-accepted, judged-refused, known-room}
 use Rattle.checking.specs.Answer.{room-zeros}
 use Rattle.checking.specs.Weigh.{task-refused}
-use borrow.Author.Needs.{needs}
 use Rattle.checking.proofs.check.Statement.{statement}
 use Rattle.checking.proofs.check.Tie as tie
 
 -- What is known of an accepted task.
 known : (c : tie.After-variables) → let told = c .variables .given .0 in
-    Known (c .before .before .before .before .before .before .before .args .task .now) (replicate 257 0) (c .before .before .before .judge .last .1 .0) (told .0) (told .1 .0) (told .1 .1 .0) (told .1 .1 .1 .0)
+    Known (c .before .before .before .before .before .before .before .args .task .now) (replicate (slotsAt mostVariables mostFeatures) 0) (c .before .before .before .judge .last .1 .0)
+    (told .0) (told .1 .0) (told .1 .1 .0) (told .1 .1 .1 .0)
 known c = judged-accepted _ _ _ _ _ _ _ _ (c .before .before .before .judge .ensures) (c .variables .given .1)
+
+-- The task for which words were counted.
+abbrev task : tie.After-words-for → tie.After-variables
+task c = c .before .before
 
 slice-aggregate-judge : tie.Need-slice-aggregate-judge
 slice-aggregate-judge c = search needs
@@ -23,23 +29,20 @@ judge-requires c κs = search needs
 enum-known-variables : tie.Need-enum-known-variables
 enum-known-variables c = search needs
 
-sub-w : tie.Need-sub-w
-sub-w c = search needs
-
-add-w : tie.Need-add-w
-add-w c = omega (arith, known-limits (known (c .before)) .1)
+words-for-requires : tie.Need-words-for-requires
+words-for-requires c κs = known-room (known (c .before)) .1
 
 slice-aggregate-weigh : tie.Need-slice-aggregate-weigh
 slice-aggregate-weigh c = search needs
 
 array-borrow-prefix-words : tie.Need-array-borrow-prefix-words
-array-borrow-prefix-words c = omega (arith, known-limits (known (c .before .before)) .1)
+array-borrow-prefix-words c = let counted = c .before in omega (arith, counted .words-for .ensures, known-room (known (task counted)) .1)
 
 slice-aggregate-weigh-2 : tie.Need-slice-aggregate-weigh-2
-slice-aggregate-weigh-2 c = simp length-take (omega (arith, known-limits (known (c .before .before .before)) .1))
+slice-aggregate-weigh-2 c = let counted = c .before .before in simp length-take (omega (arith, counted .words-for .ensures, known-room (known (task counted)) .1))
 
 weigh-requires : tie.Need-weigh-requires
-weigh-requires c κs = ((_, known (c .before .before .before)), room-zeros _ _ (known-limits (known (c .before .before .before)) .1) refl)
+weigh-requires c κs = let counted = c .before .before in let accepted = known (task counted) in ((_, accepted), room-zeros _ _ (known-room accepted .1) (counted .words-for .ensures))
 
 enum-known-reason : tie.Need-enum-known-reason
 enum-known-reason c = search needs
@@ -60,8 +63,7 @@ check-spec =
     slice-aggregate-judge
     judge-requires
     enum-known-variables
-    sub-w
-    add-w
+    words-for-requires
     slice-aggregate-weigh
     array-borrow-prefix-words
     slice-aggregate-weigh-2

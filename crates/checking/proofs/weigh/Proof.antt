@@ -1,21 +1,26 @@
 -- `weigh`: the parts of the header, the weights that were read, and the verdict on them.
-use Prim.Native.Nat.{_≤_}
+use mathlib.Core.Path.{_≡_}
+use mathlib.Core.List.{List}
 use native.Mathlib.Omega.{arith}
-use lib.ListN.{length}
-use Rattle.task.specs.Answer.{Cuts, known-limits, known-room}
-use Rattle.reader.specs.Answer.{reads-next, reads-fault}
-use Rattle.checking.specs.Weigh.{weights-refused, lent-ready, lent-checks}
 use borrow.Author.Needs.{needs}
+use Rattle.meaning.specs.Number.{got}
+use Rattle.meaning.specs.File.{judgedWeights}
+use Rattle.task.specs.Answer.{known-room}
+use Rattle.reader.specs.Answer.{featureWords, reads-next, reads-fault}
+use Rattle.checking.specs.Weigh.{weights-refused, lent-ready, lent-checks}
 use Rattle.checking.proofs.weigh.Statement.{statement}
 use Rattle.checking.proofs.weigh.Tie as tie
 
--- Where the parts of the header begin and end.
-cuts : (c : tie.After-slots-at) → let a = c .before .before .before .before .before .before .before .before .before .before .before .before .before .before .args in
-    Cuts (a .v) (a .n) (c .before .before .before .start-at .result) (c .before .before .goal-at .result) (c .before .pairs-at .result) (c .slots-at .result)
-cuts c = record { start-is = c .before .before .before .start-at .ensures; goal-is = c .before .before .goal-at .ensures; pairs-is = c .before .pairs-at .ensures; end-is = c .slots-at .ensures }
+-- Where the weights were read: what the call began with, and these weights.
+abbrev start : tie.After-enum-told → tie.Start
+start c = c .before .before .before .before .before .before .before .before .before .before
 
-room : (c : tie.After-slots-at) → c .slots-at .result ≤ length (c .before .before .before .before .before .before .before .before .before .before .before .before .before .before .args .header .now)
-room c = omega (arith, c .slots-at .ensures, known-room (c .before .before .before .before .before .before .before .before .before .before .before .before .before .before .pre .0 .1))
+weights : (c : tie.After-enum-told) → (ws : List _) × (judgedWeights (start c .args .n) (start c .args .weights .now) ≡ got ws (c .enum-told .given .0 .0))
+    × (c .before .before .before .before .read-weights .last .1 .1 .0 ≡ featureWords (start c .args .n) ws)
+weights c = reads-next _ _ _ _ _ (c .before .before .before .before .read-weights .ensures) (c .enum-told .given .1)
+
+abbrev read : tie.After-pairs → tie.After-enum-told
+read c = c .before .before .before .before
 
 read-weights-requires : tie.Need-read-weights-requires
 read-weights-requires c κs = search needs
@@ -23,65 +28,22 @@ read-weights-requires c κs = search needs
 enum-told : tie.Need-enum-told
 enum-told c = search needs
 
-start-at-requires : tie.Need-start-at-requires
-start-at-requires c κs = known-limits (c .before .before .before .before .before .before .before .before .before .before .pre .0 .1) .0
+sizes-requires : tie.Need-sizes-requires
+sizes-requires c κs = let room = known-room (start c .pre .0 .1) in (room .0, omega (arith, room .2))
 
-goal-at-requires : tie.Need-goal-at-requires
-goal-at-requires c κs = known-limits (c .before .before .before .before .before .before .before .before .before .before .before .pre .0 .1) .0
+start-requires : tie.Need-start-requires
+start-requires c κs = known-room (start (c .before) .pre .0 .1)
 
-pairs-at-requires : tie.Need-pairs-at-requires
-pairs-at-requires c κs = known-limits (c .before .before .before .before .before .before .before .before .before .before .before .before .pre .0 .1) .0
+goal-requires : tie.Need-goal-requires
+goal-requires c κs = known-room (start (c .before .before) .pre .0 .1)
 
-slots-at-requires : tie.Need-slots-at-requires
-slots-at-requires c κs = known-limits (c .before .before .before .before .before .before .before .before .before .before .before .before .before .pre .0 .1)
-
-sub-judge-weights : tie.Need-sub-judge-weights
-sub-judge-weights c = search needs
-
-part-judge-weights-start : tie.Need-part-judge-weights-start
-part-judge-weights-start c = search needs
-
-part-judge-weights-end : tie.Need-part-judge-weights-end
-part-judge-weights-end c = omega (arith, cuts (c) .start-is, cuts (c) .end-is, room (c))
-
-mul-judge-weights : tie.Need-mul-judge-weights
-mul-judge-weights c = search needs
-
-sub-judge-weights-2 : tie.Need-sub-judge-weights-2
-sub-judge-weights-2 c = search needs
-
-part-judge-weights-start-2 : tie.Need-part-judge-weights-start-2
-part-judge-weights-start-2 c = search needs
-
-part-judge-weights-end-2 : tie.Need-part-judge-weights-end-2
-part-judge-weights-end-2 c = omega (arith, cuts (c .before) .goal-is, cuts (c .before) .end-is, room (c .before))
-
-mul-judge-weights-2 : tie.Need-mul-judge-weights-2
-mul-judge-weights-2 c = search needs
-
-sub-judge-weights-3 : tie.Need-sub-judge-weights-3
-sub-judge-weights-3 c = search needs
-
-part-judge-weights-start-3 : tie.Need-part-judge-weights-start-3
-part-judge-weights-start-3 c = search needs
-
-part-judge-weights-end-3 : tie.Need-part-judge-weights-end-3
-part-judge-weights-end-3 c = omega (arith, cuts (c .before .before) .pairs-is, cuts (c .before .before) .end-is, room (c .before .before))
-
-mul-judge-weights-3 : tie.Need-mul-judge-weights-3
-mul-judge-weights-3 c = search needs
-
-sub-judge-weights-4 : tie.Need-sub-judge-weights-4
-sub-judge-weights-4 c = search needs
-
-part-judge-weights-start-4 : tie.Need-part-judge-weights-start-4
-part-judge-weights-start-4 c = search needs
-
-part-judge-weights-end-4 : tie.Need-part-judge-weights-end-4
-part-judge-weights-end-4 c = room (c .before .before .before)
+pairs-requires : tie.Need-pairs-requires
+pairs-requires c κs = known-room (start (c .before .before .before) .pre .0 .1)
 
 judge-weights-requires : tie.Need-judge-weights-requires
-judge-weights-requires c κs = let (ws, read, held) = reads-next _ _ _ _ _ (c .before .before .before .before .before .before .before .before .before .before .before .before .before .read-weights .ensures) (c .before .before .before .before .before .before .before .before .before .enum-told .given .1) in lent-ready _ _ _ _ _ _ _ (c .before .before .before .before .before .before .before .before .before .before .before .before .before .before .before .before .before .before .before .pre .0 .1) _ _ _ _ _ (cuts (c .before .before .before .before .before)) ws _ _ read held
+judge-weights-requires c κs = let lent = c .before in let (ws, said, held) = weights (read lent) in
+    lent-ready _ _ _ _ _ _ _ (start (read lent) .pre .0 .1) _ _ _ _ _ (lent .before .before .before .sizes .ensures) (lent .before .before .start .ensures) (lent .before .goal .ensures) (lent .pairs .ensures)
+    ws _ _ said held
 
 enum-known-reason : tie.Need-enum-known-reason
 enum-known-reason c = search needs
@@ -93,13 +55,16 @@ same-length : tie.Need-same-length
 same-length c = search needs
 
 returns : tie.Need-returns
-returns c = let (ws, read, held) = reads-next _ _ _ _ _ (c .before .before .before .before .before .before .before .before .before .before .before .before .before .before .read-weights .ensures) (c .before .before .before .before .before .before .before .before .before .before .enum-told .given .1) in lent-checks _ _ _ _ _ _ _ (c .before .before .before .before .before .before .before .before .before .before .before .before .before .before .before .before .before .before .before .before .pre .0 .1) _ _ _ _ _ (cuts (c .before .before .before .before .before .before)) ws _ _ read held _ (c .judge-weights .ensures)
+returns c = let lent = c .before .before in let (ws, said, held) = weights (read lent) in
+    lent-checks _ _ _ _ _ _ _ (start (read lent) .pre .0 .1) _ _ _ _ _ (lent .before .before .before .sizes .ensures) (lent .before .before .start .ensures) (lent .before .goal .ensures) (lent .pairs .ensures)
+    ws _ _ said held _ (c .judge-weights .ensures)
 
 same-length-2 : tie.Need-same-length-2
 same-length-2 c = search needs
 
 returns-2 : tie.Need-returns-2
-returns-2 c = weights-refused _ _ _ _ _ _ _ (c .before .before .before .before .before .before .before .before .before .before .before .before .pre .0 .1) _ _ _ (reads-fault _ _ _ _ _ _ (c .before .before .before .before .before .before .read-weights .ensures) (c .before .before .reason .given .1)) _ (c .refusal .ensures)
+returns-2 c = weights-refused _ _ _ _ _ _ _ (c .before .before .before .before .before .before .before .before .before .before .before .before .pre .0 .1) _ _ _
+    (reads-fault _ _ _ _ _ _ (c .before .before .before .before .before .before .read-weights .ensures) (c .before .before .reason .given .1)) _ (c .refusal .ensures)
 
 pub weigh-spec : {M : Type 1} → statement M
 weigh-spec =
@@ -107,25 +72,10 @@ weigh-spec =
     (tie.spec
     read-weights-requires
     enum-told
-    start-at-requires
-    goal-at-requires
-    pairs-at-requires
-    slots-at-requires
-    sub-judge-weights
-    part-judge-weights-start
-    part-judge-weights-end
-    mul-judge-weights
-    sub-judge-weights-2
-    part-judge-weights-start-2
-    part-judge-weights-end-2
-    mul-judge-weights-2
-    sub-judge-weights-3
-    part-judge-weights-start-3
-    part-judge-weights-end-3
-    mul-judge-weights-3
-    sub-judge-weights-4
-    part-judge-weights-start-4
-    part-judge-weights-end-4
+    sizes-requires
+    start-requires
+    goal-requires
+    pairs-requires
     judge-weights-requires
     enum-known-reason
     refusal-requires

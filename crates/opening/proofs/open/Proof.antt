@@ -1,20 +1,37 @@
 -- `open`: each answer of the judge by its law; the workspace that is begun holds the task's content with empty slots.
-use mathlib.Core.Path.{sym}
+use Prim.Native.Nat.{ℕ}
+use mathlib.Core.Path.{_≡_, sym}
+use mathlib.Core.List.{List}
 use native.Mathlib.Omega.{arith}
 use lib.ListN.{replicate, length-take}
 use lib.Seq.{length-take-le}
 use borrow.Author.Needs.{needs}
 use Rattle.meaning.specs.Limits.{mostVariables, mostFeatures}
-use Rattle.meaning.specs.Workspace.{slotsAt}
-use Rattle.task.specs.Answer.{Known, judged-accepted, judged-refused, known-limits}
+use Rattle.meaning.specs.Workspace.{slotsAt, wordsDue}
+use Rattle.layout.specs.Places.{places-are}
+use Rattle.task.specs.Answer.{Known, judged-accepted, judged-refused, known-room}
 use Rattle.opening.specs.Begin.{begun-workable, begun-added, opens-small, opens-done, opens-refused}
 use Rattle.opening.proofs.open.Statement.{statement}
 use Rattle.opening.proofs.open.Tie as tie
 
 -- What is known of a task that was accepted.
 known : (c : tie.After-variables) → let told = c .variables .given .0 in
-    Known (c .before .before .before .before .before .before .before .args .task .now) (replicate (slotsAt mostVariables mostFeatures) 0) (c .before .before .before .judge .last .1 .0) (told .0) (told .1 .0) (told .1 .1 .0) (told .1 .1 .1 .0)
+    Known (c .before .before .before .before .before .before .before .args .task .now) (replicate (slotsAt mostVariables mostFeatures) 0) (c .before .before .before .judge .last .1 .0)
+    (told .0) (told .1 .0) (told .1 .1 .0) (told .1 .1 .1 .0)
 known c = judged-accepted _ _ _ _ _ _ _ _ (c .before .before .before .judge .ensures) (c .variables .given .1)
+
+-- The task whose places were worked out, the room as it came, and the two places that are used.
+abbrev task : tie.After-places-for → tie.After-variables
+task p = p .before .before
+
+abbrev lent : tie.After-places-for → List ℕ
+lent p = task p .before .before .before .before .before .before .before .args .room .now
+
+due : (p : tie.After-places-for) → p .places-for .result .end ≡ wordsDue (task p .variables .given .0 .0) (task p .variables .given .0 .1 .0)
+due p = places-are _ _ _ (p .places-for .ensures) .4
+
+slots : (p : tie.After-places-for) → p .places-for .result .slots ≡ slotsAt (task p .variables .given .0 .0) (task p .variables .given .0 .1 .0)
+slots p = places-are _ _ _ (p .places-for .ensures) .3
 
 slice-aggregate-judge : tie.Need-slice-aggregate-judge
 slice-aggregate-judge c = search needs
@@ -25,29 +42,26 @@ judge-requires c κs = search needs
 enum-known-variables : tie.Need-enum-known-variables
 enum-known-variables c = search needs
 
-words-due-requires : tie.Need-words-due-requires
-words-due-requires c κs = known-limits (known (c .before))
+places-for-requires : tie.Need-places-for-requires
+places-for-requires c κs = let room = known-room (known (c .before)) in (room .0, room .1)
 
 refusal-requires : tie.Need-refusal-requires
 refusal-requires c κs = search needs
 
 returns : tie.Need-returns
-returns c = opens-small _ _ _ (c .before .before .before .before .before .before .before .before .before .before .before .args .room .now) _ _ _ _ (known (c .before .before .before .before)) _ _ (c .before .before .words-due .ensures) (c .before .if1 .taken) (c .refusal .ensures)
-
-slots-at-requires : tie.Need-slots-at-requires
-slots-at-requires c κs = known-limits (known (c .before .before .before))
+returns c = let p = c .before .before .before in opens-small _ _ _ (lent p) _ _ _ _ (known (task p)) _ _ (due p) (c .before .if1 .taken) (c .refusal .ensures)
 
 array-share-prefix-header : tie.Need-array-share-prefix-header
-array-share-prefix-header c = omega (arith, c .before .slots-at .ensures, known-limits (known (c .before .before .before .before .before)))
+array-share-prefix-header c = let p = c .before .before .before in let room = known-room (known (task p)) in omega (arith, slots p, room .0, room .1)
 
 slice-aggregate-begin : tie.Need-slice-aggregate-begin
-slice-aggregate-begin c = sym (length-take-le _ _ (omega (arith, c .before .before .slots-at .ensures, known-limits (known (c .before .before .before .before .before .before)))))
+slice-aggregate-begin c = let p = c .before .before .before .before in let room = known-room (known (task p)) in sym (length-take-le _ _ (omega (arith, slots p, room .0, room .1)))
 
 begin-requires : tie.Need-begin-requires
-begin-requires c κs = (simp length-take (omega (arith, c .before .before .before .before .words-due .ensures, c .before .before .slots-at .ensures)), c .before .before .before .if1 .left)
+begin-requires c κs = let p = c .before .before .before .before in (simp length-take (omega (arith, due p, slots p)), c .before .before .if1 .left)
 
 add-operators-requires : tie.Need-add-operators-requires
-add-operators-requires c κs = begun-workable _ _ _ (c .before .before .before .before .before .before .before .before .before .before .before .before .before .before .before .before .before .args .room .now) _ _ _ _ (known (c .before .before .before .before .before .before .before .before .before .before)) _ _ _ (c .before .before .before .before .before .before .before .before .words-due .ensures) (c .before .before .before .before .before .before .slots-at .ensures) (c .before .before .before .begin .ensures)
+add-operators-requires c κs = let p = c .before .before .before .before .before .before .before .before in begun-workable _ _ _ (lent p) _ _ _ _ (known (task p)) _ _ _ (due p) (slots p) (c .before .before .before .begin .ensures)
 
 enum-known-reason : tie.Need-enum-known-reason
 enum-known-reason c = search needs
@@ -59,9 +73,8 @@ same-length : tie.Need-same-length
 same-length c = search needs
 
 returns-2 : tie.Need-returns-2
-returns-2 c = let room = c .before .before .before .before .before .before .before .before .before .before .before .before .before .before .before .before .before .before .before .before .args .room .now in let task = known (c .before .before .before .before .before .before .before .before .before .before .before .before .before) in let due = c .before .before .before .before .before .before .before .before .before .before .before .words-due .ensures in
-    opens-done _ _ _ room _ _ _ _ task _ _ due (c .before .before .before .before .before .before .before .before .before .before .if1 .left)
-    (begun-added _ _ _ room _ _ _ _ task _ _ _ due (c .before .before .before .before .before .before .before .before .before .slots-at .ensures) (c .before .before .before .before .before .before .begin .ensures) _ (c .before .before .add-operators .ensures))
+returns-2 c = let p = c .before .before .before .before .before .before .before .before .before .before .before in opens-done _ _ _ (lent p) _ _ _ _ (known (task p)) _ _ (due p) (c .before .before .before .before .before .before .before .before .before .if1 .left)
+    (begun-added _ _ _ (lent p) _ _ _ _ (known (task p)) _ _ _ (due p) (slots p) (c .before .before .before .before .before .before .begin .ensures) _ (c .before .before .add-operators .ensures))
 
 returns-3 : tie.Need-returns-3
 returns-3 c = opens-refused _ (c .before .before .before .before .before .before .before .before .before .args .room .now) _ _ _ (judged-refused _ _ _ _ _ _ (c .before .before .before .before .before .judge .ensures) (c .before .before .reason .given .1)) (c .refusal2 .ensures)
@@ -73,10 +86,9 @@ open-spec =
     slice-aggregate-judge
     judge-requires
     enum-known-variables
-    words-due-requires
+    places-for-requires
     refusal-requires
     returns
-    slots-at-requires
     array-share-prefix-header
     slice-aggregate-begin
     begin-requires

@@ -1,25 +1,26 @@
 -- What is left of the ends' difference, by the parts of a workspace.
-use Prim.Native.Nat.{ℕ, _-_, _*_, _≤_}
+use Prim.Native.Nat.{ℕ, _*_, _≤_}
 use mathlib.Core.Path.{_≡_, ap, sym, _∙_, fun-ext, subst}
 use mathlib.Core.Bool.{false}
 use mathlib.Core.List.{List}
 use native.Mathlib.Omega.{arith}
-use lib.ListN.{length, take, drop}
+use lib.ListN.{length}
 use Rattle.meaning.specs.Sets.{Set}
 use Rattle.meaning.specs.Limits.{mostFeatures}
 use Rattle.meaning.specs.Task.{State}
 use Rattle.meaning.specs.Feature.{features}
 use Rattle.meaning.specs.Slot.{Reduced}
 use Rattle.meaning.specs.File.{InLimits}
-use Rattle.meaning.specs.Workspace.{has, packed, wordsFor, sizesAt, startAt, goalAt, pairsAt, slotsAt, wordsDue, Proper}
+use Rattle.meaning.specs.Workspace.{has, packed, wordsFor, Proper}
 use Rattle.theory.specs.Walk.{true-past}
 use Rattle.theory.specs.Words.{length-packed, packed-holds}
 use Rattle.theory.specs.Reduce.{red}
 use Rattle.theory.specs.Contents.{contentIn}
 use Rattle.theory.specs.Finder.{difference}
+use Rattle.layout.specs.Parts.{sizesPart, startPart, goalPart, slotsPart, Due}
 use Rattle.slots.specs.Area.{slotsIn}
 use Rattle.slots.specs.Reducing.{red-past}
-use Rattle.formed.specs.Parts.{contentFrom, Cut, Sized, sized-content, lent-content, lent-cut}
+use Rattle.formed.specs.Parts.{contentFrom, Cut, Sized, sized-content, sized-cut}
 
 -- What a search stands on: sizes within their limits, of n features, two states and n slots in reduced shape.
 pub record Searched (sizes start goal area : List ℕ) (n : ℕ) : Type 0 where
@@ -41,15 +42,9 @@ cut-searched cut p = record {
   words = cut .slots;
 }
 
--- The parts of a workspace as they are lent, from one place to the next, make its content.
-module _ (ws : List ℕ) (v n : ℕ) (s : Sized ws v n) where
-  pub lent-is : contentFrom (take (startAt v - sizesAt) (drop sizesAt ws)) (take (goalAt v - startAt v) (drop (startAt v) ws)) (take (pairsAt v - goalAt v) (drop (goalAt v) ws))
-      (take (slotsAt v n - pairsAt v) (drop (pairsAt v) ws)) (take (wordsDue v n - slotsAt v n) (drop (slotsAt v n) ws)) ≡ contentIn ws
-  lent-is = lent-content ws v n ∙ sized-content ws v n s
-
-  pub lent-searched : wordsDue v n ≤ length ws → Proper (contentIn ws) → Searched (take (startAt v - sizesAt) (drop sizesAt ws)) (take (goalAt v - startAt v) (drop (startAt v) ws))
-      (take (pairsAt v - goalAt v) (drop (goalAt v) ws)) (take (wordsDue v n - slotsAt v n) (drop (slotsAt v n) ws)) n
-  lent-searched due p = cut-searched (lent-cut ws v n s due) (subst Proper (sym lent-is) p)
+-- So are those of a workspace with a proper content.
+pub sized-searched : (ws : List ℕ) (v n : ℕ) → Sized ws v n → Due v n ws → Proper (contentIn ws) → Searched (sizesPart v ws) (startPart v ws) (goalPart v ws) (slotsPart v n ws) n
+sized-searched ws v n s due p = cut-searched (sized-cut ws v n s (due .words)) (subst Proper (sym (sized-content ws v n s)) p)
 
 -- What is left of the ends' difference once it is reduced by the slots.
 unfoldable pub leftIn : List ℕ → List ℕ → List ℕ → List ℕ → ℕ → Set

@@ -1,17 +1,16 @@
 // The finder: the least weights that separate a workspace's start from its goal, or that there are none.
 use formed::Formed;
 use limits::MOST_WORDS;
-use limits::SIZES_AT;
 use number::Reason;
-use words::WORD_BITS;
 ghost use mathlib.Core.Path.{_≡_};
 ghost use Prim.Native.Nat.{_≤_};
 ghost use lib.Dec.{ltb};
 ghost use lib.ListN.{length, replicate};
-ghost use Rattle.meaning.specs.Workspace.{wordsFor, wordsDue, Proper};
+ghost use Rattle.meaning.specs.Workspace.{wordsFor, Proper};
 ghost use Rattle.meaning.specs.Answer.{done, FindsIn, Finds};
 ghost use Rattle.theory.specs.Contents.{contentIn};
 ghost use Rattle.theory.specs.Slots.{lead};
+ghost use Rattle.layout.specs.Parts.{Due};
 ghost use Rattle.slots.specs.Area.{slotsIn};
 ghost use Rattle.slots.specs.Find.{found};
 ghost use Rattle.formed.specs.Parts.{Sized};
@@ -46,21 +45,16 @@ fn search(
 
 // Finds in a workspace of v variables and n features, where the room is large enough.
 fn find_in(workspace: &[u64], v: usize, n: usize, room: &mut [u64]) -> bool
-    requires { ⌜ Sized (now workspace) v n × (wordsDue v n ≤ length (now workspace)) × Proper (contentIn (now workspace)) × (wordsFor n ≤ length (now room)) ⌝ }
+    requires { ⌜ Sized (now workspace) v n × Due v n (now workspace) × Proper (contentIn (now workspace)) × (wordsFor n ≤ length (now room)) ⌝ }
     ensures { λ r. ⌜ FindsIn (contentIn (now (workspace .entry))) (now (room .entry)) (record { answer = done (findingOf r); lent = now (room .exit) }) ⌝ }
 {
-    let w = (n + (WORD_BITS - 1)) / WORD_BITS;
-    let start = SIZES_AT + v;
-    let goal = start + v;
-    let pairs = goal + v;
-    let slots = pairs + w;
-    let end = slots + n * w;
+    let w = layout::words_for(n);
     let mut row = [0u64; MOST_WORDS];
     search(
-        &workspace[SIZES_AT..start],
-        &workspace[start..goal],
-        &workspace[goal..pairs],
-        &workspace[slots..end],
+        layout::sizes(workspace, v),
+        layout::start(workspace, v, n),
+        layout::goal(workspace, v, n),
+        layout::slots(workspace, v, n),
         n,
         &mut row[..w],
         room,
@@ -76,7 +70,7 @@ pub fn find(workspace: &[u64], room: &mut [u64]) -> Found
             variables,
             features,
         } => {
-            if room.len() < (features + (WORD_BITS - 1)) / WORD_BITS {
+            if room.len() < layout::words_for(features) {
                 return Found::Refused(number::refusal(Reason::Small));
             }
             if find_in(workspace, variables, features, room) {

@@ -1,31 +1,41 @@
 // One operator's condition: whether weights allow it, and its rows inserted into a workspace's slots. The difference of two states.
+use limits::ATOM_WORDS;
 use limits::MOST_VARIABLES;
 use limits::MOST_WORDS;
+use limits::SIZES_AT;
 use rows::Place;
 ghost use mathlib.Core.Path.{_≡_};
 ghost use mathlib.Core.Bool.{true, false};
+ghost use mathlib.Core.List.{List};
 ghost use Prim.Native.Nat.{ℕ, _*_, _<_, _≤_};
 ghost use lib.ListN.{length, replicate};
 ghost use Rattle.meaning.specs.Sets.{Set};
-ghost use Rattle.meaning.specs.Limits.{wordBits, mostFeatures};
-ghost use Rattle.meaning.specs.Slot.{Reduced};
+ghost use Rattle.meaning.specs.Limits.{wordBits};
 ghost use Rattle.meaning.specs.Task.{State, applies, size};
 ghost use Rattle.meaning.specs.Feature.{atoms, features};
 ghost use Rattle.meaning.specs.File.{InLimits};
 ghost use Rattle.meaning.specs.Pair.{idle};
-ghost use Rattle.meaning.specs.Workspace.{wordsFor, wordsDue, has, packed};
+ghost use Rattle.meaning.specs.Workspace.{wordsFor, has, packed};
 ghost use Rattle.theory.specs.Slices.{entriesIn, Given};
-ghost use Rattle.theory.specs.Rows.{change, base, rowsOf, allowed};
-ghost use Rattle.theory.specs.Insert.{insert};
+ghost use Rattle.theory.specs.Contents.{slotWords};
+ghost use Rattle.theory.specs.Rows.{base, rowsOf, allowed};
 ghost use Rattle.theory.specs.InsertAll.{insertAll};
 ghost use Rattle.theory.specs.Finder.{difference};
 ghost use Rattle.pairs.specs.Ready.{Ready, HoldsPossible};
 ghost use Rattle.words.specs.Toggled.{toggledAll};
 ghost use Rattle.rows.specs.Moves.{Room};
-ghost use Rattle.rows.specs.Apart.{wantedBy, wantedFrom, placesFrom};
+ghost use Rattle.slots.specs.Area.{slotsIn};
+ghost use Rattle.layout.specs.Parts.{sizesPart, pairsPart};
 ghost use Rattle.condition.specs.Ends.{trueAtoms, truePairsOf, truePairs, trueFeatures};
-ghost use Rattle.condition.specs.Walk.{Prepared, RowFor, rowAt, rowsBy, allEven};
-ghost use Rattle.condition.specs.Slotted.{sizeWords, pairWords, heldSlots, slotted, Opened};
+ghost use Rattle.condition.specs.Walk.{Prepared, Walked, rowsBy, rowsAfter, allEven};
+ghost use Rattle.condition.specs.Slotted.{heldSlots, slotted, Filled, Opened};
+
+// A walk over an operator's rows: whether a row is at hand, and from which value of which variable on the next one is looked for.
+struct Walk {
+    more: bool,
+    variable: usize,
+    value: usize,
+}
 
 // Toggles the atoms of a state.
 fn toggle_atoms(sizes: &[u64], state: &[u64], row: &mut [u64])
@@ -102,7 +112,7 @@ fn prepare(
     pairs::is_idle(sizes, pairs, variables, befores, afters, possible)
 }
 
-// The first row: the change at the base state.
+// Begins the walk: the first row is the change at the base state.
 fn first_row(
     sizes: &[u64],
     variables: &[usize],
@@ -110,16 +120,22 @@ fn first_row(
     afters: &[usize],
     state: &[usize],
     row: &mut [u64],
-)
+) -> Walk
     requires { ⌜ Given (now sizes) (now variables) (now befores) (now afters) × State (now sizes) (now state)
         × (applies (entriesIn (now variables) (now befores) (now afters)) (now state) ≡ true) × (length (now row) ≡ wordsFor (features (now sizes))) ⌝ }
-    ensures { λ r. ⌜ now (row .exit) ≡ packed (features (now (sizes .entry))) (change (now (sizes .entry)) (entriesIn (now (variables .entry)) (now (befores .entry)) (now (afters .entry))) (now (state .entry))) ⌝ }
+    ensures { λ r. ⌜ ((possible : List ℕ) → Walked (now (sizes .entry)) (entriesIn (now (variables .entry)) (now (befores .entry)) (now (afters .entry))) possible (now (state .entry))
+        (now (row .exit)) r (rowsBy (now (sizes .entry)) (entriesIn (now (variables .entry)) (now (befores .entry)) (now (afters .entry))) possible (now (state .entry)))) ⌝ }
 {
     words::clear(row);
     rows::base_row(sizes, variables, befores, afters, state, row);
+    Walk {
+        more: true,
+        variable: 0,
+        value: 0,
+    }
 }
 
-// The next row, from value y of variable u on, and its place; the row stays where there is none.
+// Goes on to the next row; the row stays as it is where there is none.
 fn next_row(
     sizes: &[u64],
     variables: &[usize],
@@ -127,24 +143,32 @@ fn next_row(
     afters: &[usize],
     possible: &[u64],
     state: &[usize],
-    u: usize,
-    y: usize,
+    walk: Walk,
     row: &mut [u64],
-) -> Place
-    requires { ⌜ ((pairs : Set) × Prepared (now sizes) pairs (now variables) (now befores) (now afters) (now possible) (now state)) × (y ≤ size (now sizes) u)
+) -> Walk
+    requires { ⌜ ((pairs : Set) × Prepared (now sizes) pairs (now variables) (now befores) (now afters) (now possible) (now state)) × (walk .value ≤ size (now sizes) (walk .variable))
         × (length (now row) ≡ wordsFor (features (now sizes))) ⌝ }
-    ensures { λ r. ⌜ (wantedFrom (now (sizes .entry)) (wantedBy (now (sizes .entry)) (has (now (possible .entry))) (now (state .entry))) u y
-        ≡ placesFrom (now (sizes .entry)) (wantedBy (now (sizes .entry)) (has (now (possible .entry))) (now (state .entry))) r)
-        × (now (row .exit) ≡ rowAt (now (sizes .entry)) (entriesIn (now (variables .entry)) (now (befores .entry)) (now (afters .entry))) (now (state .entry)) r (now (row .entry))) ⌝ }
+    ensures { λ r. ⌜ Walked (now (sizes .entry)) (entriesIn (now (variables .entry)) (now (befores .entry)) (now (afters .entry))) (now (possible .entry)) (now (state .entry))
+        (now (row .exit)) r (rowsAfter (now (sizes .entry)) (entriesIn (now (variables .entry)) (now (befores .entry)) (now (afters .entry))) (now (possible .entry)) (now (state .entry)) walk) ⌝ }
 {
+    let u = walk.variable;
+    let y = walk.value;
     let place = rows::next_apart(sizes, possible, state, u, y);
     match place {
         Place::At(i, x) => {
             words::clear(row);
             rows::apart_row(sizes, variables, befores, afters, state, i, x, row);
-            return Place::At(i, x);
+            return Walk {
+                more: true,
+                variable: i,
+                value: x + 1,
+            };
         }
-        Place::Done => return Place::Done,
+        Place::Done => return Walk {
+            more: false,
+            variable: u,
+            value: y,
+        },
     }
 }
 
@@ -165,32 +189,23 @@ fn all_even(
     ensures { λ r. ⌜ r ≡ allEven (features (now (sizes .entry))) (has (now (weights .entry)))
         (rowsBy (now (sizes .entry)) (entriesIn (now (variables .entry)) (now (befores .entry)) (now (afters .entry))) (now (possible .entry)) (now (state .entry))) ⌝ }
 {
-    first_row(sizes, variables, befores, afters, state, row);
-    let mut u = 0;
-    let mut y = 0;
-    loop {
+    let mut walk = first_row(sizes, variables, befores, afters, state, row);
+    while walk.more {
         if words::odd_shared(weights, row) {
             return false;
         }
-        let place = next_row(
+        walk = next_row(
             sizes,
             variables,
             befores,
             afters,
             possible,
             state,
-            u,
-            y,
+            walk,
             row,
         );
-        match place {
-            Place::At(i, x) => {
-                u = i;
-                y = x + 1;
-            }
-            Place::Done => return true,
-        }
     }
+    true
 }
 
 // Whether the weights meet the operator's rows evenly; an idle one has none. The table, the base state and the row have their room here.
@@ -240,7 +255,7 @@ pub fn is_allowed(
 {
     let v = sizes.len();
     let w = weights.len();
-    let mut possible = [0u64; MOST_WORDS];
+    let mut possible = [0u64; ATOM_WORDS];
     let mut state = [0usize; MOST_VARIABLES];
     let mut row = [0u64; MOST_WORDS];
     meets_rows(
@@ -250,68 +265,47 @@ pub fn is_allowed(
         befores,
         afters,
         weights,
-        &mut possible[..w],
+        &mut possible,
         &mut state[..v],
         &mut row[..w],
     )
 }
 
-// Inserts a row into the slots of a workspace: only the slot area, which starts inside the workspace, is lent for writing. The row is spent.
-fn insert_row(workspace: &mut [u64], v: usize, n: usize, row: &mut [u64])
-    requires { ⌜ (wordsDue v n ≤ length (now workspace)) × Reduced n (heldSlots v n (now workspace)) × RowFor n (now row) × (n ≤ mostFeatures) ⌝ }
-    ensures { λ r. ⌜ now (workspace .exit) ≡ slotted v n (now (workspace .entry)) (insert n (heldSlots v n (now (workspace .entry))) (has (now (row .entry)))) ⌝ }
-{
-    let w = row.len();
-    let start = 1 + 3 * v + w;
-    let end = start + n * w;
-    slots::insert(&mut workspace[start..end], n, row);
-}
-
-// Inserts each row, from the first to the last.
+// Inserts each row into an area of n slots, from the first to the last.
 fn insert_rows(
-    workspace: &mut [u64],
-    v: usize,
-    n: usize,
+    sizes: &[u64],
     variables: &[usize],
     befores: &[usize],
     afters: &[usize],
     possible: &[u64],
     state: &[usize],
+    area: &mut [u64],
+    n: usize,
     row: &mut [u64],
 )
-    requires { ⌜ Opened v n (now workspace) (now variables) (now befores) (now afters)
-        × ((pairs : Set) × Prepared (sizeWords v (now workspace)) pairs (now variables) (now befores) (now afters) (now possible) (now state)) × (length (now row) ≡ wordsFor n) ⌝ }
-    ensures { λ r. ⌜ now (workspace .exit) ≡ slotted v n (now (workspace .entry)) (insertAll n (heldSlots v n (now (workspace .entry)))
-        (rowsBy (sizeWords v (now (workspace .entry))) (entriesIn (now (variables .entry)) (now (befores .entry)) (now (afters .entry))) (now (possible .entry)) (now (state .entry)))) ⌝ }
+    requires { ⌜ ((pairs : Set) × Prepared (now sizes) pairs (now variables) (now befores) (now afters) (now possible) (now state))
+        × (n ≡ features (now sizes)) × Filled n (now area) × (length (now row) ≡ wordsFor (features (now sizes))) ⌝ }
+    ensures { λ r. ⌜ now (area .exit) ≡ slotWords n (insertAll n (slotsIn n (now (area .entry)))
+        (rowsBy (now (sizes .entry)) (entriesIn (now (variables .entry)) (now (befores .entry)) (now (afters .entry))) (now (possible .entry)) (now (state .entry)))) ⌝ }
 {
-    let end = 1 + v;
-    first_row(&workspace[1..end], variables, befores, afters, state, row);
-    let mut u = 0;
-    let mut y = 0;
-    loop {
-        insert_row(workspace, v, n, row);
-        let place = next_row(
-            &workspace[1..end],
+    let mut walk = first_row(sizes, variables, befores, afters, state, row);
+    while walk.more {
+        slots::insert(area, n, row);
+        walk = next_row(
+            sizes,
             variables,
             befores,
             afters,
             possible,
             state,
-            u,
-            y,
+            walk,
             row,
         );
-        match place {
-            Place::At(i, x) => {
-                u = i;
-                y = x + 1;
-            }
-            Place::Done => return,
-        }
     }
 }
 
-// Inserts the operator's rows; an idle one has none. The table, the base state and the row have their room here.
+// Inserts the operator's rows; an idle one has none. The sizes are copied, so that only the slot area, which starts inside the workspace, is lent for writing. The
+// sizes, the table, the base state and the row have their room here.
 fn insert_condition(
     workspace: &mut [u64],
     v: usize,
@@ -319,22 +313,25 @@ fn insert_condition(
     variables: &[usize],
     befores: &[usize],
     afters: &[usize],
+    sizes: &mut [u64],
     possible: &mut [u64],
     state: &mut [usize],
     row: &mut [u64],
 )
-    requires { ⌜ Opened v n (now workspace) (now variables) (now befores) (now afters)
-        × (length (now possible) ≡ wordsFor n) × (length (now state) ≡ v) × (length (now row) ≡ wordsFor n) ⌝ }
+    requires { ⌜ Opened v n (now workspace) (now variables) (now befores) (now afters) × (length (now sizes) ≡ v)
+        × (atoms (sizesPart v (now workspace)) ≤ wordBits * length (now possible)) × (length (now state) ≡ v) × (length (now row) ≡ wordsFor n) ⌝ }
     ensures { λ r. ⌜ now (workspace .exit) ≡ slotted v n (now (workspace .entry)) (insertAll n (heldSlots v n (now (workspace .entry)))
-        (rowsOf (sizeWords v (now (workspace .entry))) (has (pairWords v n (now (workspace .entry)))) (entriesIn (now (variables .entry)) (now (befores .entry)) (now (afters .entry))))) ⌝ }
+        (rowsOf (sizesPart v (now (workspace .entry))) (has (pairsPart v n (now (workspace .entry)))) (entriesIn (now (variables .entry)) (now (befores .entry)) (now (afters .entry))))) ⌝ }
 {
-    let w = row.len();
-    let end = 1 + v;
-    let start = 1 + 3 * v;
-    let stop = start + w;
+    let places = layout::places_for(v, n);
+    let start = places.start;
+    let pairs = places.pairs;
+    let slots = places.slots;
+    let end = places.end;
+    words::copy(sizes, &workspace[SIZES_AT..start]);
     if prepare(
-        &workspace[1..end],
-        &workspace[start..stop],
+        sizes,
+        &workspace[pairs..slots],
         variables,
         befores,
         afters,
@@ -344,14 +341,14 @@ fn insert_condition(
         return;
     }
     insert_rows(
-        workspace,
-        v,
-        n,
+        sizes,
         variables,
         befores,
         afters,
         possible,
         state,
+        &mut workspace[slots..end],
+        n,
         row,
     );
 }
@@ -367,10 +364,11 @@ pub fn add_rows(
 )
     requires { ⌜ Opened v n (now workspace) (now variables) (now befores) (now afters) ⌝ }
     ensures { λ r. ⌜ now (workspace .exit) ≡ slotted v n (now (workspace .entry)) (insertAll n (heldSlots v n (now (workspace .entry)))
-        (rowsOf (sizeWords v (now (workspace .entry))) (has (pairWords v n (now (workspace .entry)))) (entriesIn (now (variables .entry)) (now (befores .entry)) (now (afters .entry))))) ⌝ }
+        (rowsOf (sizesPart v (now (workspace .entry))) (has (pairsPart v n (now (workspace .entry)))) (entriesIn (now (variables .entry)) (now (befores .entry)) (now (afters .entry))))) ⌝ }
 {
-    let w = (n + (words::WORD_BITS - 1)) / words::WORD_BITS;
-    let mut possible = [0u64; MOST_WORDS];
+    let w = layout::words_for(n);
+    let mut sizes = [0u64; MOST_VARIABLES];
+    let mut possible = [0u64; ATOM_WORDS];
     let mut state = [0usize; MOST_VARIABLES];
     let mut row = [0u64; MOST_WORDS];
     insert_condition(
@@ -380,7 +378,8 @@ pub fn add_rows(
         variables,
         befores,
         afters,
-        &mut possible[..w],
+        &mut sizes[..v],
+        &mut possible,
         &mut state[..v],
         &mut row[..w],
     );

@@ -1,59 +1,56 @@
--- `add_rows`: the local arrays have room for the table, the base state and a row.
+-- `add_rows`: the local arrays have room for the sizes, the table (`atoms-most`), the base state and a row.
+use Prim.Native.Nat.{_≤_}
 use native.Mathlib.Omega.{arith}
 use lib.ListN.{length-take}
 use borrow.Author.Needs.{needs}
+use Rattle.meaning.specs.Limits.{mostVariables, mostFeatures}
+use Rattle.numbering.specs.Sizes.{atoms-most}
+use Rattle.layout.specs.Parts.{sizesPart}
 use Rattle.condition.specs.Slotted.{length-sizes}
 use Rattle.condition.proofs.add_rows.Statement.{statement}
 use Rattle.condition.proofs.add_rows.Tie as tie
 
-sub-w : tie.Need-sub-w
-sub-w c = search needs
+-- What the call began with, where the last array is lent.
+abbrev start : tie.After-row → tie.Start
+start c = c .before .before .before .before .before .before .before .before .before .before
 
-add-w : tie.Need-add-w
-add-w c = search needs
+few : (s : tie.Start) → s .args .v ≤ mostVariables
+few s = omega (arith, length-sizes (s .args .v) (s .args .n) (s .args .workspace .now) (s .pre .due), s .pre .ready .limits .variables)
 
-array-borrow-prefix-possible : tie.Need-array-borrow-prefix-possible
-array-borrow-prefix-possible c = search needs
+small : (s : tie.Start) → s .args .n ≤ mostFeatures
+small s = omega (arith, s .pre .counted, s .pre .ready .limits .total)
+
+words-for-requires : tie.Need-words-for-requires
+words-for-requires c κs = search needs
+
+array-borrow-prefix-sizes : tie.Need-array-borrow-prefix-sizes
+array-borrow-prefix-sizes c = omega (arith, few (c .before .before .before .before .before .before))
 
 slice-aggregate-insert-condition : tie.Need-slice-aggregate-insert-condition
-slice-aggregate-insert-condition c = simp length-take (omega (
-  arith,
-  c .before .before .before .before .before .before .pre .counted,
-  c .before .before .before .before .before .before .pre .ready .limits .total,
-))
-
-array-borrow-prefix-state : tie.Need-array-borrow-prefix-state
-array-borrow-prefix-state c = let s = c .before .before .before .before .before .before in
-    omega (arith, length-sizes (s .args .v) (s .args .n) (s .args .workspace .now) (s .pre .due), s .pre .ready .limits .variables)
+slice-aggregate-insert-condition c = simp length-take (omega (arith, few (c .before .before .before .before .before .before .before)))
 
 slice-aggregate-insert-condition-2 : tie.Need-slice-aggregate-insert-condition-2
-slice-aggregate-insert-condition-2 c = let s = c .before .before .before .before .before .before .before in
-    simp length-take (omega (arith, length-sizes (s .args .v) (s .args .n) (s .args .workspace .now) (s .pre .due), s .pre .ready .limits .variables))
+slice-aggregate-insert-condition-2 c = search needs
+
+array-borrow-prefix-state : tie.Need-array-borrow-prefix-state
+array-borrow-prefix-state c = omega (arith, few (c .before .before .before .before .before .before .before .before))
+
+slice-aggregate-insert-condition-3 : tie.Need-slice-aggregate-insert-condition-3
+slice-aggregate-insert-condition-3 c = simp length-take (omega (arith, few (c .before .before .before .before .before .before .before .before .before)))
 
 array-borrow-prefix-row : tie.Need-array-borrow-prefix-row
 array-borrow-prefix-row c = search needs
 
-slice-aggregate-insert-condition-3 : tie.Need-slice-aggregate-insert-condition-3
-slice-aggregate-insert-condition-3 c = simp length-take (omega (
-  arith,
-  c .before .before .before .before .before .before .before .before .pre .counted,
-  c .before .before .before .before .before .before .before .before .pre .ready .limits .total,
-))
+slice-aggregate-insert-condition-4 : tie.Need-slice-aggregate-insert-condition-4
+slice-aggregate-insert-condition-4 c = simp length-take (omega (arith, c .before .before .before .before .before .words-for .ensures, small (start c)))
 
 insert-condition-requires : tie.Need-insert-condition-requires
-insert-condition-requires c κs = let s = c .before .before .before .before .before .before .before .before in let o = s .pre in (
-  o,
-  simp length-take (omega (arith, o .counted, o .ready .limits .total)),
-  simp length-take (omega (
-    arith,
-    length-sizes (s .args .v) (s .args .n) (s .args .workspace .now) (o .due),
-    o .ready .limits .variables,
-  )),
-  simp length-take (omega (
-    arith,
-    o .counted,
-    o .ready .limits .total,
-  )),
+insert-condition-requires c κs = let s = start c in (
+  s .pre,
+  simp length-take (omega (arith, few s)),
+  omega (arith, atoms-most (sizesPart (s .args .v) (s .args .workspace .now)) (s .pre .ready .limits)),
+  simp length-take (omega (arith, few s)),
+  simp length-take (omega (arith, c .before .before .before .before .before .words-for .ensures, small s)),
 )
 
 same-length : tie.Need-same-length
@@ -66,14 +63,14 @@ pub add-rows-spec : {M : Type 1} → statement M
 add-rows-spec =
     tie.close
     (tie.spec
-    sub-w
-    add-w
-    array-borrow-prefix-possible
+    words-for-requires
+    array-borrow-prefix-sizes
     slice-aggregate-insert-condition
-    array-borrow-prefix-state
     slice-aggregate-insert-condition-2
-    array-borrow-prefix-row
+    array-borrow-prefix-state
     slice-aggregate-insert-condition-3
+    array-borrow-prefix-row
+    slice-aggregate-insert-condition-4
     insert-condition-requires
     same-length
     returns)

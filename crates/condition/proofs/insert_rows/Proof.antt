@@ -1,172 +1,65 @@
--- `insert_rows`: inserting all rows into the first slots is inserting the row at hand and those after it into the present ones (`Inserting`).
-use Prim.Native.Nat.{_≤_}
-use mathlib.Core.Path.{ap}
+-- `insert_rows`: inserting all rows into the first slots is inserting those that the walk has left into the present ones (`Inserting`).
+use mathlib.Core.Path.{refl, sym, ap, _∙_}
+use mathlib.Core.List.{List}
 use native.Mathlib.Omega.{arith}
 use lib.ListN.{length}
-use borrow.Author.Needs.{needs}
-use Rattle.meaning.specs.Task.{size}
-use Rattle.meaning.specs.Workspace.{has}
+use Rattle.meaning.specs.Sets.{Set}
+use Rattle.meaning.specs.Workspace.{wordsFor}
 use Rattle.theory.specs.Slices.{entriesIn}
-use Rattle.rows.specs.Apart.{wantedBy, wantedFrom}
-use Rattle.condition.specs.Walk.{RowFor, rowsBy, rowsFrom, base-state, base-applies, place-ready, first-for, rows-first, next-for, rows-next, rows-done}
-use Rattle.condition.specs.Slotted.{sizeWords, sizes-part, Inserting, inserting-start, inserting-long, inserting-turn, turn-sizes, inserting-done}
+use Rattle.slots.specs.Area.{slotsIn}
+use Rattle.condition.specs.Walk.{Walked, rowsBy, rowsLeft, walked-row, walked-none, walked-less, base-state, base-applies}
+use Rattle.condition.specs.Slotted.{filled-long, Inserting, inserting-turn, inserting-done}
 use Rattle.condition.proofs.insert_rows.Statement.{statement}
 use Rattle.condition.proofs.insert_rows.Tie as tie
 
 abbrev Inv-loop : tie.InvT-loop
-Inv-loop workspace₀ v n variables befores afters possible state row₀ end u₀ y₀ workspace row u y = RowFor n row × (y ≤ size (sizeWords v workspace₀) u) × Inserting v n workspace₀
-    (rowsBy (sizeWords v workspace₀) (entriesIn variables befores afters) possible state) workspace (rowsFrom (sizeWords v workspace₀)
-    (entriesIn variables befores afters) possible state row u y)
+Inv-loop sizes variables befores afters possible state area₀ n row₀ walk₀ area row walk =
+    (left : List Set) × Walked sizes (entriesIn variables befores afters) possible state row walk left
+    × Inserting n (slotsIn n area₀) (rowsBy sizes (entriesIn variables befores afters) possible state) area left
 
 abbrev μ-loop : tie.MeasureT-loop
-μ-loop workspace₀ v n variables befores afters possible state row₀ end u₀ y₀ workspace row u y = length (wantedFrom (sizeWords v workspace₀) (wantedBy (sizeWords v workspace₀)
-    (has possible) state) u y)
+μ-loop sizes variables befores afters possible state area₀ n row₀ walk₀ area row walk = length (rowsLeft sizes (entriesIn variables befores afters) possible state row walk)
 
-add-end : tie.Need-add-end Inv-loop μ-loop
-add-end c = omega (arith, c .before .before .before .before .before .before .before .pre .0 .due)
+-- At a turn: what the call began with, and where the turn began.
+abbrev start : tie.At-loop Inv-loop μ-loop → tie.Start Inv-loop μ-loop
+start c = c .before .before .before .before .before .before .before .before .before .before .before .before .before
 
-sub-first-row : tie.Need-sub-first-row Inv-loop μ-loop
-sub-first-row c = omega arith
-
-part-first-row-start : tie.Need-part-first-row-start Inv-loop μ-loop
-part-first-row-start c = omega (arith, c .before .before .before .before .before .before .before .before .pre .0 .due)
-
-part-first-row-end : tie.Need-part-first-row-end Inv-loop μ-loop
-part-first-row-end c = omega (arith, c .before .before .before .before .before .before .before .before .pre .0 .due)
+abbrev turn : tie.After-next-row Inv-loop μ-loop → tie.At-loop Inv-loop μ-loop
+turn c = c .before .before .before .before .before .before .before .before .before .before
 
 first-row-requires : tie.Need-first-row-requires Inv-loop μ-loop
-first-row-requires c κs = let h = c .before .before .before .before .before .before .before .before .before .before .pre .1 .1 in
-    rw (sizes-part (c .before .before .before .before .before .before .before .before .before .before .args .v)
-    (c .before .before .before .before .before .before .before .before .before .before .args .workspace .now)) (
-      h .given,
-      base-state h,
-      base-applies h,
-      omega (
-        arith,
-        c .before .before .before .before .before .before .before .before .before .before .pre .2,
-        c .before .before .before .before .before .before .before .before .before .before .pre .0 .counted,
-      ),
-    )
+first-row-requires c κs = let p = c .before .before .before .before .before .before .before .before .before .pre in let h = p .0 .1 in (h .given, base-state h, base-applies h, p .3)
 
 loop-holds : tie.Need-loop-holds Inv-loop μ-loop
-loop-holds c = let o = c .before .before .before .before .before .before .before .before .before .before .before .before .before .pre .0 in
-    let h = c .before .before .before .before .before .before .before .before .before .before .before .before .before .pre .1 .1 in
-    let r = rw (sizes-part (c .before .before .before .before .before .before .before .before .before .before .before .before .before .args .v)
-    (c .before .before .before .before .before .before .before .before .before .before .before .before .before .args .workspace .now)) at
-    (c .before .before .first-row .ensures) in
-    (rw (o .counted) (first-for h _ r), omega arith, inserting-start _ _ _ _ (o .due) _ (o .reduced) (o .filled) (rows-first h _ r))
+loop-holds c = (_, c .before .before .first-row .ensures _, record { filled = c .before .before .before .before .before .before .before .before .before .before .before .before .pre .2; rest = refl })
 
-insert-row-requires : tie.Need-insert-row-requires Inv-loop μ-loop
-insert-row-requires c κs = let o = c .before .before .before .before .before .before .before .before .before .before .before .before .before .before .before .before .pre .0 in
-    let inv = c .before .before .loop .inv in
-    (omega (arith, o .due, inserting-long _ _ _ _ (o .due) _ _ (inv .2)), inv .2 .shape, inv .0, omega (arith, o .counted, o .ready .limits .total))
-
-sub-next-row : tie.Need-sub-next-row Inv-loop μ-loop
-sub-next-row c = omega arith
-
-part-next-row-start : tie.Need-part-next-row-start Inv-loop μ-loop
-part-next-row-start c = let o = c .before .before .before .before .before .before .before .before .before .before .before .before .before .before .before .before .before
-    .before .before .before .before .before .pre .0 in
-    omega (
-      arith,
-      o .due,
-      c .before .before .before .before .before .insert-row,
-      inserting-long _ _ _ _ (o .due) _ _ (c .before .before .before .before .before .before .before .before .loop .inv .2),
-    )
-
-part-next-row-end : tie.Need-part-next-row-end Inv-loop μ-loop
-part-next-row-end c = let o = c .before .before .before .before .before .before .before .before .before .before .before .before .before .before .before .before .before
-    .before .before .before .before .before .pre .0 in
-    omega (
-      arith,
-      o .due,
-      c .before .before .before .before .before .insert-row,
-      inserting-long _ _ _ _ (o .due) _ _ (c .before .before .before .before .before .before .before .before .loop .inv .2),
-    )
-
-next-row-requires : tie.Need-next-row-requires Inv-loop μ-loop
-next-row-requires c κs = let o = c .before .before .before .before .before .before .before .before .before .before .before .before .before .before .before .before .before
-    .before .before .before .before .before .before .before .pre .0 in
-    let inv = c .before .before .before .before .before .before .before .before .before .before .loop .inv in
-    rw (turn-sizes _ _ _ _ (o .due) _ _ _ _ (inv .2) (c .before .before .before .before .before .before .before .insert-row .ensures)) (
-      c .before .before .before .before .before .before .before .before .before .before .before .before .before .before .before .before .before .before .before .before
-          .before .before .before .before .pre .1,
-      inv .1,
-      omega (arith, c .before .before .before .before .before .before .before .insert-row, inv .0 .long, o .counted),
-    )
-
-enum-known-place : tie.Need-enum-known-place Inv-loop μ-loop
-enum-known-place c = search needs
-
-add-y : tie.Need-add-y Inv-loop μ-loop
-add-y c = let h = c .before .before .before .before .before .before .before .before .before .before .before .before .before .before .before .before .before .before .before
-    .before .before .before .before .before .before .before .before .before .before .before .pre .1 .1 in
-    let z = turn-sizes _ _ _ _ (c .before .before .before .before .before .before .before .before .before .before .before .before .before .before .before .before .before
-    .before .before .before .before .before .before .before .before .before .before .before .before .before .pre .0 .due) _ _ _ _
-    (c .before .before .before .before .before .before .before .before .before .before .before .before .before .before .before .before .loop .inv .2)
-    (c .before .before .before .before .before .before .before .before .before .before .before .before .before .insert-row .ensures) in
-    let (l, k, n) = place-ready h _ _ _ _ (rw (c .before .place .given .1, z) at (c .before .before .before .before .before .next-row .ensures .0)) in
-    omega (arith, k, h .given .limits .each _ l)
-
-loop-less : tie.Need-loop-less Inv-loop μ-loop
-loop-less c = let z = turn-sizes _ _ _ _ (c .before .before .before .before .before .before .before .before .before .before .before .before .before .before .before .before
-    .before .before .before .before .before .before .before .before .before .before .before .before .before .before .pre .0 .due) _ _ _ _
-    (c .before .before .before .before .before .before .before .before .before .before .before .before .before .before .before .before .loop .inv .2)
-    (c .before .before .before .before .before .before .before .before .before .before .before .before .before .insert-row .ensures) in
-    omega (arith, ap length (rw (c .before .place .given .1, z) at (c .before .before .before .before .before .next-row .ensures .0)))
-
-loop-again : tie.Need-loop-again Inv-loop μ-loop
-loop-again c = let o = c .before .before .before .before .before .before .before .before .before .before .before .before .before .before .before .before .before .before
-    .before .before .before .before .before .before .before .before .before .before .before .before .pre .0 in
-    let h = c .before .before .before .before .before .before .before .before .before .before .before .before .before .before .before .before .before .before .before
-    .before .before .before .before .before .before .before .before .before .before .before .pre .1 .1 in
-    let inv = c .before .before .before .before .before .before .before .before .before .before .before .before .before .before .before .before .loop .inv in
-    let z = turn-sizes _ _ _ _ (o .due) _ _ _ _ (inv .2) (c .before .before .before .before .before .before .before .before .before .before .before .before
-    .before .insert-row .ensures) in
-    let f = rw (c .before .place .given .1, z) at (c .before .before .before .before .before .next-row .ensures .0) in
-    let r = rw (c .before .place .given .1, z) at (c .before .before .before .before .before .next-row .ensures .1) in (
-      rw (o .counted) (next-for h _ _ _ _ f _ r),
-      omega (arith, place-ready h _ _ _ _ f .1),
-      inserting-turn _ _ _ _ (o .due) _ _ _ _ _ (inv .2) (c .before .before .before .before .before .before .before .before .before .before .before .before
-          .before .insert-row .ensures) (rows-next h _ _ _ _ f _ r),
-    )
-
-enum-told : tie.Need-enum-told Inv-loop μ-loop
-enum-told c = search needs
-
-same-length : tie.Need-same-length Inv-loop μ-loop
-same-length c = let o = c .before .before .before .before .before .before .before .before .before .before .before .before .before .before .before .before .before .before
-    .before .before .before .before .before .before .before .before .before .before .before .pre .0 in
-    omega (
-      arith,
-      c .before .before .before .before .before .before .before .before .before .before .before .before .insert-row,
-      inserting-long _ _ _ _ (o .due) _ _ (c .before .before .before .before .before .before .before .before .before .before .before .before .before .before
-          .before .loop .inv .2),
-    )
-
-same-length-2 : tie.Need-same-length-2 Inv-loop μ-loop
-same-length-2 c = omega (
-  arith,
-  c .before .before .before .before .before .before .before .before .before .before .before .before .insert-row,
-  c .before .before .before .before .next-row,
-  c .before .before .before .before .before .before .before .before .before .before .before .before .before .before
-      .before .loop .inv .0 .long,
-  c .before .before .before .before .before .before .before .before .before .before .before .before .before .before .before .before
-      .before .before .before .before .before .before .before .before .before .before .before .before .before .pre .2,
+insert-requires : tie.Need-insert-requires Inv-loop μ-loop
+insert-requires c κs = let (left, walked, inserting) = c .before .before .before .loop .inv in let p = start (c .before .before .before) .pre in (
+  inserting .filled .reduced,
+  filled-long _ _ (inserting .filled),
+  walked .long ∙ ap (λ k. wordsFor k) (sym (p .1)),
+  omega (arith, p .1, p .0 .1 .given .limits .total),
+  λ f l. walked .past (c .before .before .loop-test .taken) f (omega (arith, p .1)),
 )
 
+next-row-requires : tie.Need-next-row-requires Inv-loop μ-loop
+next-row-requires c κs = let walked = c .before .before .before .before .before .before .before .before .before .loop .inv .1 in (start (c .before .before .before .before .before .before .before .before .before) .pre .0, walked .inside, omega (arith, c .before .before .before .before .before .insert, walked .long))
+
+loop-less : tie.Need-loop-less Inv-loop μ-loop
+loop-less c = walked-less _ _ _ _ _ _ _ _ (c .before .before .next-row .ensures) (c .before .before .before .before .before .before .before .before .before .before .before .loop-test .taken)
+
+loop-again : tie.Need-loop-again Inv-loop μ-loop
+loop-again c = let (left, walked, inserting) = turn (c .before .before) .loop .inv in
+    (_, c .before .before .next-row .ensures, inserting-turn _ _ _ _ _ inserting _ _ _ (walked-row _ _ _ _ _ _ _ walked (c .before .before .before .before .before .before .before .before .before .before .before .loop-test .taken)) (c .before .before .before .before .before .before .before .before .insert .ensures))
+
+same-length : tie.Need-same-length Inv-loop μ-loop
+same-length c = omega (arith, filled-long _ _ (c .before .loop .inv .2 .filled), filled-long _ _ (start (c .before) .pre .2))
+
+same-length-2 : tie.Need-same-length-2 Inv-loop μ-loop
+same-length-2 c = omega (arith, c .before .loop .inv .1 .long, start (c .before) .pre .3)
+
 returns : tie.Need-returns Inv-loop μ-loop
-returns c = let o = c .before .before .before .before .before .before .before .before .before .before .before .before .before .before .before .before .before .before
-    .before .before .before .before .before .before .before .before .before .before .before .pre .0 in
-    let inv = c .before .before .before .before .before .before .before .before .before .before .before .before .before .before .before .loop .inv in
-    let z = turn-sizes _ _ _ _ (o .due) _ _ _ _ (inv .2) (c .before .before .before .before .before .before .before .before .before .before .before .before .insert-row .ensures) in
-    inserting-done _ _ _ _ (o .due) _ (inserting-turn _ _ _ _ (o .due) _ _ _ _ _ (inv .2)
-    (c .before .before .before .before .before .before .before .before .before .before .before .before .insert-row .ensures) (rows-done
-    (c .before .before .before .before .before .before .before .before .before .before .before .before .before .before .before .before .before .before .before .before
-    .before .before .before .before .before .before .before .before .before .pre .1 .1) _ _ (rw (
-      c .enum-told .given .1,
-      z,
-    ) at (c .before .before .before .before .next-row .ensures .0))))
+returns c = let (left, walked, inserting) = c .before .loop .inv in inserting-done _ _ _ _ _ inserting (walked-none _ _ _ _ _ _ _ walked (c .loop-test .left))
 
 pub insert-rows-spec : {M : Type 1} → statement M
 insert-rows-spec =
@@ -174,22 +67,12 @@ insert-rows-spec =
     (tie.spec
     Inv-loop
     μ-loop
-    add-end
-    sub-first-row
-    part-first-row-start
-    part-first-row-end
     first-row-requires
     loop-holds
-    insert-row-requires
-    sub-next-row
-    part-next-row-start
-    part-next-row-end
+    insert-requires
     next-row-requires
-    enum-known-place
-    add-y
     loop-less
     loop-again
-    enum-told
     same-length
     same-length-2
     returns)

@@ -1,20 +1,17 @@
--- `is_allowed`: the local arrays have room for the table, the base state and a row.
+-- `is_allowed`: the local arrays have room for the table (`atoms-most`), the base state and a row.
 use native.Mathlib.Omega.{arith}
 use lib.ListN.{length-take}
 use borrow.Author.Needs.{needs}
-use Rattle.theory.specs.Numbering.{atoms-room}
+use Rattle.numbering.specs.Sizes.{atoms-most}
 use Rattle.condition.proofs.is_allowed.Statement.{statement}
 use Rattle.condition.proofs.is_allowed.Tie as tie
 
-array-borrow-prefix-possible : tie.Need-array-borrow-prefix-possible
-array-borrow-prefix-possible c = search needs
+-- What the call began with, where the last array is lent.
+abbrev start : tie.After-row → tie.Start
+start c = c .before .before .before .before .before .before .before .before .before
 
 slice-aggregate-meets-rows : tie.Need-slice-aggregate-meets-rows
-slice-aggregate-meets-rows c = simp length-take (omega (
-  arith,
-  c .before .before .before .before .before .before .before .pre .1,
-  c .before .before .before .before .before .before .before .pre .0 .limits .total,
-))
+slice-aggregate-meets-rows c = search needs
 
 array-borrow-prefix-state : tie.Need-array-borrow-prefix-state
 array-borrow-prefix-state c = search needs
@@ -26,18 +23,14 @@ array-borrow-prefix-row : tie.Need-array-borrow-prefix-row
 array-borrow-prefix-row c = search needs
 
 slice-aggregate-meets-rows-3 : tie.Need-slice-aggregate-meets-rows-3
-slice-aggregate-meets-rows-3 c = simp length-take (omega (
-  arith,
-  c .before .before .before .before .before .before .before .before .before .pre .1,
-  c .before .before .before .before .before .before .before .before .before .pre .0 .limits .total,
-))
+slice-aggregate-meets-rows-3 c = let (r, e, past) = start c .pre in simp length-take (omega (arith, e, r .limits .total))
 
 meets-rows-requires : tie.Need-meets-rows-requires
-meets-rows-requires c κs = let (r, e, past) = c .before .before .before .before .before .before .before .before .before .pre in (
+meets-rows-requires c κs = let (r, e, past) = start c .pre in (
   r,
   e,
   past,
-  simp length-take (omega (arith, e, r .limits .total, atoms-room (c .before .before .before .before .before .before .before .before .before .args .sizes .now))),
+  omega (arith, atoms-most (start c .args .sizes .now) (r .limits)),
   simp length-take (omega (arith, r .limits .variables)),
   simp length-take (omega (arith, e, r .limits .total)),
 )
@@ -49,7 +42,6 @@ pub is-allowed-spec : {M : Type 1} → statement M
 is-allowed-spec =
     tie.close
     (tie.spec
-    array-borrow-prefix-possible
     slice-aggregate-meets-rows
     array-borrow-prefix-state
     slice-aggregate-meets-rows-2

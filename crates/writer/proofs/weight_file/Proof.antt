@@ -1,4 +1,4 @@
--- `weight_file` refuses words that have a feature out of range, and otherwise writes the set of the words that can have one in range.
+-- `weight_file` refuses words that have a feature out of range, and otherwise delivers the set of the words that can have one in range.
 use Prim.Native.Nat.{ℕ, _-_}
 use mathlib.Core.Path.{_≡_, sym, ap, _∙_, subst}
 use mathlib.Core.List.{List}
@@ -19,8 +19,8 @@ use Rattle.writer.proofs.weight_file.Tie as tie
 behind : (words : List ℕ) → take (length words - mostWords) (drop mostWords words) ≡ drop mostWords words
 behind words = take-all (length words - mostWords) (drop mostWords words) (omega (arith, length-drop mostWords words))
 
-write-set-requires : tie.Need-write-set-requires
-write-set-requires c κs = search needs
+deliver-set-requires : tie.Need-deliver-set-requires
+deliver-set-requires c κs = search needs
 
 same-length : tie.Need-same-length
 same-length c = search needs
@@ -47,11 +47,11 @@ returns-2 c =
     let none = tells-no (subst (λ l. Tells (c .before .is-empty .result) (Empty l)) (behind words) (c .before .is-empty .ensures)) (not-true _ (c .if2 .taken)) in
     sym (weights-refused (membersIn words) (a .room .now) _ (outside-range words (λ h. none (in-range-behind words h))))
 
-slice-aggregate-write-set : tie.Need-slice-aggregate-write-set
-slice-aggregate-write-set c = sym (length-take-le mostWords (c .before .before .before .before .before .before .before .args .words .now) (omega (arith, c .before .before .before .before .if1 .left)))
+slice-aggregate-deliver-set : tie.Need-slice-aggregate-deliver-set
+slice-aggregate-deliver-set c = sym (length-take-le mostWords (c .before .before .before .before .before .before .before .args .words .now) (omega (arith, c .before .before .before .before .if1 .left)))
 
-write-set-requires-2 : tie.Need-write-set-requires-2
-write-set-requires-2 c κs = omega (arith, length-take-le mostWords (c .before .before .before .before .before .before .before .before .args .words .now) (omega (arith, c .before .before .before .before .before .if1 .left)))
+deliver-set-requires-2 : tie.Need-deliver-set-requires-2
+deliver-set-requires-2 c κs = omega (arith, length-take-le mostWords (c .before .before .before .before .before .before .before .before .args .words .now) (omega (arith, c .before .before .before .before .before .if1 .left)))
 
 same-length-2 : tie.Need-same-length-2
 same-length-2 c = search needs
@@ -61,13 +61,13 @@ returns-3 c =
     let a = c .before .before .before .before .before .before .before .before .before .before .before .args in
     let words = a .words .now in
     let empty = subst Empty (behind words) (c .before .before .before .before .before .before .is-empty .ensures .yes (not-false _ (c .before .before .before .before .before .if2 .left))) in
-    c .before .before .write-set2 .ensures ∙ ap (λ l. weightsWritten l (a .room .now)) (members-front mostWords words empty)
+    c .before .before .deliver-set2 .ensures ∙ ap (λ l. weightsWritten l (a .room .now)) (members-front mostWords words empty)
 
 pub weight-file-spec : {M : Type 1} → statement M
 weight-file-spec =
     tie.close
     (tie.spec
-    write-set-requires
+    deliver-set-requires
     same-length
     returns
     sub-is-empty
@@ -75,7 +75,7 @@ weight-file-spec =
     part-is-empty-end
     is-empty-requires
     returns-2
-    slice-aggregate-write-set
-    write-set-requires-2
+    slice-aggregate-deliver-set
+    deliver-set-requires-2
     same-length-2
     returns-3)

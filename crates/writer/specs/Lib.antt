@@ -1,3 +1,4 @@
+pub mod Answer
 pub mod Parts
 pub mod Weights
 pub mod Widths

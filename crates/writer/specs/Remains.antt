@@ -11,7 +11,7 @@ use Rattle.meaning.specs.Number.{Small}
 use Rattle.meaning.specs.Answer.{refuses, writes, delivered}
 use Rattle.number.specs.Laws.{sets-all}
 use Rattle.writer.specs.declared.Written.the-variants.{Done}
-use Rattle.writer.specs.Weights.{outcomeOf}
+use Rattle.writer.specs.Answer.{outcomeOf}
 use Rattle.writer.specs.Widths.{part-length}
 
 sets-append : (room : List ℕ) (at : ℕ) (l m : List ℕ) → sets room at (l ++ m) ≡ sets (sets room at l) (at + length l) m

@@ -4,14 +4,12 @@ use mathlib.Core.Path.{_≡_}
 use mathlib.Core.List.{List, [], _∷_}
 use lib.Dec.{leb, ltb}
 use Rattle.meaning.specs.Limits.{mostFeatures}
-use Rattle.meaning.specs.Number.{Range, Unordered, refusal}
+use Rattle.meaning.specs.Number.{Range, Unordered}
 use Rattle.meaning.specs.File.{weightBytes}
 use Rattle.meaning.specs.Answer as meaning
 use Rattle.number.specs.Answers.{reasonOf}
 use Rattle.writer.specs.declared.Judged.{Judged}
 use Rattle.writer.specs.declared.Judged.the-variants.{Fine, Faulty}
-use Rattle.writer.specs.declared.Written.{Written}
-use Rattle.writer.specs.declared.Written.the-variants.{Done, Refused}
 
 -- Features "strictly increasing", from `least` on: range before order, and the first fault decides.
 unfoldable pub weightsJudged : ℕ → List ℕ → meaning.Judged
@@ -32,14 +30,7 @@ weightsWritten weights room = unlessFaulty (weightsJudged 0 weights) room (meani
 abbrev pub Writes : List ℕ → List ℕ → meaning.Outcome ℕ → Type 0
 Writes weights room outcome = outcome ≡ weightsWritten weights room
 
--- What the answers of the code say in the words of the meaning.
+-- What the judgement of the code says in the words of the meaning.
 abbrev pub judgedOf : Judged → meaning.Judged
 judgedOf Fine = meaning.fine
 judgedOf (Faulty reason) = meaning.faulty (reasonOf reason)
-
-abbrev pub writtenOf : Written → meaning.Answer ℕ
-writtenOf (Done n) = meaning.done n
-writtenOf (Refused reason) = meaning.refused (refusal (reasonOf reason))
-
-abbrev pub outcomeOf : Written → List ℕ → meaning.Outcome ℕ
-outcomeOf r room = record { answer = writtenOf r; lent = room }

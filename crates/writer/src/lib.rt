@@ -5,13 +5,16 @@ ghost use mathlib.Core.List.{_++_};
 ghost use Prim.Native.Nat.{_+_, _<_, _≤_};
 ghost use lib.ListN.{length, take, drop};
 ghost use Rattle.meaning.specs.Limits.{numberEnd};
-ghost use Rattle.meaning.specs.Number.{numberBytes};
+ghost use Rattle.meaning.specs.Number.{refusal as refusalNumber, numberBytes};
 ghost use Rattle.meaning.specs.File.{bytesOf, counted, entryBytes, operatorBytes};
+ghost use Rattle.meaning.specs.Answer.{refused};
 ghost use Rattle.theory.specs.Slices.{entryOf, entriesIn};
+ghost use Rattle.number.specs.Answers.{reasonOf};
 ghost use Rattle.words.specs.Members.{membersIn};
+ghost use Rattle.writer.specs.Answer.{writtenOf, outcomeOf};
 ghost use Rattle.writer.specs.Parts.{Numbers, Countable, Triples, FewWords};
 ghost use Rattle.writer.specs.Front.{Front, frontBytes};
-ghost use Rattle.writer.specs.Weights.{judgedOf, outcomeOf, weightsJudged, weightsWritten};
+ghost use Rattle.writer.specs.Weights.{judgedOf, weightsJudged, weightsWritten};
 use limits::MOST_FEATURES;
 use limits::MOST_WORDS;
 use number::Reason;
@@ -23,10 +26,17 @@ enum Judged {
     Faulty(Reason),
 }
 
-// What a call that writes a file answers: the file's length; or the reason of a refusal.
+// What a call that writes a file or a line answers: its length; or the paper's number of a refusal.
 pub enum Written {
     Done(usize),
-    Refused(Reason),
+    Refused(u64),
+}
+
+// The refusal for a reason.
+pub fn refuse(reason: Reason) -> Written
+    ensures { λ r. ⌜ writtenOf r ≡ refused (refusalNumber (reasonOf reason)) ⌝ }
+{
+    Written::Refused(number::refusal(reason))
 }
 
 // How many bytes a list of numbers has, without its count.
@@ -231,10 +241,10 @@ pub fn write_weights(weights: &[u64], room: &mut [u8]) -> Written
     ensures { λ r. ⌜ outcomeOf r (now (room .exit)) ≡ weightsWritten (now (weights .entry)) (now (room .entry)) ⌝ }
 {
     match judge(weights) {
-        Judged::Faulty(reason) => Written::Refused(reason),
+        Judged::Faulty(reason) => refuse(reason),
         Judged::Fine => {
             if room.len() < list_width(weights) {
-                return Written::Refused(Reason::Small);
+                return refuse(Reason::Small);
             }
             Written::Done(write_list(room, 0, weights))
         }
@@ -247,7 +257,7 @@ fn deliver_set(words: &[u64], room: &mut [u8]) -> Written
     ensures { λ r. ⌜ outcomeOf r (now (room .exit)) ≡ weightsWritten (membersIn (now (words .entry))) (now (room .entry)) ⌝ }
 {
     if room.len() < set_width(words) {
-        return Written::Refused(Reason::Small);
+        return refuse(Reason::Small);
     }
     Written::Done(write_set(room, 0, words))
 }
@@ -260,7 +270,7 @@ pub fn weight_file(words: &[u64], room: &mut [u8]) -> Written
         return deliver_set(words, room);
     }
     if !words::is_empty(&words[MOST_WORDS..]) {
-        return Written::Refused(Reason::Range);
+        return refuse(Reason::Range);
     }
     deliver_set(&words[..MOST_WORDS], room)
 }

@@ -4,10 +4,11 @@ use mathlib.Core.List.{List}
 use Prim.Native.Nat.{ℕ}
 use native.Mathlib.Omega.{arith}
 use borrow.Author.Needs.{needs}
-use Rattle.meaning.specs.Number.{numberBytes}
+use Rattle.meaning.specs.Number.{Small, numberBytes}
 use Rattle.meaning.specs.File.{counted, weightBytes}
 use Rattle.meaning.specs.Answer.{delivered}
 use Rattle.words.specs.Members.{membersIn}
+use Rattle.writer.specs.Answer.{refused-so}
 use Rattle.writer.specs.Parts.{FewWords}
 use Rattle.writer.specs.Weights.{weightsWritten}
 use Rattle.writer.specs.Remains.{delivered-small, delivered-done}
@@ -24,11 +25,15 @@ by-room words room few = weights-delivered (membersIn words) room (in-range-fine
 set-width-requires : tie.Need-set-width-requires
 set-width-requires c κs = search needs
 
+refuse-requires : tie.Need-refuse-requires
+refuse-requires c κs = search needs
+
 returns : tie.Need-returns
 returns c =
-    let start = c .before .before .before .before in
+    let start = c .before .before .before .before .before in
     let a = start .args in
-    sym (by-room (a .words .now) (a .room .now) (start .pre) ∙ delivered-small (counted numberBytes (membersIn (a .words .now))) (a .room .now) (omega (arith, c .if1 .taken, c .before .set-width .ensures)))
+    refused-so (c .refuse .result) Small (a .room .now) (c .refuse .ensures)
+    ∙ sym (by-room (a .words .now) (a .room .now) (start .pre) ∙ delivered-small (counted numberBytes (membersIn (a .words .now))) (a .room .now) (omega (arith, c .before .if1 .taken, c .before .before .set-width .ensures)))
 
 write-set-requires : tie.Need-write-set-requires
 write-set-requires c κs = search needs
@@ -46,4 +51,4 @@ returns-2 c =
 
 pub deliver-set-spec : {M : Type 1} → statement M
 deliver-set-spec =
-    tie.close (tie.spec set-width-requires returns write-set-requires same-length returns-2)
+    tie.close (tie.spec set-width-requires refuse-requires returns write-set-requires same-length returns-2)

@@ -7,9 +7,11 @@ use lib.ListN.{length, drop, length-drop, take}
 use lib.Seq.{length-take-le, take-all}
 use borrow.Author.Needs.{needs}
 use borrow.Author.Tests.{not-true, not-false}
+use Rattle.meaning.specs.Number.{Range}
 use Rattle.theory.specs.Tells.{Tells, tells-no}
 use Rattle.words.specs.Next.{Empty}
 use Rattle.words.specs.Members.{membersIn, members-front}
+use Rattle.writer.specs.Answer.{refused-so}
 use Rattle.writer.specs.Weights.{weightsWritten}
 use Rattle.writer.specs.Judging.{weights-refused}
 use Rattle.writer.specs.Sets.{mostWords, outside-range, in-range-behind}
@@ -40,12 +42,15 @@ part-is-empty-end c = search needs
 is-empty-requires : tie.Need-is-empty-requires
 is-empty-requires c κs = search needs
 
+refuse-requires : tie.Need-refuse-requires
+refuse-requires c κs = search needs
+
 returns-2 : tie.Need-returns-2
 returns-2 c =
-    let a = c .before .before .before .before .before .before .args in
+    let a = c .before .before .before .before .before .before .before .args in
     let words = a .words .now in
-    let none = tells-no (subst (λ l. Tells (c .before .is-empty .result) (Empty l)) (behind words) (c .before .is-empty .ensures)) (not-true _ (c .if2 .taken)) in
-    sym (weights-refused (membersIn words) (a .room .now) _ (outside-range words (λ h. none (in-range-behind words h))))
+    let none = tells-no (subst (λ l. Tells (c .before .before .is-empty .result) (Empty l)) (behind words) (c .before .before .is-empty .ensures)) (not-true _ (c .before .if2 .taken)) in
+    refused-so (c .refuse .result) Range (a .room .now) (c .refuse .ensures) ∙ sym (weights-refused (membersIn words) (a .room .now) _ (outside-range words (λ h. none (in-range-behind words h))))
 
 slice-aggregate-deliver-set : tie.Need-slice-aggregate-deliver-set
 slice-aggregate-deliver-set c = sym (length-take-le mostWords (c .before .before .before .before .before .before .before .args .words .now) (omega (arith, c .before .before .before .before .if1 .left)))
@@ -74,6 +79,7 @@ weight-file-spec =
     part-is-empty-start
     part-is-empty-end
     is-empty-requires
+    refuse-requires
     returns-2
     slice-aggregate-deliver-set
     deliver-set-requires-2

@@ -10,16 +10,6 @@ use Rattle.meaning.specs.Answer as meaning
 use Rattle.number.specs.Answers.{reasonOf}
 use Rattle.number.specs.declared.Step.{Step}
 use Rattle.number.specs.declared.Step.the-variants.{Next, Fault}
-use Rattle.building.specs.declared.Built.{Built}
-use Rattle.building.specs.declared.Built.the-variants.{Built as Whole, Refused}
-
-abbrev pub builtOf : Built → meaning.Answer ℕ
-builtOf (Whole n) = meaning.done n
-builtOf (Refused k) = meaning.refused k
-
--- An answer with the room as it is then.
-abbrev pub outcomeOf : Built → List ℕ → meaning.Outcome ℕ
-outcomeOf r room = record { answer = builtOf r; lent = room }
 
 -- What was read: the labels, as they stand in an array, or the first fault.
 abbrev pub labelsOf : Step → List ℕ → Read (List ℕ)

@@ -4,26 +4,21 @@ ghost use mathlib.Core.List.{_++_};
 ghost use Prim.Native.Nat.{_+_, _*_, _<_, _≤_};
 ghost use lib.ListN.{length, take, drop};
 ghost use Rattle.meaning.specs.Limits.{mostSlots, wordBits};
-ghost use Rattle.meaning.specs.Number.{refusal as refusalNumber, got};
+ghost use Rattle.meaning.specs.Number.{got};
 ghost use Rattle.meaning.specs.Task.{State};
 ghost use Rattle.meaning.specs.Feature.{features};
 ghost use Rattle.meaning.specs.File.{valuesOf, operatorBytes, counted, taskBytes};
 ghost use Rattle.meaning.specs.Bay.{occurrences, eachOnce, oneApart, neighbours, baySizes, bayPairs, slide, bayOperators, bayTask, Builds};
-ghost use Rattle.meaning.specs.Answer.{refused, delivered};
-ghost use Rattle.number.specs.Answers.{reasonOf};
+ghost use Rattle.meaning.specs.Answer.{delivered};
 ghost use Rattle.words.specs.Toggled.{toggledAll};
-ghost use Rattle.building.specs.Answers.{builtOf, outcomeOf, labelsOf, Sides, bayWith, labelled, madeOf};
+ghost use Rattle.writer.specs.Answer.{outcomeOf};
+ghost use Rattle.building.specs.Answers.{labelsOf, Sides, bayWith, labelled, madeOf};
 ghost use Rattle.building.specs.Parts.{Uniform, TaskParts, labelPairs, slotPairs, slideBytes, gapBytes, walkBytes};
 use limits::MOST_WORDS;
 use number::Number;
 use number::Reason;
 use number::Step;
-
-// What the builder answers: the length of the task file; or the paper's number of a refusal.
-pub enum Built {
-    Built(usize),
-    Refused(u64),
-}
+use writer::Written;
 
 // "Rows and columns are each 1 to 9"
 const LEAST_SIDE: usize = 1;
@@ -34,12 +29,6 @@ const MOST_SIDE: usize = 9;
 const LEAST_SLOTS: usize = 2;
 
 const MOST_SLOTS: usize = 9;
-
-fn refuse(reason: Reason) -> Built
-    ensures { λ r. ⌜ builtOf r ≡ refused (refusalNumber (reasonOf reason)) ⌝ }
-{
-    Built::Refused(number::refusal(reason))
-}
 
 // Reads a label for each place of the list.
 fn read_labels(bytes: &[u8], at: usize, labels: &mut [u64]) -> Step
@@ -252,20 +241,20 @@ fn write_task(
     goal: &[u64],
     pairs: &[u64],
     room: &mut [u8],
-) -> Built
+) -> Written
     requires { ⌜ TaskParts rows columns (now sizes) (now start) (now goal) (now pairs) ⌝ }
     ensures { λ r. ⌜ outcomeOf r (now (room .exit)) ≡ delivered (taskBytes (bayTask (bayWith rows columns (now (start .entry)) (now (goal .entry))))) (now (room .entry)) ⌝ }
 {
     let front = writer::front_width(sizes, start, goal, pairs);
     if room.len() < front + operators_width(rows, columns) {
-        return refuse(Reason::Small);
+        return writer::refuse(Reason::Small);
     }
     let next = writer::write_front(room, sizes, start, goal, pairs);
-    Built::Built(write_operators(room, next, rows, columns))
+    Written::Done(write_operators(room, next, rows, columns))
 }
 
 // Writes the task file of a bay that was accepted.
-fn deliver(rows: usize, columns: usize, start: &[u64], goal: &[u64], room: &mut [u8]) -> Built
+fn deliver(rows: usize, columns: usize, start: &[u64], goal: &[u64], room: &mut [u8]) -> Written
     requires { ⌜ Sides rows columns × State (baySizes (rows * columns)) (now start) × State (baySizes (rows * columns)) (now goal) ⌝ }
     ensures { λ r. ⌜ outcomeOf r (now (room .exit)) ≡ delivered (taskBytes (bayTask (bayWith rows columns (now (start .entry)) (now (goal .entry))))) (now (room .entry)) ⌝ }
 {
@@ -277,15 +266,21 @@ fn deliver(rows: usize, columns: usize, start: &[u64], goal: &[u64], room: &mut 
 }
 
 // Judges the labels of a bay, start first, and writes its task file.
-fn build_judged(rows: usize, columns: usize, start: &[u64], goal: &[u64], room: &mut [u8]) -> Built
+fn build_judged(
+    rows: usize,
+    columns: usize,
+    start: &[u64],
+    goal: &[u64],
+    room: &mut [u8],
+) -> Written
     requires { ⌜ Sides rows columns × State (baySizes (rows * columns)) (now start) × State (baySizes (rows * columns)) (now goal) ⌝ }
     ensures { λ r. ⌜ outcomeOf r (now (room .exit)) ≡ madeOf (got (bayWith rows columns (now (start .entry)) (now (goal .entry))) 0) (now (room .entry)) ⌝ }
 {
     if !each_once(start) {
-        return refuse(Reason::Mislabelled);
+        return writer::refuse(Reason::Mislabelled);
     }
     if !each_once(goal) {
-        return refuse(Reason::Mislabelled);
+        return writer::refuse(Reason::Mislabelled);
     }
     deliver(rows, columns, start, goal, room)
 }
@@ -299,7 +294,7 @@ fn build_labelled(
     start: &mut [u64],
     goal: &mut [u64],
     room: &mut [u8],
-) -> Built
+) -> Written
     requires { ⌜ Sides rows columns × (length (now start) ≡ rows * columns) × (length (now goal) ≡ rows * columns) ⌝ }
     ensures { λ r. ⌜ outcomeOf r (now (room .exit)) ≡ madeOf (labelled rows columns (now (bay .entry)) at) (now (room .entry)) ⌝ }
 {
@@ -307,18 +302,18 @@ fn build_labelled(
         Step::Next(next) => match read_labels(bay, next, &mut *goal) {
             Step::Next(end) => {
                 if end < bay.len() {
-                    return refuse(Reason::LeftOver);
+                    return writer::refuse(Reason::LeftOver);
                 }
                 build_judged(rows, columns, start, goal, room)
             }
-            Step::Fault(reason, _) => refuse(reason),
+            Step::Fault(reason, _) => writer::refuse(reason),
         },
-        Step::Fault(reason, _) => refuse(reason),
+        Step::Fault(reason, _) => writer::refuse(reason),
     }
 }
 
 // Builds the task file of a bay file.
-pub fn build(bay: &[u8], room: &mut [u8]) -> Built
+pub fn build(bay: &[u8], room: &mut [u8]) -> Written
     ensures { λ r. ⌜ Builds (now (bay .entry)) (now (room .entry)) (outcomeOf r (now (room .exit))) ⌝ }
 {
     match number::item_at(bay, 0, LEAST_SIDE, MOST_SIDE + 1, Reason::Limit) {
@@ -332,10 +327,10 @@ pub fn build(bay: &[u8], room: &mut [u8]) -> Built
             Number::Got(columns, after) => {
                 let n = rows * columns;
                 if n < LEAST_SLOTS {
-                    return refuse(Reason::Limit);
+                    return writer::refuse(Reason::Limit);
                 }
                 if MOST_SLOTS < n {
-                    return refuse(Reason::Limit);
+                    return writer::refuse(Reason::Limit);
                 }
                 let mut start = [0u64; MOST_SLOTS];
                 let mut goal = [0u64; MOST_SLOTS];
@@ -349,8 +344,8 @@ pub fn build(bay: &[u8], room: &mut [u8]) -> Built
                     room,
                 )
             }
-            Number::Fault(reason, _) => refuse(reason),
+            Number::Fault(reason, _) => writer::refuse(reason),
         },
-        Number::Fault(reason, _) => refuse(reason),
+        Number::Fault(reason, _) => writer::refuse(reason),
     }
 }

@@ -7,7 +7,8 @@ use Rattle.meaning.specs.Number.{Mislabelled}
 use Rattle.meaning.specs.Bay.{eachOnce}
 use Rattle.theory.specs.BayMoves.{bay-length}
 use Rattle.building.specs.Answers.{bayWith}
-use Rattle.building.specs.Outcomes.{refused-so, made-start, made-goal, made-both}
+use Rattle.writer.specs.Answer.{refused-so}
+use Rattle.building.specs.Outcomes.{made-start, made-goal, made-both}
 use Rattle.building.proofs.build_judged.Statement.{statement}
 use Rattle.building.proofs.build_judged.Tie as tie
 

@@ -8,7 +8,8 @@ use Rattle.meaning.specs.Bay.{baySizes}
 use Rattle.theory.specs.Parts.{values-said}
 use Rattle.number.specs.Answers.{reasonOf}
 use Rattle.building.specs.Answers.{labelsOf, madeOf}
-use Rattle.building.specs.Outcomes.{refused-so, start-fault, goal-fault, left-over, labelled-whole}
+use Rattle.writer.specs.Answer.{refused-so}
+use Rattle.building.specs.Outcomes.{start-fault, goal-fault, left-over, labelled-whole}
 use Rattle.building.proofs.build_labelled.Statement.{statement}
 use Rattle.building.proofs.build_labelled.Tie as tie
 

@@ -9,10 +9,10 @@ use Rattle.meaning.specs.Number.{Small}
 use Rattle.meaning.specs.File.{operatorBytes, counted, taskBytes}
 use Rattle.meaning.specs.Bay.{neighbours, bayOperators, bayTask}
 use Rattle.words.specs.Members.{membersIn}
+use Rattle.writer.specs.Answer.{refused-so}
 use Rattle.writer.specs.Front.{Front, frontBytes}
 use Rattle.writer.specs.Remains.{remains-all, remains-after, remains-none, delivered-small, delivered-done}
 use Rattle.building.specs.Answers.{bayWith}
-use Rattle.building.specs.Outcomes.{refused-so}
 use Rattle.building.specs.Files.{front-written, task-split, task-length, task-few}
 use Rattle.building.proofs.write_task.Statement.{statement}
 use Rattle.building.proofs.write_task.Tie as tie

@@ -21,6 +21,10 @@ use Rattle.writer.proofs.weight_file.Tie as tie
 behind : (words : List ℕ) → take (length words - mostWords) (drop mostWords words) ≡ drop mostWords words
 behind words = take-all (length words - mostWords) (drop mostWords words) (omega (arith, length-drop mostWords words))
 
+-- Where the call began, seen from the test of the words behind the most.
+abbrev start : tie.After-is-empty → tie.Start
+start c = c .before .before .before .before .before
+
 deliver-set-requires : tie.Need-deliver-set-requires
 deliver-set-requires c κs = search needs
 
@@ -47,23 +51,23 @@ refuse-requires c κs = search needs
 
 returns-2 : tie.Need-returns-2
 returns-2 c =
-    let a = c .before .before .before .before .before .before .before .args in
+    let a = start (c .before .before) .args in
     let words = a .words .now in
     let none = tells-no (subst (λ l. Tells (c .before .before .is-empty .result) (Empty l)) (behind words) (c .before .before .is-empty .ensures)) (not-true _ (c .before .if2 .taken)) in
     refused-so (c .refuse .result) Range (a .room .now) (c .refuse .ensures) ∙ sym (weights-refused (membersIn words) (a .room .now) _ (outside-range words (λ h. none (in-range-behind words h))))
 
 slice-aggregate-deliver-set : tie.Need-slice-aggregate-deliver-set
-slice-aggregate-deliver-set c = sym (length-take-le mostWords (c .before .before .before .before .before .before .before .args .words .now) (omega (arith, c .before .before .before .before .if1 .left)))
+slice-aggregate-deliver-set c = sym (length-take-le mostWords (start (c .before .before) .args .words .now) (omega (arith, c .before .before .before .before .if1 .left)))
 
 deliver-set-requires-2 : tie.Need-deliver-set-requires-2
-deliver-set-requires-2 c κs = omega (arith, length-take-le mostWords (c .before .before .before .before .before .before .before .before .args .words .now) (omega (arith, c .before .before .before .before .before .if1 .left)))
+deliver-set-requires-2 c κs = omega (arith, length-take-le mostWords (start (c .before .before .before) .args .words .now) (omega (arith, c .before .before .before .before .before .if1 .left)))
 
 same-length-2 : tie.Need-same-length-2
 same-length-2 c = search needs
 
 returns-3 : tie.Need-returns-3
 returns-3 c =
-    let a = c .before .before .before .before .before .before .before .before .before .before .before .args in
+    let a = start (c .before .before .before .before .before .before) .args in
     let words = a .words .now in
     let empty = subst Empty (behind words) (c .before .before .before .before .before .before .is-empty .ensures .yes (not-false _ (c .before .before .before .before .before .if2 .left))) in
     c .before .before .deliver-set2 .ensures ∙ ap (λ l. weightsWritten l (a .room .now)) (members-front mostWords words empty)

@@ -13,20 +13,27 @@ use Rattle.building.specs.Outcomes.{start-fault, goal-fault, left-over, 
 use Rattle.building.proofs.build_labelled.Statement.{statement}
 use Rattle.building.proofs.build_labelled.Tie as tie
 
+-- Where the call began, seen from the labels of the start; and these, seen from the labels of the goal.
+abbrev begin : tie.After-next → tie.Start
+begin c = c .before .before .before .before .before .before .before .before .before .before
+
+abbrev first : tie.After-end → tie.After-next
+first c = c .before .before .before .before .before .before .before
+
 -- The start that was read, and the goal.
-start-read : (c : tie.After-next) → let a = c .before .before .before .before .before .before .before .before .before .before .args in
+start-read : (c : tie.After-next) → let a = begin c .args in
     valuesOf (baySizes (a .rows * a .columns)) (a .bay .now) (a .at) ≡ got (c .before .before .before .before .read-labels .last .1 .1 .0) (c .next .given .0 .0)
 start-read c =
-    let start = c .before .before .before .before .before .before .before .before .before .before in
+    let start = begin c in
     let read = c .before .before .before .before .read-labels in
     ap (λ k. valuesOf (baySizes k) (start .args .bay .now) (start .args .at)) (sym (start .pre .1)) ∙ sym (read .ensures) ∙ ap (λ r. labelsOf r (read .last .1 .1 .0)) (c .next .given .1)
 
-goal-read : (c : tie.After-end) → let a = c .before .before .before .before .before .before .before .before .before .before .before .before .before .before .before .before .before .args in
-    valuesOf (baySizes (a .rows * a .columns)) (a .bay .now) (c .before .before .before .before .before .before .before .next .given .0 .0) ≡ got (c .before .before .before .before .read-labels2 .last .1 .1 .0) (c .end .given .0 .0)
+goal-read : (c : tie.After-end) → let a = begin (first c) .args in
+    valuesOf (baySizes (a .rows * a .columns)) (a .bay .now) (first c .next .given .0 .0) ≡ got (c .before .before .before .before .read-labels2 .last .1 .1 .0) (c .end .given .0 .0)
 goal-read c =
-    let start = c .before .before .before .before .before .before .before .before .before .before .before .before .before .before .before .before .before in
+    let start = begin (first c) in
     let read = c .before .before .before .before .read-labels2 in
-    ap (λ k. valuesOf (baySizes k) (start .args .bay .now) (c .before .before .before .before .before .before .before .next .given .0 .0)) (sym (start .pre .2)) ∙ sym (read .ensures) ∙ ap (λ r. labelsOf r (read .last .1 .1 .0)) (c .end .given .1)
+    ap (λ k. valuesOf (baySizes k) (start .args .bay .now) (first c .next .given .0 .0)) (sym (start .pre .2)) ∙ sym (read .ensures) ∙ ap (λ r. labelsOf r (read .last .1 .1 .0)) (c .end .given .1)
 
 read-labels-requires : tie.Need-read-labels-requires
 read-labels-requires c κs = search needs
@@ -51,16 +58,18 @@ same-length-2 c = search needs
 
 returns : tie.Need-returns
 returns c =
-    let a = c .before .before .before .before .before .before .before .before .before .before .before .before .before .before .before .before .before .before .before .before .args in
+    let read = c .before .before .before in
+    let a = begin (first read) .args in
     let room = a .room .now in
     refused-so (c .refuse .result) LeftOver room (c .refuse .ensures)
-    ∙ ap (λ r. madeOf r room) (sym (left-over (a .rows) (a .columns) (a .bay .now) (a .at) _ _ (start-read (c .before .before .before .before .before .before .before .before .before .before)) _ _ (goal-read (c .before .before .before)) (c .before .if1 .taken)))
+    ∙ ap (λ r. madeOf r room) (sym (left-over (a .rows) (a .columns) (a .bay .now) (a .at) _ _ (start-read (first read)) _ _ (goal-read read) (c .before .if1 .taken)))
 
 build-judged-requires : tie.Need-build-judged-requires
 build-judged-requires c κs =
-    let a = c .before .before .before .before .before .before .before .before .before .before .before .before .before .before .before .before .before .before .before .before .before .before .args in
+    let read = c .before .before .before .before .before in
+    let a = begin (first read) .args in
     let sizes = baySizes (a .rows * a .columns) in
-    (c .before .before .before .before .before .before .before .before .before .before .before .before .before .before .before .before .before .before .before .before .before .before .pre .0, values-said (a .bay .now) sizes .gives _ _ _ (start-read (c .before .before .before .before .before .before .before .before .before .before .before .before)) .known .0, values-said (a .bay .now) sizes .gives _ _ _ (goal-read (c .before .before .before .before .before)) .known .0)
+    (begin (first read) .pre .0, values-said (a .bay .now) sizes .gives _ _ _ (start-read (first read)) .known .0, values-said (a .bay .now) sizes .gives _ _ _ (goal-read read) .known .0)
 
 enum-known-reason : tie.Need-enum-known-reason
 enum-known-reason c = search needs
@@ -85,10 +94,11 @@ same-length-5 c = search needs
 
 returns-2 : tie.Need-returns-2
 returns-2 c =
-    let a = c .before .before .before .before .before .before .before .before .before .before .before .before .before .before .before .before .before .before .before .before .before .before .before .before .before .args in
+    let read = c .before .before .before .before .before .before .before .before in
+    let a = begin (first read) .args in
     let room = a .room .now in
     c .before .before .build-judged .ensures
-    ∙ ap (λ r. madeOf r room) (sym (labelled-whole (a .rows) (a .columns) (a .bay .now) (a .at) _ _ (start-read (c .before .before .before .before .before .before .before .before .before .before .before .before .before .before .before)) _ _ (goal-read (c .before .before .before .before .before .before .before .before)) (c .before .before .before .before .before .before .if1 .left)))
+    ∙ ap (λ r. madeOf r room) (sym (labelled-whole (a .rows) (a .columns) (a .bay .now) (a .at) _ _ (start-read (first read)) _ _ (goal-read read) (c .before .before .before .before .before .before .if1 .left)))
 
 same-length-6 : tie.Need-same-length-6
 same-length-6 c = search needs
@@ -98,24 +108,28 @@ same-length-7 c = search needs
 
 returns-3 : tie.Need-returns-3
 returns-3 c =
-    let a = c .before .before .before .before .before .before .before .before .before .before .before .before .before .before .before .before .before .before .before .args in
+    let before-goal = c .before .before .before .before .before .before .before .before .before in
+    let goal = c .before .before .before .before .before .before .read-labels2 in
+    let a = begin before-goal .args in
     let room = a .room .now in
     let reason = c .before .before .reason .given .0 .0 in
     let place = c .before .before .reason .given .0 .1 .0 in
-    let e = ap (λ k. valuesOf (baySizes k) (a .bay .now) (c .before .before .before .before .before .before .before .before .before .next .given .0 .0)) (sym (c .before .before .before .before .before .before .before .before .before .before .before .before .before .before .before .before .before .before .before .pre .2)) ∙ sym (c .before .before .before .before .before .before .read-labels2 .ensures) ∙ ap (λ r. labelsOf r (c .before .before .before .before .before .before .read-labels2 .last .1 .1 .0)) (c .before .before .reason .given .1) in
+    let e = ap (λ k. valuesOf (baySizes k) (a .bay .now) (before-goal .next .given .0 .0)) (sym (begin before-goal .pre .2)) ∙ sym (goal .ensures) ∙ ap (λ r. labelsOf r (goal .last .1 .1 .0)) (c .before .before .reason .given .1) in
     refused-so (c .refuse2 .result) (reasonOf reason) room (c .refuse2 .ensures)
-    ∙ ap (λ r. madeOf r room) (sym (goal-fault (a .rows) (a .columns) (a .bay .now) (a .at) _ _ (start-read (c .before .before .before .before .before .before .before .before .before)) (reasonOf reason) place e))
+    ∙ ap (λ r. madeOf r room) (sym (goal-fault (a .rows) (a .columns) (a .bay .now) (a .at) _ _ (start-read before-goal) (reasonOf reason) place e))
 
 same-length-8 : tie.Need-same-length-8
 same-length-8 c = search needs
 
 returns-4 : tie.Need-returns-4
 returns-4 c =
-    let a = c .before .before .before .before .before .before .before .before .before .before .before .before .args in
+    let start = c .before .before .before .before .before .before .before .before .before .before .before .before in
+    let read = c .before .before .before .before .before .before .read-labels in
+    let a = start .args in
     let room = a .room .now in
     let reason = c .before .before .reason2 .given .0 .0 in
     let place = c .before .before .reason2 .given .0 .1 .0 in
-    let e = ap (λ k. valuesOf (baySizes k) (a .bay .now) (a .at)) (sym (c .before .before .before .before .before .before .before .before .before .before .before .before .pre .1)) ∙ sym (c .before .before .before .before .before .before .read-labels .ensures) ∙ ap (λ r. labelsOf r (c .before .before .before .before .before .before .read-labels .last .1 .1 .0)) (c .before .before .reason2 .given .1) in
+    let e = ap (λ k. valuesOf (baySizes k) (a .bay .now) (a .at)) (sym (start .pre .1)) ∙ sym (read .ensures) ∙ ap (λ r. labelsOf r (read .last .1 .1 .0)) (c .before .before .reason2 .given .1) in
     refused-so (c .refuse3 .result) (reasonOf reason) room (c .refuse3 .ensures)
     ∙ ap (λ r. madeOf r room) (sym (start-fault (a .rows) (a .columns) (a .bay .now) (a .at) (reasonOf reason) place e))
 

@@ -2,11 +2,10 @@
 use mathlib.Core.Path.{ap, sym, _∙_, subst}
 use native.Mathlib.Omega.{arith}
 use Rattle.checking.specs.Answer.{verdictOf}
-use Rattle.florumeja.specs.Code.{numberOf, answerCode, verdictCode}
-use Rattle.florumeja.specs.Fits.{Fits}
+use Rattle.codes.specs.Code.{numberOf, answerCode, verdictCode, Fits}
 use borrow.Author.Needs.{needs}
-use Rattle.florumeja.proofs.verdict_number.Statement.{statement}
-use Rattle.florumeja.proofs.verdict_number.Tie as tie
+use Rattle.codes.proofs.verdict_number.Statement.{statement}
+use Rattle.codes.proofs.verdict_number.Tie as tie
 
 enum-told : tie.Need-enum-told
 enum-told c = search needs

@@ -1,5 +1,5 @@
 -- How an answer becomes one number: "case times 2^32 plus value".
-use Prim.Native.Nat.{ℕ, _+_, _*_, _^_}
+use Prim.Native.Nat.{ℕ, _+_, _*_, _^_, _<_}
 use mathlib.Core.Path.{_≡_}
 use mathlib.Core.List.{List}
 use Rattle.meaning.specs.Answer.{Answer, done, refused, Outcome, Verdict, accepted, endsAlike, breaks, Finding, none, separated}
@@ -57,3 +57,11 @@ pub record Left : Type 0 where
 
 abbrev pub Leaves : {A : Type 0} → (A → Code) → (Outcome A → Type 0) → Left → Type 0
 Leaves resultCode Allows left = Coded resultCode (λ answer. Allows (record { answer = answer; lent = left .lent })) (left .number)
+
+-- ---- answers whose value stands whole in the number
+
+abbrev pub Fits : {A : Type 0} → (A → Code) → Answer A → Type 0
+Fits resultCode answer = answerCode resultCode answer .value < valueEnd
+
+abbrev pub FitsIn : {A : Type 0} → (A → Code) → Outcome A → Type 0
+FitsIn resultCode outcome = Fits resultCode (outcome .answer)

@@ -2,11 +2,10 @@
 use mathlib.Core.Path.{ap, sym, _∙_, subst}
 use native.Mathlib.Omega.{arith}
 use Rattle.opening.specs.Answer.{openedOf}
-use Rattle.florumeja.specs.Code.{numberOf, answerCode, lengthCode}
-use Rattle.florumeja.specs.Fits.{Fits}
+use Rattle.codes.specs.Code.{numberOf, answerCode, lengthCode, Fits}
 use borrow.Author.Needs.{needs}
-use Rattle.florumeja.proofs.opened_number.Statement.{statement}
-use Rattle.florumeja.proofs.opened_number.Tie as tie
+use Rattle.codes.proofs.opened_number.Statement.{statement}
+use Rattle.codes.proofs.opened_number.Tie as tie
 
 enum-known-opened : tie.Need-enum-known-opened
 enum-known-opened c = search needs

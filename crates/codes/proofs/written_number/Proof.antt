@@ -1,12 +1,11 @@
 -- `written_number`: each case has the number that the table gives it.
 use mathlib.Core.Path.{ap, sym, _∙_, subst}
 use native.Mathlib.Omega.{arith}
-use Rattle.writer.specs.Weights.{writtenOf}
-use Rattle.florumeja.specs.Code.{numberOf, code, refusedCase, answerCode, lengthCode}
-use Rattle.florumeja.specs.Fits.{Fits}
+use Rattle.writer.specs.Answer.{writtenOf}
+use Rattle.codes.specs.Code.{numberOf, answerCode, lengthCode, Fits}
 use borrow.Author.Needs.{needs}
-use Rattle.florumeja.proofs.written_number.Statement.{statement}
-use Rattle.florumeja.proofs.written_number.Tie as tie
+use Rattle.codes.proofs.written_number.Statement.{statement}
+use Rattle.codes.proofs.written_number.Tie as tie
 
 enum-known-written : tie.Need-enum-known-written
 enum-known-written c = search needs
@@ -17,19 +16,14 @@ coded-requires c κs = (omega arith, omega (arith, subst (λ a. Fits lengthCode 
 enum-known-written-2 : tie.Need-enum-known-written-2
 enum-known-written-2 c = search needs
 
-refusal-requires : tie.Need-refusal-requires
-refusal-requires c κs = search needs
-
 coded-requires-2 : tie.Need-coded-requires-2
-coded-requires-2 c κs =
-    (omega arith, omega (arith, c .refusal .ensures, subst (λ a. Fits lengthCode (writtenOf a)) (c .before .before .written2 .given .1) (c .before .before .before .before .pre)))
+coded-requires-2 c κs = (omega arith, omega (arith, subst (λ a. Fits lengthCode (writtenOf a)) (c .before .written2 .given .1) (c .before .before .before .pre)))
 
 returns : tie.Need-returns
 returns c = c .coded .ensures ∙ sym (ap (λ a. numberOf (answerCode lengthCode (writtenOf a))) (c .before .before .written .given .1))
 
 returns-2 : tie.Need-returns-2
-returns-2 c = c .coded2 .ensures ∙ ap (λ n. numberOf (code refusedCase n)) (c .before .refusal .ensures)
-    ∙ sym (ap (λ a. numberOf (answerCode lengthCode (writtenOf a))) (c .before .before .before .written2 .given .1))
+returns-2 c = c .coded2 .ensures ∙ sym (ap (λ a. numberOf (answerCode lengthCode (writtenOf a))) (c .before .before .written2 .given .1))
 
 pub written-number-spec : {M : Type 1} → statement M
 written-number-spec =
@@ -38,7 +32,6 @@ written-number-spec =
     enum-known-written
     coded-requires
     enum-known-written-2
-    refusal-requires
     coded-requires-2
     returns
     returns-2)

@@ -7,16 +7,6 @@ use Rattle.meaning.specs.Number.{Mislabelled, Read, got, fault}
 use Rattle.meaning.specs.File.{Parser, give, then, valuesOf, ended, taskBytes}
 use Rattle.meaning.specs.Bay.{Bay, slotCount, baySizes, eachOnce, bayTask}
 use Rattle.meaning.specs.Answer as meaning
-use Rattle.building.specs.declared.Built.{Built}
-use Rattle.building.specs.declared.Built.the-variants.{Built as Whole, Refused}
-
-abbrev pub builtOf : Built → meaning.Answer ℕ
-builtOf (Whole n) = meaning.done n
-builtOf (Refused k) = meaning.refused k
-
--- An answer with the room as it is then.
-abbrev pub outcomeOf : Built → List ℕ → meaning.Outcome ℕ
-outcomeOf r room = record { answer = builtOf r; lent = room }
 
 -- The sides of a bay that were read and judged.
 abbrev pub Sides : ℕ → ℕ → Type 0

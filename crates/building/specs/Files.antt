@@ -2,35 +2,39 @@
 use Prim.Native.Nat.{ℕ, zero, suc, _+_, _-_, _*_, _<_, _≤_}
 use mathlib.Core.Path.{_≡_, refl, sym, ap, _∙_}
 use mathlib.Core.Bool.{Bool, true, false, cond}
-use mathlib.Core.List.{List, [], _∷_, _++_, append-nil, append-assoc, List·Memᴰ as In, List·Memᴰ·head as here, List·Memᴰ·tail as there}
+use mathlib.Core.List.{List, [], _∷_, _++_, append-nil, List·Memᴰ as In, List·Memᴰ·head as here, List·Memᴰ·tail as there}
 use native.Mathlib.Omega.{arith}
-use native.Mathlib.Nat.{mul-suc}
+use native.Mathlib.Nat.{mul-suc, ne-of-lt}
 use native.Mathlib.Numerals.{add-one}
 use lib.ListN.{length, take, replicate, length-append, length-replicate}
-use lib.Seq.{take-at}
 use lib.Dec.{ltb}
 use borrow.Author.Tests.{lt-ltb, le-ltb}
 use Rattle.meaning.specs.Sets.{flat, table}
-use Rattle.meaning.specs.Limits.{group, mostGroups, leastSlots, mostSlots, numberEnd}
+use Rattle.meaning.specs.Limits.{group, leastSlots, mostSlots, mostFeatures, wordBits, numberEnd}
 use Rattle.meaning.specs.Number.{groupBytes, numberBytes}
 use Rattle.meaning.specs.Task.{Operator, State, size}
-use Rattle.meaning.specs.Feature.{double, both}
-use Rattle.meaning.specs.File.{bytesOf, counted, entryBytes, operatorBytes, weightBytes, taskBytes}
+use Rattle.meaning.specs.Feature.{atoms, features, double, both}
+use Rattle.meaning.specs.Workspace.{wordsFor}
+use Rattle.meaning.specs.File.{bytesOf, counted, entryBytes, operatorBytes, taskBytes}
 use Rattle.meaning.specs.Answer.{operatorIn}
 use Rattle.meaning.specs.Bay.{baySizes, neighbours, exchange, slide, bayOperators, bayPairs, taskFor, bayTask}
-use Rattle.theory.specs.Flat.{flat-cong, getD-in, take-replicate}
-use Rattle.theory.specs.Run.{run-length, run-in}
+use Rattle.theory.specs.Flat.{flat-cong, take-replicate}
+use Rattle.theory.specs.Run.{run-wider}
+use Rattle.theory.specs.Numbering.{both-below}
 use Rattle.theory.specs.BayMoves.{operator-slide, bay-size, bay-length, bay-value}
 use Rattle.theory.specs.BayPairs.{pairs-run}
 use Rattle.theory.specs.NumberBack.{number-bytes-length}
 use Rattle.theory.specs.BayTask.{bay-limits}
 use Rattle.numbering.specs.Sizes.{SmallSizes}
 use Rattle.theory.specs.Slices.{entriesIn}
+use Rattle.words.specs.Members.{membersIn}
+use Rattle.words.specs.Toggled.{toggledAll, run-held}
 use Rattle.writer.specs.Parts.{Numbers, Countable, Triples}
-use Rattle.writer.specs.Widths.{part-length, counted-length, numbers-few}
-use Rattle.building.specs.Answers.{Sides, bayWith}
+use Rattle.writer.specs.Widths.{part-length, counted-length}
+use Rattle.writer.specs.Front.{Front, frontBytes, front-few, task-front}
+use Rattle.building.specs.Answers.{bayWith}
 use Rattle.building.specs.Sides.{operators-counted}
-use Rattle.building.specs.Parts.{Uniform, labelPairs, slotPairs, slideBytes, gapBytes, walkBytes, frontBytes}
+use Rattle.building.specs.Parts.{Uniform, TaskParts, labelPairs, slotPairs, slideBytes, gapBytes, walkBytes}
 use Rattle.building.specs.Turns.{bytes-flat}
 
 -- ---- sizes and values
@@ -49,8 +53,8 @@ module _ (sizes : List ℕ) (u : Uniform sizes) where
 pub sizes-countable : (n : ℕ) → n ≤ mostSlots → Countable (baySizes n)
 sizes-countable n h = (omega (arith, length-replicate n n), λ i l. omega (arith, bay-size n i (rw (length-replicate n n) at l)))
 
-pub state-numbers : (n : ℕ) (s : List ℕ) → n ≤ mostSlots → State (baySizes n) s → Numbers s
-state-numbers n s h S = λ i l. omega (arith, bay-value n s S i (rw (bay-length n s S) at l))
+pub state-countable : (n : ℕ) (s : List ℕ) → n ≤ mostSlots → State (baySizes n) s → Countable s
+state-countable n s h S = (omega (arith, bay-length n s S), λ i l. omega (arith, bay-value n s S i (rw (bay-length n s S) at l)))
 
 -- ---- pairs
 
@@ -72,11 +76,20 @@ pub both-ordered : (sizes : List ℕ) (i x j y : ℕ) → i < j → both sizes i
 unfolding both
 both-ordered sizes i x j y h = rw (lt-ltb i j h) refl
 
-pub pairs-countable : (n : ℕ) → leastSlots ≤ n → n ≤ mostSlots → Countable (bayPairs n)
-pairs-countable n h k =
-    let run = pairs-run n in
-    let most = bay-limits n h k .total in
-    (omega (arith, run-length _ _ _ run, most), λ i l. omega (arith, run-in _ _ _ _ run (getD-in (bayPairs n) i 0 l), most))
+-- It has a place in words that have one for each feature.
+pub both-place : (sizes words : List ℕ) (i x j y : ℕ) → features sizes ≤ wordBits * length words → i < j → x < size sizes i → y < size sizes j
+    → both sizes i x j y < wordBits * length words
+both-place sizes words i x j y room h k l = omega (arith, both-below sizes i x j y (ne-of-lt h) k l)
+
+-- The words of the most features hold the pairs of a bay, and nothing else.
+pub bay-place : (n : ℕ) → leastSlots ≤ n → n ≤ mostSlots → features (baySizes n) ≤ mostFeatures
+bay-place n h k = bay-limits n h k .total
+
+pub pairs-held : (n : ℕ) (sizes words : List ℕ) → leastSlots ≤ n → n ≤ mostSlots → sizes ≡ baySizes n
+    → words ≡ toggledAll (replicate (wordsFor mostFeatures) 0) (bayPairs (length sizes)) → membersIn words ≡ bayPairs n
+pairs-held n sizes words h k s e =
+    ap membersIn (e ∙ ap (λ m. toggledAll (replicate (wordsFor mostFeatures) 0) (bayPairs m)) (ap length s ∙ length-replicate n n))
+    ∙ run-held (atoms (baySizes n)) (wordsFor mostFeatures) (bayPairs n) (run-wider _ _ _ _ _ (omega arith) (bay-place n h k) (pairs-run n))
 
 -- ---- operators
 
@@ -114,6 +127,10 @@ slide-width p q t hp hq ht = by (ltb p q)
     by : (b : Bool) → length (operatorBytes (cond b (exchange p q 0 t) (exchange q p t 0))) ≡ operatorWidth
     by true = exchange-width p q 0 t (omega arith) (omega arith) (omega arith) (omega arith)
     by false = exchange-width q p t 0 (omega arith) (omega arith) (omega arith) (omega arith)
+
+-- So has the one that is measured.
+pub one-width : length (operatorBytes (entriesIn (0 ∷ 1 ∷ []) (0 ∷ 1 ∷ []) (1 ∷ 0 ∷ []))) ≡ operatorWidth
+one-width = ap (λ o. length (operatorBytes o)) (sym (slide-ordered 0 1 1 (omega arith))) ∙ slide-width 0 1 1 (omega arith) (omega arith) (omega arith)
 
 -- Things of k bytes each.
 bytes-each : {A : Type 0} (write : A → List ℕ) (k : ℕ) (l : List A) → ((a : A) → In a l → length (write a) ≡ k) → length (bytesOf write l) ≡ k * length l
@@ -165,42 +182,6 @@ walk-bytes n columns =
 
 -- ---- the whole
 
-pub list-few : (l : List ℕ) → length (counted numberBytes l) ≤ mostGroups + mostGroups * length l
-list-few l = omega (arith, counted-length numberBytes l, number-bytes-length (length l) .1, numbers-few l)
-
-pub front-length : (sizes start goal pairs : List ℕ) → length (frontBytes sizes start goal pairs)
-    ≡ length (counted numberBytes sizes) + length (bytesOf numberBytes start) + length (bytesOf numberBytes goal) + length (counted numberBytes pairs)
-unfolding frontBytes
-front-length sizes start goal pairs =
-    let last = bytesOf numberBytes goal ++ counted numberBytes pairs in
-    omega (
-      arith,
-      length-append (counted numberBytes sizes) (bytesOf numberBytes start ++ last),
-      length-append (bytesOf numberBytes start) last,
-      length-append (bytesOf numberBytes goal) (counted numberBytes pairs),
-    )
-
-pub task-bytes : (n columns : ℕ) (start goal : List ℕ) → taskBytes (taskFor n (neighbours columns) start goal)
-    ≡ frontBytes (baySizes n) start goal (bayPairs n) ++ counted operatorBytes (bayOperators n (neighbours columns))
-unfolding taskBytes taskFor frontBytes weightBytes
-task-bytes n columns start goal = sym (
-    append-assoc sizes (states ++ (goals ++ pairs)) rest ∙ ap (_++_ sizes) (append-assoc states (goals ++ pairs) rest ∙ ap (_++_ states) (append-assoc goals pairs rest)))
-  where
-    sizes : List ℕ
-    sizes = counted numberBytes (baySizes n)
-
-    states : List ℕ
-    states = bytesOf numberBytes start
-
-    goals : List ℕ
-    goals = bytesOf numberBytes goal
-
-    pairs : List ℕ
-    pairs = counted numberBytes (bayPairs n)
-
-    rest : List ℕ
-    rest = counted operatorBytes (bayOperators n (neighbours columns))
-
 pub operators-split : (n columns : ℕ) → counted operatorBytes (bayOperators n (neighbours columns)) ≡ numberBytes (length (bayOperators n (neighbours columns))) ++ walkBytes n columns
 unfolding counted
 operators-split n columns = ap (_++_ (numberBytes (length (bayOperators n (neighbours columns))))) (walk-bytes n columns)
@@ -209,54 +190,32 @@ operators-split n columns = ap (_++_ (numberBytes (length (bayOperators n (neigh
 pub take-sizes : (n : ℕ) → n ≤ mostSlots → take n (replicate mostSlots n) ≡ baySizes n
 take-sizes n h = take-replicate n mostSlots n h
 
--- The pairs stand in front of what else an array holds.
-pub listed-within : (l pairs rest : List ℕ) (count : ℕ) → count ≡ length l → pairs ≡ l ++ rest → count ≤ length pairs
-listed-within l pairs rest count e q = omega (arith, e, part-length l rest q)
-
-pub listed-pairs : (n count : ℕ) (sizes pairs rest : List ℕ) → sizes ≡ baySizes n → count ≡ length (bayPairs (length sizes)) → pairs ≡ bayPairs (length sizes) ++ rest
-    → take count pairs ≡ bayPairs n
-listed-pairs n count sizes pairs rest s e q =
-    ap (take count) q ∙ take-at (bayPairs (length sizes)) rest count (sym e) ∙ ap bayPairs (ap length s ∙ length-replicate n n)
-
-module _ (rows columns : ℕ) (sides : Sides rows columns) (sizes start goal pairs : List ℕ) (s : sizes ≡ baySizes (rows * columns))
-    (S : State (baySizes (rows * columns)) start) (G : State (baySizes (rows * columns)) goal) (p : pairs ≡ bayPairs (rows * columns)) where
+module _ {rows columns : ℕ} {sizes start goal pairs : List ℕ} (parts : TaskParts rows columns sizes start goal pairs) where
   -- What stands before the operators can be written.
-  pub front-written : Countable sizes × Numbers start × Numbers goal × Countable pairs × (length start < numberEnd) × (length goal < numberEnd)
+  pub front-written : Front sizes start goal pairs
   front-written =
-      let n = rows * columns in (
-        rw s (sizes-countable n (sides .5)),
-        state-numbers n start (sides .5) S,
-        state-numbers n goal (sides .5) G,
-        rw p (pairs-countable n (sides .4) (sides .5)),
-        omega (arith, bay-length n start S, sides .5),
-        omega (arith, bay-length n goal G, sides .5),
-      )
+      let n = rows * columns in
+      let few = parts .sides .5 in
+      (rw (parts .all-sizes) (sizes-countable n few), state-countable n start few (parts .is-start), state-countable n goal few (parts .is-goal), parts .few-words)
 
-  pub task-split : taskBytes (bayTask (bayWith rows columns start goal)) ≡ frontBytes sizes start goal pairs ++ counted operatorBytes (bayOperators (rows * columns) (neighbours columns))
-  task-split = rw (s, p) (task-bytes (rows * columns) columns start goal)
+  pub task-split : taskBytes (bayTask (bayWith rows columns start goal))
+      ≡ frontBytes sizes start goal (membersIn pairs) ++ counted operatorBytes (bayOperators (rows * columns) (neighbours columns))
+  unfolding taskFor
+  task-split = rw (parts .all-sizes, parts .all-pairs) (task-front (bayTask (bayWith rows columns start goal)))
 
   pub task-length : length (taskBytes (bayTask (bayWith rows columns start goal)))
-      ≡ length (frontBytes sizes start goal pairs) + length (counted operatorBytes (bayOperators (rows * columns) (neighbours columns)))
-  task-length = part-length (frontBytes sizes start goal pairs) _ task-split
+      ≡ length (frontBytes sizes start goal (membersIn pairs)) + length (counted operatorBytes (bayOperators (rows * columns) (neighbours columns)))
+  task-length = part-length (frontBytes sizes start goal (membersIn pairs)) _ task-split
 
   -- The whole is small.
   pub task-few : length (taskBytes (bayTask (bayWith rows columns start goal))) ≤ 20 * numberEnd
   task-few =
       let n = rows * columns in
-      let few = front-written in
       omega (
         arith,
         task-length,
-        front-length sizes start goal pairs,
-        list-few sizes,
-        numbers-few start,
-        numbers-few goal,
-        list-few pairs,
-        few .0 .0,
-        few .3 .0,
-        few .4,
-        few .5,
-        operators-length n (neighbours columns) (sides .5),
+        front-few sizes start goal pairs front-written,
+        operators-length n (neighbours columns) (parts .sides .5),
         number-bytes-length (length (bayOperators n (neighbours columns))) .1,
-        operators-counted rows columns sides .1,
+        operators-counted rows columns (parts .sides) .1,
       )

@@ -1,6 +1,6 @@
 -- What comes of a bay file, in the steps of the code: what is read or judged decides, or what is read next.
 use Prim.Native.Nat.{ℕ, suc, _*_, _<_, _≤_}
-use mathlib.Core.Path.{_≡_, refl, sym, ap, subst}
+use mathlib.Core.Path.{_≡_, refl, sym, subst}
 use mathlib.Core.Bool.{true, false, _&&_, cond}
 use mathlib.Core.List.{List}
 use native.Mathlib.Omega.{arith}
@@ -8,18 +8,14 @@ use native.Mathlib.Nat.{mul-le-mul}
 use lib.ListN.{length}
 use borrow.Author.Tests.{lt-leb, le-leb, lt-ltb, le-ltb}
 use Rattle.meaning.specs.Limits.{leastSide, mostSide, leastSlots, mostSlots}
-use Rattle.meaning.specs.Number.{Reason, Limit, LeftOver, Mislabelled, refusal, Read, got, fault, onRead, numbersOn}
+use Rattle.meaning.specs.Number.{Reason, Limit, LeftOver, Mislabelled, Read, got, fault, onRead, numbersOn}
 use Rattle.meaning.specs.File.{inside, judge, limited, ended, valuesOf, taskBytes}
-use Rattle.meaning.specs.Answer.{Outcome, refused, refuses, delivered, byRead}
+use Rattle.meaning.specs.Answer.{Outcome, refuses, delivered, byRead}
 use Rattle.meaning.specs.Bay.{Bay, slotCount, baySizes, side, sidesOf, bayOf, eachOnce, judgedBay, bayTask, Builds}
 use Rattle.theory.specs.Reading.{item-read}
 use Rattle.theory.specs.Parts.{item-said}
 use Rattle.theory.specs.Truth.{on, off, test}
-use Rattle.building.specs.declared.Built.{Built}
-use Rattle.building.specs.Answers.{builtOf, outcomeOf, Sides, bayWith, labelled, madeOf}
-
-pub refused-so : (answer : Built) (reason : Reason) (room : List ℕ) → builtOf answer ≡ refused (refusal reason) → outcomeOf answer room ≡ refuses reason room
-refused-so answer reason room e = ap (λ a. record { answer = a; lent = room }) e
+use Rattle.building.specs.Answers.{Sides, bayWith, labelled, madeOf}
 
 -- ---- labels are judged
 

@@ -1,4 +1,4 @@
--- Slots that share a side, and how many operators and pairs a bay has.
+-- Slots that share a side, and how many operators a bay has.
 use Prim.Native.Nat.{ℕ, suc, _+_, _-_, _*_, _/_, _%_, _<_, _≤_}
 use mathlib.Core.Path.{_≡_, refl, sym, ap, _∙_}
 use mathlib.Core.Logic.{_≢_}
@@ -6,12 +6,12 @@ use mathlib.Core.Bool.{Bool, true, false, _&&_, _||_, cond, or-false, and-false}
 use native.Mathlib.Omega.{arith}
 use native.Mathlib.Nat.{mul-le-mul}
 use lib.ListN.{length}
-use lib.Dec.{eqb, leb, ltb}
-use borrow.Author.Tests.{eqb-true, eq-eqb, ne-eqb, le-leb, lt-ltb, leb-true, ltb-true}
+use lib.Dec.{eqb, ltb}
+use borrow.Author.Tests.{eqb-true, eq-eqb, ne-eqb, le-leb, lt-ltb, ltb-true}
 use Rattle.meaning.specs.Sets.{flat, every}
 use Rattle.meaning.specs.Limits.{mostSide, leastSlots, mostSlots, numberEnd}
 use Rattle.meaning.specs.File.{inside}
-use Rattle.meaning.specs.Bay.{oneApart, neighbours, bayOperators, bayPairs}
+use Rattle.meaning.specs.Bay.{oneApart, neighbours, bayOperators}
 use Rattle.theory.specs.Search.{every-at, and-left, and-right, or-neither}
 use Rattle.theory.specs.Tells.{tells-agree, tells-map, tells-eq}
 use Rattle.building.specs.Answers.{Sides}
@@ -70,11 +70,3 @@ operators-counted rows columns s =
 
 pub sides-few : (rows columns : ℕ) → Sides rows columns → (rows * (columns - 1) ≤ mostSide * mostSide) × (columns * (rows - 1) ≤ mostSide * mostSide)
 sides-few rows columns s = (mul-le-mul {m₂ = mostSide} (s .1) (omega arith), mul-le-mul {m₂ = mostSide} (s .3) (omega arith))
-
--- How many pairs a bay has at most.
-abbrev pub mostPairs : ℕ
-mostPairs = 324
-
-pub pairs-few : (n : ℕ) → n ≤ mostSlots → length (bayPairs n) ≤ mostPairs
-unfolding every bayPairs flat
-pairs-few n h = leb-true _ _ (every-at (suc mostSlots) (λ k. leb (length (bayPairs k)) mostPairs) refl n (omega arith))

@@ -4,10 +4,9 @@ use mathlib.Core.Path.{_≡_, refl, sym, ap, ap₂, _∙_}
 use mathlib.Core.List.{List, [], _∷_, _++_, append-nil, append-assoc}
 use native.Mathlib.Omega.{arith}
 use native.Mathlib.Nat.{sub-zero, zero-add}
-use lib.ListN.{length, set, take, drop}
+use lib.ListN.{length, take, drop}
 use Rattle.meaning.specs.Sets.{flat}
 use Rattle.meaning.specs.File.{bytesOf}
-use Rattle.number.specs.Laws.{sets-all}
 use Rattle.writer.specs.Remains.{Remains, remains-all, remains-none}
 
 -- The lists for so many numbers from i on, one after another.
@@ -46,10 +45,6 @@ remains-whole n lists room at due e h = rw (sub-zero n, ← flat-from lists n, �
 pub nothing-due : (room : List ℕ) (at : ℕ) (due : List ℕ) → at + length due ≤ length room → due ≡ []
     → (at ≡ at + length due) × (room ≡ take at room ++ (due ++ drop at room))
 nothing-due room at due h e = remains-none (remains-all room at due h) e
-
--- A part of one number is a store.
-pub stored : (room : List ℕ) (at f : ℕ) → at < length room → set room at f ≡ take at room ++ ((f ∷ []) ++ drop (at + 1) room)
-stored room at f h = sets-all room at (at + 1) (f ∷ []) refl (omega arith)
 
 -- ---- the bytes of such a list
 

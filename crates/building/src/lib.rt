@@ -3,25 +3,22 @@ ghost use mathlib.Core.Path.{_≡_};
 ghost use mathlib.Core.List.{_++_};
 ghost use Prim.Native.Nat.{_+_, _*_, _<_, _≤_};
 ghost use lib.ListN.{length, take, drop};
-ghost use Rattle.meaning.specs.Limits.{mostSlots, numberEnd};
-ghost use Rattle.meaning.specs.Number.{refusal as refusalNumber, got};
+ghost use Rattle.meaning.specs.Limits.{mostSlots, wordBits};
+ghost use Rattle.meaning.specs.Number.{got};
 ghost use Rattle.meaning.specs.Task.{State};
+ghost use Rattle.meaning.specs.Feature.{features};
 ghost use Rattle.meaning.specs.File.{operatorBytes, counted, taskBytes};
 ghost use Rattle.meaning.specs.Bay.{occurrences, eachOnce, oneApart, neighbours, baySizes, bayPairs, slide, bayOperators, bayTask, Builds};
-ghost use Rattle.meaning.specs.Answer.{refused, delivered};
-ghost use Rattle.number.specs.Answers.{reasonOf};
-ghost use Rattle.writer.specs.Parts.{Numbers, Countable};
-ghost use Rattle.building.specs.Answers.{builtOf, outcomeOf, Sides, bayWith, labelled, madeOf};
-ghost use Rattle.building.specs.Parts.{Uniform, labelPairs, slotPairs, slideBytes, gapBytes, walkBytes, frontBytes};
+ghost use Rattle.meaning.specs.Answer.{delivered};
+ghost use Rattle.words.specs.Toggled.{toggledAll};
+ghost use Rattle.writer.specs.Answer.{outcomeOf};
+ghost use Rattle.building.specs.Answers.{Sides, bayWith, labelled, madeOf};
+ghost use Rattle.building.specs.Parts.{Uniform, TaskParts, labelPairs, slotPairs, slideBytes, gapBytes, walkBytes};
+use limits::MOST_WORDS;
 use number::Number;
 use number::Reason;
 use number::Step;
-
-// What the builder answers: the length of the task file; or the paper's number of a refusal.
-pub enum Built {
-    Built(usize),
-    Refused(u64),
-}
+use writer::Written;
 
 // "Rows and columns are each 1 to 9"
 const LEAST_SIDE: usize = 1;
@@ -32,18 +29,6 @@ const MOST_SIDE: usize = 9;
 const LEAST_SLOTS: usize = 2;
 
 const MOST_SLOTS: usize = 9;
-
-// How many pairs a bay of nine slots has: nine labels in each two slots.
-const MOST_PAIRS: usize = 324;
-
-// How many bytes an operator of a bay has: each of its seven numbers is below 128.
-const OPERATOR_WIDTH: usize = 7;
-
-fn refuse(reason: Reason) -> Built
-    ensures { λ r. ⌜ builtOf r ≡ refused (refusalNumber (reasonOf reason)) ⌝ }
-{
-    Built::Refused(number::refusal(reason))
-}
 
 // How often a label stands in a list.
 fn occurrences(label: usize, labels: &[u64]) -> usize
@@ -97,53 +82,43 @@ fn neighbours(columns: usize, p: usize, q: usize) -> bool
     false
 }
 
-// Lists the features that put one label in the slots i < j from a place on, and answers the place after them.
-fn list_labels(pairs: &mut [u64], at: usize, sizes: &[u64], i: usize, j: usize) -> usize
-    requires { ⌜ Uniform (now sizes) × (j < length (now sizes)) × (at + length (labelPairs (length (now sizes)) i j) ≤ length (now pairs)) ⌝ }
-    ensures after { λ r. ⌜ r ≡ at + length (labelPairs (length (now (sizes .entry))) i j) ⌝ }
-    ensures listed { λ r. ⌜ now (pairs .exit) ≡ take at (now (pairs .entry)) ++ (labelPairs (length (now (sizes .entry))) i j ++ drop r (now (pairs .entry))) ⌝ }
+// Marks in words, by a toggle each, the features that put one label in the slots i < j.
+fn mark_labels(pairs: &mut [u64], sizes: &[u64], i: usize, j: usize)
+    requires { ⌜ Uniform (now sizes) × (j < length (now sizes)) × (features (now sizes) ≤ wordBits * length (now pairs)) ⌝ }
+    ensures { λ r. ⌜ now (pairs .exit) ≡ toggledAll (now (pairs .entry)) (labelPairs (length (now (sizes .entry))) i j) ⌝ }
 {
     if j <= i {
-        return at;
+        return;
     }
-    let mut next = at;
     let mut label = 0;
     while label < sizes.len() {
-        pairs[next] = numbering::both(sizes, i, label, j, label) as u64;
-        next += 1;
+        words::toggle(pairs, numbering::both(sizes, i, label, j, label));
         label += 1;
     }
-    next
 }
 
-// Lists those with slot i as the first.
-fn list_slots(pairs: &mut [u64], at: usize, sizes: &[u64], i: usize) -> usize
-    requires { ⌜ Uniform (now sizes) × (at + length (slotPairs (length (now sizes)) i) ≤ length (now pairs)) ⌝ }
-    ensures after { λ r. ⌜ r ≡ at + length (slotPairs (length (now (sizes .entry))) i) ⌝ }
-    ensures listed { λ r. ⌜ now (pairs .exit) ≡ take at (now (pairs .entry)) ++ (slotPairs (length (now (sizes .entry))) i ++ drop r (now (pairs .entry))) ⌝ }
+// Marks those with slot i as the first.
+fn mark_slots(pairs: &mut [u64], sizes: &[u64], i: usize)
+    requires { ⌜ Uniform (now sizes) × (features (now sizes) ≤ wordBits * length (now pairs)) ⌝ }
+    ensures { λ r. ⌜ now (pairs .exit) ≡ toggledAll (now (pairs .entry)) (slotPairs (length (now (sizes .entry))) i) ⌝ }
 {
-    let mut next = at;
     let mut j = 0;
     while j < sizes.len() {
-        next = list_labels(pairs, next, sizes, i, j);
+        mark_labels(pairs, sizes, i, j);
         j += 1;
     }
-    next
 }
 
-// Lists all features that put one label in two slots, and answers how many there are.
-fn list_pairs(pairs: &mut [u64], sizes: &[u64]) -> usize
-    requires { ⌜ Uniform (now sizes) × (length (bayPairs (length (now sizes))) ≤ length (now pairs)) ⌝ }
-    ensures count { λ r. ⌜ r ≡ length (bayPairs (length (now (sizes .entry)))) ⌝ }
-    ensures listed { λ r. ⌜ now (pairs .exit) ≡ bayPairs (length (now (sizes .entry))) ++ drop r (now (pairs .entry)) ⌝ }
+// Marks all features that put one label in two slots.
+fn mark_pairs(pairs: &mut [u64], sizes: &[u64])
+    requires { ⌜ Uniform (now sizes) × (features (now sizes) ≤ wordBits * length (now pairs)) ⌝ }
+    ensures { λ r. ⌜ now (pairs .exit) ≡ toggledAll (now (pairs .entry)) (bayPairs (length (now (sizes .entry)))) ⌝ }
 {
-    let mut next = 0;
     let mut i = 0;
     while i < sizes.len() {
-        next = list_slots(pairs, next, sizes, i);
+        mark_slots(pairs, sizes, i);
         i += 1;
     }
-    next
 }
 
 // Writes the operator that slides the pallet t from q into the gap at p, entries by slot number.
@@ -225,37 +200,14 @@ fn write_operators(room: &mut [u8], at: usize, rows: usize, columns: usize) -> u
     write_walk(room, next, rows * columns, columns)
 }
 
-// Writes what stands before the operators.
-fn write_front(room: &mut [u8], sizes: &[u64], start: &[u64], goal: &[u64], pairs: &[u64]) -> usize
-    requires { ⌜ Countable (now sizes) × Numbers (now start) × Numbers (now goal) × Countable (now pairs)
-        × (length (frontBytes (now sizes) (now start) (now goal) (now pairs)) ≤ length (now room)) ⌝ }
-    ensures after { λ r. ⌜ r ≡ length (frontBytes (now (sizes .entry)) (now (start .entry)) (now (goal .entry)) (now (pairs .entry))) ⌝ }
-    ensures written { λ r. ⌜ now (room .exit) ≡ frontBytes (now (sizes .entry)) (now (start .entry)) (now (goal .entry)) (now (pairs .entry)) ++ drop r (now (room .entry)) ⌝ }
-{
-    let second = writer::write_list(room, 0, sizes);
-    let third = writer::write_numbers(room, second, start);
-    let fourth = writer::write_numbers(room, third, goal);
-    writer::write_list(room, fourth, pairs)
-}
-
-// How many bytes stand before the operators.
-fn front_width(sizes: &[u64], start: &[u64], goal: &[u64], pairs: &[u64]) -> usize
-    requires { ⌜ Countable (now sizes) × Numbers (now start) × Numbers (now goal) × Countable (now pairs) × (length (now start) < numberEnd) × (length (now goal) < numberEnd) ⌝ }
-    ensures { λ r. ⌜ r ≡ length (frontBytes (now (sizes .entry)) (now (start .entry)) (now (goal .entry)) (now (pairs .entry))) ⌝ }
-{
-    writer::list_width(sizes)
-        + writer::numbers_width(start)
-        + writer::numbers_width(goal)
-        + writer::list_width(pairs)
-}
-
-// How many bytes the operators have, with their count.
+// How many bytes the operators have, with their count: each number of an operator is below 128, so all operators are as long as one.
 fn operators_width(rows: usize, columns: usize) -> usize
     requires { ⌜ Sides rows columns ⌝ }
     ensures { λ r. ⌜ r ≡ length (counted operatorBytes (bayOperators (rows * columns) (neighbours columns))) ⌝ }
 {
     let count = operator_count(rows, columns);
-    number::width(count) + OPERATOR_WIDTH * count
+    let each = writer::operator_width(&[0, 1], &[0, 1], &[1, 0]);
+    number::width(count) + each * count
 }
 
 // Writes the task file of a bay from its parts, if the room is long enough for all of it.
@@ -267,48 +219,46 @@ fn write_task(
     goal: &[u64],
     pairs: &[u64],
     room: &mut [u8],
-) -> Built
-    requires { ⌜ Sides rows columns × (now sizes ≡ baySizes (rows * columns)) × State (baySizes (rows * columns)) (now start)
-        × State (baySizes (rows * columns)) (now goal) × (now pairs ≡ bayPairs (rows * columns)) ⌝ }
+) -> Written
+    requires { ⌜ TaskParts rows columns (now sizes) (now start) (now goal) (now pairs) ⌝ }
     ensures { λ r. ⌜ outcomeOf r (now (room .exit)) ≡ delivered (taskBytes (bayTask (bayWith rows columns (now (start .entry)) (now (goal .entry))))) (now (room .entry)) ⌝ }
 {
-    if room.len() < front_width(sizes, start, goal, pairs) + operators_width(rows, columns) {
-        return refuse(Reason::Small);
+    let front = writer::front_width(sizes, start, goal, pairs);
+    if room.len() < front + operators_width(rows, columns) {
+        return writer::refuse(Reason::Small);
     }
-    let next = write_front(room, sizes, start, goal, pairs);
-    Built::Built(write_operators(room, next, rows, columns))
+    let next = writer::write_front(room, sizes, start, goal, pairs);
+    Written::Done(write_operators(room, next, rows, columns))
 }
 
 // Writes the task file of a bay that was accepted.
-fn deliver(rows: usize, columns: usize, start: &[u64], goal: &[u64], room: &mut [u8]) -> Built
+fn deliver(rows: usize, columns: usize, start: &[u64], goal: &[u64], room: &mut [u8]) -> Written
     requires { ⌜ Sides rows columns × State (baySizes (rows * columns)) (now start) × State (baySizes (rows * columns)) (now goal) ⌝ }
     ensures { λ r. ⌜ outcomeOf r (now (room .exit)) ≡ delivered (taskBytes (bayTask (bayWith rows columns (now (start .entry)) (now (goal .entry))))) (now (room .entry)) ⌝ }
 {
     let n = rows * columns;
     let sizes = [n as u64; MOST_SLOTS];
-    let mut pairs = [0u64; MOST_PAIRS];
-    let count = list_pairs(&mut pairs, &sizes[..n]);
-    write_task(
-        rows,
-        columns,
-        &sizes[..n],
-        start,
-        goal,
-        &pairs[..count],
-        room,
-    )
+    let mut pairs = [0u64; MOST_WORDS];
+    mark_pairs(&mut pairs, &sizes[..n]);
+    write_task(rows, columns, &sizes[..n], start, goal, &pairs, room)
 }
 
 // Judges the labels of a bay, start first, and writes its task file.
-fn build_judged(rows: usize, columns: usize, start: &[u64], goal: &[u64], room: &mut [u8]) -> Built
+fn build_judged(
+    rows: usize,
+    columns: usize,
+    start: &[u64],
+    goal: &[u64],
+    room: &mut [u8],
+) -> Written
     requires { ⌜ Sides rows columns × State (baySizes (rows * columns)) (now start) × State (baySizes (rows * columns)) (now goal) ⌝ }
     ensures { λ r. ⌜ outcomeOf r (now (room .exit)) ≡ madeOf (got (bayWith rows columns (now (start .entry)) (now (goal .entry))) 0) (now (room .entry)) ⌝ }
 {
     if !each_once(start) {
-        return refuse(Reason::Mislabelled);
+        return writer::refuse(Reason::Mislabelled);
     }
     if !each_once(goal) {
-        return refuse(Reason::Mislabelled);
+        return writer::refuse(Reason::Mislabelled);
     }
     deliver(rows, columns, start, goal, room)
 }
@@ -322,7 +272,7 @@ fn build_labelled(
     start: &mut [u64],
     goal: &mut [u64],
     room: &mut [u8],
-) -> Built
+) -> Written
     requires { ⌜ Sides rows columns × (now start ≡ baySizes (rows * columns)) × (now goal ≡ baySizes (rows * columns)) ⌝ }
     ensures { λ r. ⌜ outcomeOf r (now (room .exit)) ≡ madeOf (labelled rows columns (now (bay .entry)) at) (now (room .entry)) ⌝ }
 {
@@ -340,18 +290,18 @@ fn build_labelled(
         ) {
             Step::Next(end) => {
                 if end < bay.len() {
-                    return refuse(Reason::LeftOver);
+                    return writer::refuse(Reason::LeftOver);
                 }
                 build_judged(rows, columns, start, goal, room)
             }
-            Step::Fault(reason, _) => refuse(reason),
+            Step::Fault(reason, _) => writer::refuse(reason),
         },
-        Step::Fault(reason, _) => refuse(reason),
+        Step::Fault(reason, _) => writer::refuse(reason),
     }
 }
 
 // Builds the task file of a bay file.
-pub fn build(bay: &[u8], room: &mut [u8]) -> Built
+pub fn build(bay: &[u8], room: &mut [u8]) -> Written
     ensures { λ r. ⌜ Builds (now (bay .entry)) (now (room .entry)) (outcomeOf r (now (room .exit))) ⌝ }
 {
     match number::item_at(bay, 0, LEAST_SIDE, MOST_SIDE + 1, Reason::Limit) {
@@ -365,10 +315,10 @@ pub fn build(bay: &[u8], room: &mut [u8]) -> Built
             Number::Got(columns, after) => {
                 let n = rows * columns;
                 if n < LEAST_SLOTS {
-                    return refuse(Reason::Limit);
+                    return writer::refuse(Reason::Limit);
                 }
                 if MOST_SLOTS < n {
-                    return refuse(Reason::Limit);
+                    return writer::refuse(Reason::Limit);
                 }
                 let mut start = [n as u64; MOST_SLOTS];
                 let mut goal = [n as u64; MOST_SLOTS];
@@ -382,8 +332,8 @@ pub fn build(bay: &[u8], room: &mut [u8]) -> Built
                     room,
                 )
             }
-            Number::Fault(reason, _) => refuse(reason),
+            Number::Fault(reason, _) => writer::refuse(reason),
         },
-        Number::Fault(reason, _) => refuse(reason),
+        Number::Fault(reason, _) => writer::refuse(reason),
     }
 }

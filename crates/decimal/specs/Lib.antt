@@ -1,3 +1,3 @@
 pub mod Decimal
-pub mod Written
+pub mod Put
 pub mod Members

@@ -1,25 +1,18 @@
-// Numbers of the finder's line, written in decimal: one number, and the members of a set of features.
-ghost use mathlib.Core.Path.{_≡_};
-ghost use mathlib.Core.List.{_++_};
+// Numbers of a line, written in decimal: one number, and the members of a set of features.
 ghost use Prim.Native.Nat.{_+_, _*_, _^_, _<_, _≤_};
-ghost use lib.ListN.{length, take, drop};
+ghost use lib.ListN.{length};
 ghost use Rattle.meaning.specs.Limits.{wordBits};
-ghost use Rattle.meaning.specs.Workspace.{has};
-ghost use Rattle.meaning.specs.Line.{mostDigits, word, wordsIn};
-ghost use Rattle.theory.specs.Run.{members};
-ghost use Rattle.decimal.specs.Decimal.{wordWidth};
+ghost use Rattle.meaning.specs.Line.{word, wordsIn};
+ghost use Rattle.words.specs.Members.{membersIn};
+ghost use Rattle.decimal.specs.Put.{Put};
 use words::WORD_BITS;
 
 const BASE: usize = 10;
 
-// The most that a number takes in a line, with its blank.
-pub const WORD_WIDTH: usize = 6;
-
 // Writes a blank and a number from a place on, and answers the place after it.
 pub fn put_word(line: &mut [u8], at: usize, n: usize) -> usize
-    requires { ⌜ (n < 10 ^ mostDigits) × (at + wordWidth ≤ length (now line)) ⌝ }
-    ensures after { λ r. ⌜ r ≡ at + length (word n) ⌝ }
-    ensures written { λ r. ⌜ now (line .exit) ≡ take at (now (line .entry)) ++ (word n ++ drop r (now (line .entry))) ⌝ }
+    requires { ⌜ at + length (word n) ≤ length (now line) ⌝ }
+    ensures { λ r. ⌜ Put (now (line .entry)) at (word n) r (now (line .exit)) ⌝ }
 {
     if n < BASE {
         line[at] = b' ';
@@ -33,10 +26,8 @@ pub fn put_word(line: &mut [u8], at: usize, n: usize) -> usize
 
 // Writes the members of a set of features, increasing, each with a blank before it, and answers the place after them.
 pub fn put_members(line: &mut [u8], at: usize, words: &[u64]) -> usize
-    requires { ⌜ (wordBits * length (now words) ≤ 10 ^ mostDigits) × (at + wordWidth * (wordBits * length (now words)) ≤ length (now line)) ⌝ }
-    ensures after { λ r. ⌜ r ≡ at + length (wordsIn (members (wordBits * length (now (words .entry))) (has (now (words .entry))))) ⌝ }
-    ensures written { λ r. ⌜ now (line .exit)
-        ≡ take at (now (line .entry)) ++ (wordsIn (members (wordBits * length (now (words .entry))) (has (now (words .entry)))) ++ drop r (now (line .entry))) ⌝ }
+    requires { ⌜ (wordBits * length (now words) < 2 ^ 64) × (at + length (wordsIn (membersIn (now words))) ≤ length (now line)) ⌝ }
+    ensures { λ r. ⌜ Put (now (line .entry)) at (wordsIn (membersIn (now (words .entry)))) r (now (line .exit)) ⌝ }
 {
     let mut next = at;
     let mut f = words::next_member(words, 0);

@@ -7,7 +7,7 @@ use native.Mathlib.Omega.{arith}
 use native.Mathlib.Nat.{mul-le-mul}
 use lib.Dec.{ltb}
 use lib.ListN.{length}
-use Rattle.meaning.specs.Limits.{wordBits}
+use Rattle.meaning.specs.Limits.{mostFeatures}
 use Rattle.meaning.specs.Feature.{features}
 use Rattle.meaning.specs.Number.{Reason, Small, Malformed, refusal}
 use Rattle.meaning.specs.File.{judgedTask, taskBytes, weightBytes, InLimits}
@@ -29,13 +29,7 @@ use Rattle.verdicts.specs.Answer.{VerdictLines}
 use Rattle.verdicts.specs.Fits.{Short, checks-short, verdict-few}
 use Rattle.writer.specs.Weights.{weightsJudged, weightsWritten, Writes}
 use Rattle.writer.specs.Judging.{fine-few, weights-refused, weights-delivered}
-use Rattle.florumeja.specs.Code.{valueEnd, Code, answerCode, verdictCode, lengthCode, findingCode, editCode}
-
-abbrev pub Fits : {A : Type 0} → (A → Code) → Answer A → Type 0
-Fits resultCode answer = answerCode resultCode answer .value < valueEnd
-
-abbrev pub FitsIn : {A : Type 0} → (A → Code) → Outcome A → Type 0
-FitsIn resultCode outcome = Fits resultCode (outcome .answer)
+use Rattle.codes.specs.Code.{valueEnd, verdictCode, lengthCode, findingCode, editCode, Fits, FitsIn}
 
 refusal-fits : (reason : Reason) → refusal reason < valueEnd
 refusal-fits reason = omega (arith, refusal-short reason)
@@ -62,8 +56,8 @@ checks-fit task weights answer checks = by answer (checks-short task weights ans
 
 words-fit : (sizes : List ℕ) → InLimits sizes → wordsDue (length sizes) (features sizes) < valueEnd
 words-fit sizes limits =
-    let few : wordsFor (features sizes) ≤ wordBits = omega (arith, limits .total) in
-    omega (arith, limits .variables .1, limits .total, mul-le-mul {m₂ = wordBits} (limits .total) few)
+    let few : wordsFor (features sizes) ≤ wordsFor mostFeatures = omega (arith, limits .total) in
+    omega (arith, limits .variables .1, limits .total, mul-le-mul (limits .total) few)
 
 pub opens-fit : (task room : List ℕ) (outcome : Outcome ℕ) → Opens task room outcome → FitsIn lengthCode outcome
 opens-fit task room =
@@ -123,7 +117,7 @@ lines-fit input room o (answer, prints, e) =
 
 pub verdict-lines-fit : (task weights room : List ℕ) (outcome : Outcome ℕ) → VerdictLines task weights room outcome → FitsIn lengthCode outcome
 verdict-lines-fit task weights room o (answer, checks, e) =
-    is-good (FitsIn lengthCode) _ (delivered-fits (verdictLine answer) room (omega (arith, verdict-few answer))) o e
+    is-good (FitsIn lengthCode) _ (delivered-fits (verdictLine answer) room (omega (arith, verdict-few answer (checks-short task weights answer checks)))) o e
 
 -- ---- a weight file: it has at most as many features as there are
 

@@ -1,118 +1,29 @@
 // The C face: each call on numbers and slices, with one number as its answer.
 ghost use mathlib.Core.Path.{_≡_};
-ghost use Prim.Native.Nat.{_<_};
 ghost use lib.ListN.{getD};
 ghost use Rattle.meaning.specs.Limits.{mostVariables};
 ghost use Rattle.meaning.specs.Answer.{Checks, Opens, Finds, Edits, addOperator, replaceStart, replaceGoal};
 ghost use Rattle.meaning.specs.Bay.{Builds};
-ghost use Rattle.checking.specs.Answer.{verdictOf};
-ghost use Rattle.opening.specs.Answer.{openedOf};
-ghost use Rattle.finding.specs.Found.{foundOf};
-ghost use Rattle.editing.specs.Answers.{editedOf};
 ghost use Rattle.building.specs.Answers.{builtOf};
-ghost use Rattle.text.specs.Answer.{printedOf};
 ghost use Rattle.line.specs.Answer.{Lines};
 ghost use Rattle.verdicts.specs.Answer.{VerdictLines};
 ghost use Rattle.words.specs.Members.{membersIn};
-ghost use Rattle.writer.specs.Weights.{Writes, writtenOf};
-ghost use Rattle.florumeja.specs.Code.{valueEnd, code, numberOf, answerCode, verdictCode, lengthCode, findingCode, editCode, Coded, Leaves};
-ghost use Rattle.florumeja.specs.Fits.{Fits};
+ghost use Rattle.writer.specs.Weights.{Writes};
+ghost use Rattle.codes.specs.Code.{numberOf, answerCode, verdictCode, lengthCode, findingCode, editCode, Coded, Leaves, Fits};
 ghost use Rattle.florumeja.specs.Places.{handed, SamePlaces};
 use building::Built;
-use checking::Verdict;
-use editing::Edited;
-use finding::Found;
 use limits::MOST_ENTRIES;
-use opening::Opened;
 use operator::Operator;
-use text::Printed;
 use writer::Written;
 
-// Every value is below this number.
-const VALUE_END: u64 = 4294967296;
-
-// A refusal's case in every call.
-const REFUSED: u64 = 3;
-
-// One number for a case and a value.
-fn coded(case: u64, value: u64) -> u64
-    requires { ⌜ (case < 4) × (value < valueEnd) ⌝ }
-    ensures { λ r. ⌜ r ≡ numberOf (code case value) ⌝ }
-{
-    case * VALUE_END + value
-}
-
-// Each call's answer as a number, case by case; that its value fits follows from what the call promises.
-fn verdict_number(verdict: Verdict) -> u64
-    requires { ⌜ Fits verdictCode (verdictOf verdict) ⌝ }
-    ensures { λ r. ⌜ r ≡ numberOf (answerCode verdictCode (verdictOf verdict)) ⌝ }
-{
-    match verdict {
-        Verdict::Accepted => coded(0, 0),
-        Verdict::EndsAlike => coded(1, 0),
-        Verdict::Operator(j) => coded(2, j as u64),
-        Verdict::Refused(n) => coded(REFUSED, n),
-    }
-}
-
-fn opened_number(opened: Opened) -> u64
-    requires { ⌜ Fits lengthCode (openedOf opened) ⌝ }
-    ensures { λ r. ⌜ r ≡ numberOf (answerCode lengthCode (openedOf opened)) ⌝ }
-{
-    match opened {
-        Opened::Opened(due) => coded(0, due as u64),
-        Opened::Refused(n) => coded(REFUSED, n),
-    }
-}
-
-fn found_number(found: Found) -> u64
-    requires { ⌜ Fits findingCode (foundOf found) ⌝ }
-    ensures { λ r. ⌜ r ≡ numberOf (answerCode findingCode (foundOf found)) ⌝ }
-{
-    match found {
-        Found::Separated => coded(0, 0),
-        Found::Nothing => coded(1, 0),
-        Found::Refused(n) => coded(REFUSED, n),
-    }
-}
-
-fn edited_number(edited: Edited) -> u64
-    requires { ⌜ Fits editCode (editedOf edited) ⌝ }
-    ensures { λ r. ⌜ r ≡ numberOf (answerCode editCode (editedOf edited)) ⌝ }
-{
-    match edited {
-        Edited::Done => coded(0, 0),
-        Edited::Refused(n) => coded(REFUSED, n),
-    }
-}
-
+// A bay's task file is numbered as every other file.
 fn built_number(built: Built) -> u64
     requires { ⌜ Fits lengthCode (builtOf built) ⌝ }
     ensures { λ r. ⌜ r ≡ numberOf (answerCode lengthCode (builtOf built)) ⌝ }
 {
     match built {
-        Built::Built(k) => coded(0, k as u64),
-        Built::Refused(n) => coded(REFUSED, n),
-    }
-}
-
-fn printed_number(printed: Printed) -> u64
-    requires { ⌜ Fits lengthCode (printedOf printed) ⌝ }
-    ensures { λ r. ⌜ r ≡ numberOf (answerCode lengthCode (printedOf printed)) ⌝ }
-{
-    match printed {
-        Printed::Printed(k) => coded(0, k as u64),
-        Printed::Refused(n) => coded(REFUSED, n),
-    }
-}
-
-fn written_number(written: Written) -> u64
-    requires { ⌜ Fits lengthCode (writtenOf written) ⌝ }
-    ensures { λ r. ⌜ r ≡ numberOf (answerCode lengthCode (writtenOf written)) ⌝ }
-{
-    match written {
-        Written::Done(k) => coded(0, k as u64),
-        Written::Refused(reason) => coded(REFUSED, number::refusal(reason)),
+        Built::Built(k) => codes::written_number(Written::Done(k)),
+        Built::Refused(n) => codes::written_number(Written::Refused(n)),
     }
 }
 
@@ -144,7 +55,7 @@ fn places(words: &[u64]) -> [usize; MOST_ENTRIES]
 pub extern "C" fn florumeja_check(task: &[u8], weights: &[u8]) -> u64
     ensures { λ r. ⌜ Coded verdictCode (Checks (now (task .entry)) (now (weights .entry))) r ⌝ }
 {
-    verdict_number(checking::check(task, weights))
+    codes::verdict_number(checking::check(task, weights))
 }
 
 // Opens a workspace from a task.
@@ -152,7 +63,7 @@ pub extern "C" fn florumeja_check(task: &[u8], weights: &[u8]) -> u64
 pub extern "C" fn florumeja_open(task: &[u8], room: &mut [u64]) -> u64
     ensures { λ r. ⌜ Leaves lengthCode (Opens (now (task .entry)) (now (room .entry))) (record { number = r; lent = now (room .exit) }) ⌝ }
 {
-    opened_number(opening::open(task, room))
+    codes::opened_number(opening::open(task, room))
 }
 
 // Finds the least weights that separate a workspace's start from its goal.
@@ -160,7 +71,7 @@ pub extern "C" fn florumeja_open(task: &[u8], room: &mut [u64]) -> u64
 pub extern "C" fn florumeja_find(workspace: &[u64], room: &mut [u64]) -> u64
     ensures { λ r. ⌜ Leaves findingCode (Finds (now (workspace .entry)) (now (room .entry))) (record { number = r; lent = now (room .exit) }) ⌝ }
 {
-    found_number(finding::find(workspace, room))
+    codes::found_number(finding::find(workspace, room))
 }
 
 // Adds an operator to a workspace. Places past a slice's end count as 0.
@@ -182,7 +93,7 @@ pub extern "C" fn florumeja_add_operator(
         befores: places(befores),
         afters: places(afters),
     };
-    edited_number(editing::add_operator(workspace, operator))
+    codes::edited_number(editing::add_operator(workspace, operator))
 }
 
 // Puts other values in the place of a workspace's start.
@@ -190,7 +101,7 @@ pub extern "C" fn florumeja_add_operator(
 pub extern "C" fn florumeja_replace_start(workspace: &mut [u64], values: &[u64]) -> u64
     ensures { λ r. ⌜ Leaves editCode (Edits (now (workspace .entry)) (replaceStart (now (values .entry)))) (record { number = r; lent = now (workspace .exit) }) ⌝ }
 {
-    edited_number(editing::replace_start(workspace, values))
+    codes::edited_number(editing::replace_start(workspace, values))
 }
 
 // Puts other values in the place of a workspace's goal.
@@ -198,7 +109,7 @@ pub extern "C" fn florumeja_replace_start(workspace: &mut [u64], values: &[u64])
 pub extern "C" fn florumeja_replace_goal(workspace: &mut [u64], values: &[u64]) -> u64
     ensures { λ r. ⌜ Leaves editCode (Edits (now (workspace .entry)) (replaceGoal (now (values .entry)))) (record { number = r; lent = now (workspace .exit) }) ⌝ }
 {
-    edited_number(editing::replace_goal(workspace, values))
+    codes::edited_number(editing::replace_goal(workspace, values))
 }
 
 // Builds the task file of a bay file.
@@ -214,7 +125,7 @@ pub extern "C" fn florumeja_build(bay: &[u8], room: &mut [u8]) -> u64
 pub extern "C" fn florumeja_line(input: &[u8], room: &mut [u8]) -> u64
     ensures { λ r. ⌜ Leaves lengthCode (Lines (now (input .entry)) (now (room .entry))) (record { number = r; lent = now (room .exit) }) ⌝ }
 {
-    printed_number(line::line(input, room))
+    codes::written_number(line::line(input, room))
 }
 
 // Writes the weight file of a set of features in words, as the finder leaves them.
@@ -222,7 +133,7 @@ pub extern "C" fn florumeja_line(input: &[u8], room: &mut [u8]) -> u64
 pub extern "C" fn florumeja_weight_file(words: &[u64], room: &mut [u8]) -> u64
     ensures { λ r. ⌜ Leaves lengthCode (Writes (membersIn (now (words .entry))) (now (room .entry))) (record { number = r; lent = now (room .exit) }) ⌝ }
 {
-    written_number(writer::weight_file(words, room))
+    codes::written_number(writer::weight_file(words, room))
 }
 
 // The line that tells the verdict on weights for a task.
@@ -230,5 +141,5 @@ pub extern "C" fn florumeja_weight_file(words: &[u64], room: &mut [u8]) -> u64
 pub extern "C" fn florumeja_check_line(task: &[u8], weights: &[u8], room: &mut [u8]) -> u64
     ensures { λ r. ⌜ Leaves lengthCode (VerdictLines (now (task .entry)) (now (weights .entry)) (now (room .entry))) (record { number = r; lent = now (room .exit) }) ⌝ }
 {
-    printed_number(verdicts::line(task, weights, room))
+    codes::written_number(verdicts::line(task, weights, room))
 }

@@ -3,24 +3,24 @@ use Prim.Native.Nat.{ℕ, _+_, _*_, _^_, _<_, _≤_}
 use mathlib.Core.Path.{_≡_, subst}
 use mathlib.Core.Logic.{_⊎_, inl, inr}
 use mathlib.Core.Bool.{true, _||_}
-use mathlib.Core.List.{List, [], _∷_}
+use mathlib.Core.List.{List, [], _∷_, _++_}
 use native.Mathlib.Omega.{arith}
 use lib.Dec.{ltb}
 use lib.ListN.{length, length-append}
 use borrow.Author.Tests.{ltb-false}
 use Rattle.meaning.specs.Limits.{mostInput, mostProgramFeatures}
 use Rattle.meaning.specs.Number.{Reason, Small, refusal, Read, got, fault}
-use Rattle.meaning.specs.Task.{Task}
+use Rattle.meaning.specs.Task.{Task, Run}
 use Rattle.meaning.specs.Feature.{features}
 use Rattle.meaning.specs.File.{judgedTask}
 use Rattle.meaning.specs.Answer.{Answer, done, refused, Outcome, writes, byRead}
-use Rattle.meaning.specs.Line.{Found as Answered, nothing, separating, Seeks, tooLarge, Prints, mostDigits, wordsIn, line}
+use Rattle.meaning.specs.Line.{Found as Answered, nothing, separating, Seeks, tooLarge, Prints, word, wordsIn, line}
 use Rattle.theory.specs.Truth.{on, off, test, clash}
 use Rattle.theory.specs.Search.{or-right}
 use Rattle.theory.specs.Run.{run-length}
-use Rattle.decimal.specs.Decimal.{wordWidth, words-few}
+use Rattle.decimal.specs.Decimal.{wordWidth, word-few, words-few}
 use Rattle.text.specs.Answer.{line-of-written}
-use Rattle.text.specs.Parts.{refused-few, refusal-short}
+use Rattle.text.specs.Parts.{mostDigits, refused-few, refusal-short}
 use Rattle.finding.specs.declared.Found.{Found}
 use Rattle.finding.specs.declared.Found.the-variants.{Separated, Nothing, Refused}
 use Rattle.line.specs.Answer.{Lines, soughtOf}
@@ -68,23 +68,30 @@ prints-short input weights (Refused number) prints = elim (answers input (refuse
 
 -- `separated`, the count and the most features, and the line's end.
 abbrev pub lineBytes : ℕ
-lineBytes = 9 + wordWidth * (1 + mostProgramFeatures) + 1
+lineBytes = 9 + wordWidth mostDigits * (1 + mostProgramFeatures) + 1
 
-features-few : (input fs : List ℕ) → Prints input (done (separating fs)) → length fs ≤ mostProgramFeatures
+features-few : (input fs : List ℕ) → Prints input (done (separating fs)) → (n : ℕ) × Run 0 fs n × (n ≤ mostProgramFeatures)
 features-few input fs prints = elim (answers input (done (separating fs)) prints) [
   | inl (reason, e) ↦ absurd (let z : _≡_ {A = ℕ} 0 1 = cc in omega arith)
-  | inr (T, found, e, seeks, few) ↦
-      let same : found ≡ separating fs = cc in
-      let run = subst (Seeks T) same seeks .0 in
-      omega (arith, run-length 0 (features (T .sizes)) fs run)
+  | inr (T, found, e, seeks, few) ↦ let same : found ≡ separating fs = cc in (features (T .sizes), subst (Seeks T) same seeks .0, few)
 ]
 
 pub line-short : (input : List ℕ) (answer : Answer Answered) → Prints input answer → length (line answer) ≤ lineBytes
-unfolding line
+unfolding line wordsIn
 line-short input (done (separating fs)) prints =
-    omega (arith, length-append (wordsIn (length fs ∷ fs)) (10 ∷ []), words-few (length fs ∷ fs), features-few input fs prints)
+    let (n, run, few) = features-few input fs prints in
+    let count = run-length 0 n fs run in
+    omega (
+      arith,
+      few,
+      count,
+      length-append (word (length fs) ++ wordsIn fs) (10 ∷ []),
+      length-append (word (length fs)) (wordsIn fs),
+      word-few mostDigits (length fs) (omega arith) (omega (arith, few, count)),
+      words-few mostDigits 0 n fs (omega arith) (omega (arith, few)) run,
+    )
 line-short input (done nothing) prints = omega arith
-line-short input (refused number) prints = omega (arith, refused-few number)
+line-short input (refused number) prints = omega (arith, refused-few number (prints-short input [] (Refused number) prints))
 
 -- A room as long as that is never refused.
 pub lines-written : (input room : List ℕ) → lineBytes ≤ length room → (outcome : Outcome ℕ) → Lines input room outcome

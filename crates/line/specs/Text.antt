@@ -6,15 +6,15 @@ use native.Mathlib.Omega.{arith}
 use lib.ListN.{length}
 use Rattle.meaning.specs.Answer.{done}
 use Rattle.meaning.specs.Line.{separating, word, wordsIn, line}
-use Rattle.decimal.specs.Written.{Written, written-behind}
+use Rattle.decimal.specs.Put.{Put, put-behind}
 use Rattle.words.specs.Members.{membersIn}
 
-pub separated-written : (weights : List ℕ) {text line₁ line₂ line₃ line₄ : List ℕ} {first second third end : ℕ} (count : ℕ)
+pub separated-put : (weights : List ℕ) {text line₁ line₂ line₃ line₄ : List ℕ} {first second third end : ℕ} (count : ℕ)
     → count ≡ length (membersIn weights) → first ≤ length line₁
-    → Written text 0 (115 ∷ 101 ∷ 112 ∷ 97 ∷ 114 ∷ 97 ∷ 116 ∷ 101 ∷ 100 ∷ []) first line₁
-    → Written line₁ first (word count) second line₂
-    → Written line₂ second (wordsIn (membersIn weights)) third line₃
-    → Written line₃ third (10 ∷ []) end line₄
-    → Written text 0 (line (done (separating (membersIn weights)))) end line₄
+    → Put text 0 (115 ∷ 101 ∷ 112 ∷ 97 ∷ 114 ∷ 97 ∷ 116 ∷ 101 ∷ 100 ∷ []) first line₁
+    → Put line₁ first (word count) second line₂
+    → Put line₂ second (wordsIn (membersIn weights)) third line₃
+    → Put line₃ third (10 ∷ []) end line₄
+    → Put text 0 (line (done (separating (membersIn weights)))) end line₄
 unfolding line wordsIn
-separated-written weights count e h a b c d = written-behind (omega arith) a (written-behind h (written-behind h (rw e at b) c) d)
+separated-put weights count e h a b c d = put-behind (omega arith) a (put-behind h (put-behind h (rw e at b) c) d)

@@ -3,19 +3,19 @@ ghost use mathlib.Core.Path.{_≡_};
 ghost use lib.ListN.{length, replicate};
 ghost use Rattle.meaning.specs.Line.{separating, Prints, line};
 ghost use Rattle.meaning.specs.Answer.{done};
-ghost use Rattle.decimal.specs.Written.{Written};
+ghost use Rattle.decimal.specs.Put.{Put};
 ghost use Rattle.words.specs.Members.{membersIn};
-ghost use Rattle.text.specs.Answer.{printedOf};
+ghost use Rattle.writer.specs.Answer.{outcomeOf};
 ghost use Rattle.line.specs.Answer.{Lines, soughtOf};
 ghost use Rattle.line.specs.Sought.{mostDue, weightWords};
 ghost use Rattle.line.specs.Fits.{lineBytes, ShortNumber};
-use decimal::WORD_WIDTH;
 use finding::Found;
 use limits::MOST_VARIABLES;
 use number::Reason;
 use opening::Opened;
-use text::Printed;
+use text::WORD_WIDTH;
 use words::WORD_BITS;
+use writer::Written;
 
 // "More than 8,192 bytes give 8 before anything is judged"
 const MOST_INPUT: usize = 8192;
@@ -51,7 +51,7 @@ fn seek(input: &[u8], workspace: &mut [u64], weights: &mut [u64]) -> Found
 // Puts the line for weights that separate.
 fn put_separated(text: &mut [u8], weights: &[u64]) -> usize
     requires { ⌜ (length (now text) ≡ lineBytes) × (length (now weights) ≡ weightWords) ⌝ }
-    ensures { λ r. ⌜ Written (now (text .entry)) 0 (line (done (separating (membersIn (now (weights .entry)))))) r (now (text .exit)) ⌝ }
+    ensures { λ r. ⌜ Put (now (text .entry)) 0 (line (done (separating (membersIn (now (weights .entry)))))) r (now (text .exit)) ⌝ }
 {
     let count = words::count(weights);
     let first = text::put(text, 0, b"separated");
@@ -63,7 +63,7 @@ fn put_separated(text: &mut [u8], weights: &[u64]) -> usize
 // Puts the line for what was found.
 fn put_line(text: &mut [u8], found: Found, weights: &[u64]) -> usize
     requires { ⌜ (length (now text) ≡ lineBytes) × (length (now weights) ≡ weightWords) × ShortNumber found ⌝ }
-    ensures { λ r. ⌜ Written (now (text .entry)) 0 (line (soughtOf found (now (weights .entry)))) r (now (text .exit)) ⌝ }
+    ensures { λ r. ⌜ Put (now (text .entry)) 0 (line (soughtOf found (now (weights .entry)))) r (now (text .exit)) ⌝ }
 {
     match found {
         Found::Separated => put_separated(text, weights),
@@ -73,8 +73,8 @@ fn put_line(text: &mut [u8], found: Found, weights: &[u64]) -> usize
 }
 
 // The line for a task file goes to the front of a room that is long enough for it. Any bytes are taken.
-pub fn line(input: &[u8], room: &mut [u8]) -> Printed
-    ensures { λ r. ⌜ Lines (now (input .entry)) (now (room .entry)) (record { answer = printedOf r; lent = now (room .exit) }) ⌝ }
+pub fn line(input: &[u8], room: &mut [u8]) -> Written
+    ensures { λ r. ⌜ Lines (now (input .entry)) (now (room .entry)) (outcomeOf r (now (room .exit))) ⌝ }
 {
     let mut workspace = [0u64; WORKSPACE_WORDS];
     let mut weights = [0u64; WEIGHT_WORDS];

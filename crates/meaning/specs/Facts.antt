@@ -259,6 +259,11 @@ operator-line : verdictLine (done (breaks 16382))
 unfolding verdictLine word digits
 operator-line = refl
 
+-- A number is written with all its digits, whatever files can count.
+long-word : word 20971510 ≡ 32 ∷ 50 ∷ 48 ∷ 57 ∷ 55 ∷ 49 ∷ 53 ∷ 49 ∷ 48 ∷ []
+unfolding word digits
+long-word = refl
+
 -- `refused 7`.
 refused-line : verdictLine (refused 7) ≡ 114 ∷ 101 ∷ 102 ∷ 117 ∷ 115 ∷ 101 ∷ 100 ∷ 32 ∷ 55 ∷ 10 ∷ []
 unfolding verdictLine refusedLine word digits

@@ -1,7 +1,7 @@
 -- The finder and the checker as programs: what they say of their files, and the lines that they print.
 use Prim.Native.Nat.{ℕ, zero, suc, _+_, _/_, _%_}
 use mathlib.Core.Path.{_≡_}
-use mathlib.Core.Bool.{Bool, false, _||_, cond}
+use mathlib.Core.Bool.{Bool, true, false, _||_, cond}
 use mathlib.Core.List.{List, [], _∷_, _++_}
 use lib.ListN.{length}
 use lib.Dec.{ltb}
@@ -44,17 +44,14 @@ Prints input answer =
 
 -- ---- the parts of a line: "numbers are decimal; one blank between", and one line feed
 
--- Five decimal digits hold every number of a file.
-abbrev pub mostDigits : ℕ
-mostDigits = 5
-
+-- The decimal digits of a number, as many as it has, if it has no more than so many.
 unfoldable pub digits : ℕ → ℕ → List ℕ
 digits zero n = []
-digits (suc k) n = cond (ltb n 10) ((48 + n) ∷ []) (digits k (n / 10) ++ ((48 + n % 10) ∷ []))
+digits (suc k) n = elim (ltb n 10) [ true ↦ (48 + n) ∷ [] | false ↦ digits k (n / 10) ++ ((48 + n % 10) ∷ []) ]
 
--- A blank and a number in decimal.
+-- A blank and a number in decimal: no number n has more than n + 1 digits.
 unfoldable pub word : ℕ → List ℕ
-word n = 32 ∷ digits mostDigits n
+word n = 32 ∷ digits (suc n) n
 
 unfoldable pub wordsIn : List ℕ → List ℕ
 wordsIn [] = []

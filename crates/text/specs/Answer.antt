@@ -6,26 +6,23 @@ use native.Mathlib.Omega.{arith}
 use lib.Dec.{ltb}
 use lib.ListN.{length, take, drop, length-append}
 use borrow.Author.Tests.{ltb-true, ltb-false}
-use Rattle.meaning.specs.Answer.{Answer, done, refused, Outcome, writes, delivered}
+use Rattle.meaning.specs.Answer.{Answer, done, Outcome, writes, delivered}
 use Rattle.theory.specs.Determined.{AtMostOne}
 use Rattle.theory.specs.Truth.{on, off, test}
+use Rattle.writer.specs.Answer.{outcomeOf}
 use Rattle.writer.specs.Remains.{delivered-small, delivered-whole}
-use Rattle.text.specs.declared.Printed.{Printed}
-use Rattle.text.specs.declared.Printed.the-variants as printed
-
-abbrev pub printedOf : Printed → Answer ℕ
-printedOf (printed.Printed n) = done n
-printedOf (printed.Refused number) = refused number
+use Rattle.writer.specs.declared.Written.{Written}
+use Rattle.writer.specs.declared.Written.the-variants.{Done, Refused}
 
 -- A line, if it was written, ends within so many bytes.
-abbrev pub EndsWithin : ℕ → Printed → Type 0
-EndsWithin bytes (printed.Printed end) = end ≤ bytes
-EndsWithin bytes (printed.Refused number) = Unit {0}
+abbrev pub EndsWithin : ℕ → Written → Type 0
+EndsWithin bytes (Done end) = end ≤ bytes
+EndsWithin bytes (Refused number) = Unit {0}
 
 -- The line that stands in front of a room; nothing where it was refused.
-abbrev pub lineIn : Printed → List ℕ → List ℕ
-lineIn (printed.Printed end) room = take end room
-lineIn (printed.Refused number) room = []
+abbrev pub lineIn : Written → List ℕ → List ℕ
+lineIn (Done end) room = take end room
+lineIn (Refused number) room = []
 
 module _ {A : Type 0} (Allows : Answer A → Type 0) (lineOf : Answer A → List ℕ) (room : List ℕ) where
   -- The line of an allowed answer goes to the front of the room; 8 where the room is too short for it.
@@ -36,9 +33,9 @@ module _ {A : Type 0} (Allows : Answer A → Type 0) (lineOf : Answer A → List
   line-of-only only a b (x, p, e) (y, q, f) = e ∙ ap (λ answer. delivered (lineOf answer) room) (only x y p q) ∙ sym f
 
   -- A line that was written ends within the room.
-  pub line-of-ends : (left : List ℕ) (result : Printed) → LineOf (record { answer = printedOf result; lent = left }) → EndsWithin (length left) result
-  line-of-ends left (printed.Refused number) lines = tt
-  line-of-ends left (printed.Printed end) (answer, allowed, e) = elim (test (ltb (length room) (length (lineOf answer)))) [
+  pub line-of-ends : (left : List ℕ) (result : Written) → LineOf (outcomeOf result left) → EndsWithin (length left) result
+  line-of-ends left (Refused number) lines = tt
+  line-of-ends left (Done end) (answer, allowed, e) = elim (test (ltb (length room) (length (lineOf answer)))) [
     | on t ↦ absurd (let z : _≡_ {A = ℕ} 0 1 = cc (ap (λ (o : Outcome ℕ). o .answer) (e ∙ delivered-small (lineOf answer) room (ltb-true _ _ t))) in omega arith)
     | off t ↦
         let q = e ∙ delivered-whole (lineOf answer) room (ltb-false _ _ t) in

@@ -8,9 +8,9 @@ use lib.ListN.{length, getD, set, take, drop, length-append}
 use lib.Seq.{paste, paste-suc, take-all, take-at}
 use Rattle.meaning.specs.Number.{Reason, Ends, Padded, Endless, Limit, Range, Unordered, LeftOver, Outgrown, Held, Unclosed}
 use Rattle.meaning.specs.Number.{Small, Malformed, Mislabelled, refusal}
-use Rattle.meaning.specs.Line.{mostDigits, word, refusedLine}
+use Rattle.meaning.specs.Line.{word, refusedLine}
 use Rattle.decimal.specs.Decimal.{wordWidth, word-few}
-use Rattle.decimal.specs.Written.{Written, written-behind}
+use Rattle.decimal.specs.Put.{Put, put-behind}
 
 -- ---- bytes copied
 
@@ -21,7 +21,7 @@ module _ (text₀ : List ℕ) (at : ℕ) (bytes : List ℕ) (i : ℕ) (text : Li
       ∙ paste-suc text₀ at bytes i 0 (omega arith) more
       ∙ ap (paste text₀ at bytes) (sym (add-one i))
 
-  pub copied-all : i ≡ length bytes → Written text₀ at bytes (at + i) text
+  pub copied-all : i ≡ length bytes → Put text₀ at bytes (at + i) text
   copied-all all = record {
     place = omega arith;
     stands = so-far ∙ append-assoc (take at text₀) (take i bytes) (drop (at + i) text₀)
@@ -30,34 +30,34 @@ module _ (text₀ : List ℕ) (at : ℕ) (bytes : List ℕ) (i : ℕ) (text : Li
 
 -- ---- the parts of a line
 
--- A text written from the front on is the front.
-pub written-front : (entry part exit : List ℕ) (after : ℕ) → Written entry 0 part after exit → take after exit ≡ part
-written-front entry part exit after w = ap (take after) (w .stands) ∙ take-at part (drop after entry) after (omega (arith, w .place))
+-- A text put from the front on is the front.
+pub put-front : (entry part exit : List ℕ) (after : ℕ) → Put entry 0 part after exit → take after exit ≡ part
+put-front entry part exit after w = ap (take after) (w .stands) ∙ take-at part (drop after entry) after (omega (arith, w .place))
 
-pub written-within : (entry part exit : List ℕ) (after : ℕ) → Written entry 0 part after exit → after ≤ length exit
-written-within entry part exit after w = omega (arith, w .place, ap length (w .stands), length-append part (drop after entry))
-
--- A word has few bytes.
-pub word-ends : (at n after : ℕ) → after ≡ at + length (word n) → after ≤ at + wordWidth
-word-ends at n after e = omega (arith, word-few n)
+pub put-within : (entry part exit : List ℕ) (after : ℕ) → Put entry 0 part after exit → after ≤ length exit
+put-within entry part exit after w = omega (arith, w .place, ap length (w .stands), length-append part (drop after entry))
 
 -- A line of some bytes, one number and the line's end.
-pub numbered-written : (bytes : List ℕ) (number : ℕ) {text line₁ line₂ line₃ : List ℕ} {first second end : ℕ} → first ≤ length line₁
-    → Written text 0 bytes first line₁
-    → Written line₁ first (word number) second line₂
-    → Written line₂ second (10 ∷ []) end line₃
-    → Written text 0 (bytes ++ (word number ++ (10 ∷ []))) end line₃
-numbered-written bytes number h a b c = written-behind (omega arith) a (written-behind h b c)
+pub numbered-put : (bytes : List ℕ) (number : ℕ) {text line₁ line₂ line₃ : List ℕ} {first second end : ℕ} → first ≤ length line₁
+    → Put text 0 bytes first line₁
+    → Put line₁ first (word number) second line₂
+    → Put line₂ second (10 ∷ []) end line₃
+    → Put text 0 (bytes ++ (word number ++ (10 ∷ []))) end line₃
+numbered-put bytes number h a b c = put-behind (omega arith) a (put-behind h b c)
 
 -- ---- a refusal's line
 
+-- Five decimal digits hold every number of the lines.
+abbrev pub mostDigits : ℕ
+mostDigits = 5
+
 -- `refused`, a number and the line's end.
 abbrev pub refusedBytes : ℕ
-refusedBytes = 7 + wordWidth + 1
+refusedBytes = 7 + wordWidth mostDigits + 1
 
-pub refused-few : (number : ℕ) → length (refusedLine number) ≤ refusedBytes
+pub refused-few : (number : ℕ) → number < 10 ^ mostDigits → length (refusedLine number) ≤ refusedBytes
 unfolding refusedLine
-refused-few number = omega (arith, length-append (word number) (10 ∷ []), word-few number)
+refused-few number short = omega (arith, length-append (word number) (10 ∷ []), word-few mostDigits number (omega arith) short)
 
 -- A refusal's number has few enough digits for a line.
 pub refusal-short : (reason : Reason) → refusal reason < 10 ^ mostDigits

@@ -12,12 +12,12 @@ use Rattle.meaning.specs.Feature.{features}
 use Rattle.meaning.specs.Number.{Reason, Small, refusal}
 use Rattle.meaning.specs.File.{judgedTask, judgedWeights}
 use Rattle.meaning.specs.Answer.{Answer, done, refused, Outcome, writes, Verdict, accepted, endsAlike, breaks, Judges, Checks}
-use Rattle.meaning.specs.Line.{mostDigits, word, ChecksFiles, verdictLine}
+use Rattle.meaning.specs.Line.{word, ChecksFiles, verdictLine}
 use Rattle.theory.specs.Accepted as theory
 use Rattle.decimal.specs.Decimal.{wordWidth, word-few}
 use Rattle.text.specs.Allowed.{is-good, if-good, read-good}
 use Rattle.text.specs.Answer.{line-of-written}
-use Rattle.text.specs.Parts.{refused-few, refusal-short}
+use Rattle.text.specs.Parts.{mostDigits, refused-few, refusal-short}
 use Rattle.verdicts.specs.Answer.{VerdictLines, FileLines}
 
 -- ---- numbers
@@ -53,21 +53,21 @@ files-short task weights =
 
 -- `rejected operator`, its number, and the line's end.
 abbrev pub verdictBytes : ℕ
-verdictBytes = 17 + wordWidth + 1
+verdictBytes = 17 + wordWidth mostDigits + 1
 
-pub verdict-few : (answer : Answer Verdict) → length (verdictLine answer) ≤ verdictBytes
+pub verdict-few : (answer : Answer Verdict) → Short answer → length (verdictLine answer) ≤ verdictBytes
 unfolding verdictLine
-verdict-few (done accepted) = omega arith
-verdict-few (done endsAlike) = omega arith
-verdict-few (done (breaks j)) = omega (arith, length-append (word j) (10 ∷ []), word-few j)
-verdict-few (refused number) = omega (arith, refused-few number)
+verdict-few (done accepted) short = omega arith
+verdict-few (done endsAlike) short = omega arith
+verdict-few (done (breaks j)) short = omega (arith, length-append (word j) (10 ∷ []), word-few mostDigits j (omega arith) short)
+verdict-few (refused number) short = omega (arith, refused-few number short)
 
 -- A room as long as that is never refused.
 module _ (task weights room : List ℕ) (long : verdictBytes ≤ length room) where
   pub verdict-lines-written : (outcome : Outcome ℕ) → VerdictLines task weights room outcome
       → (answer : Answer Verdict) × Checks task weights answer × (outcome ≡ writes (length (verdictLine answer)) (verdictLine answer) room)
-  verdict-lines-written = line-of-written (Checks task weights) verdictLine room verdictBytes (λ answer h. verdict-few answer) long
+  verdict-lines-written = line-of-written (Checks task weights) verdictLine room verdictBytes (λ answer h. verdict-few answer (checks-short task weights answer h)) long
 
   pub file-lines-written : (outcome : Outcome ℕ) → FileLines task weights room outcome
       → (answer : Answer Verdict) × ChecksFiles task weights answer × (outcome ≡ writes (length (verdictLine answer)) (verdictLine answer) room)
-  file-lines-written = line-of-written (ChecksFiles task weights) verdictLine room verdictBytes (λ answer h. verdict-few answer) long
+  file-lines-written = line-of-written (ChecksFiles task weights) verdictLine room verdictBytes (λ answer h. verdict-few answer (files-short task weights answer h)) long

@@ -53,7 +53,7 @@ module _ (a : Set) where
   members-next n f next r l h = members-clear (f + 1) next (h .above) (h .clear) ∙ ap (λ k. members k a) (add-one f) ∙ members-here f (r .member l)
 
   -- The walk meets each member in its turn: at f so many are behind it, and f is the one at that place.
-  members-from : (f n : ℕ) → f < n → a f ≡ true → (rest : List ℕ) × (members n a ≡ members f a ++ (f ∷ rest))
+  pub members-from : (f n : ℕ) → f < n → a f ≡ true → (rest : List ℕ) × (members n a ≡ members f a ++ (f ∷ rest))
   unfolding members flat
   members-from f (suc n) h e = elim (order f n) [
     | less l ↦ let (rest, q) = members-from f n l e in

@@ -14,10 +14,11 @@ use Rattle.meaning.specs.Limits.{wordBits}
 use Rattle.meaning.specs.Workspace.{wordsFor, has, packed}
 use Rattle.theory.specs.Truth.{on, off, test, xor-left-comm, xor-false, xor-assoc}
 use Rattle.theory.specs.Toggles.{xorOf, toggles, Below, toggles-past}
-use Rattle.theory.specs.Run.{run-rest, run-outside, run-in}
+use Rattle.theory.specs.Run.{run-rest, run-outside, run-in, run-members, run-same}
 use Rattle.theory.specs.Words.{Words, packed-is, packed-cong}
 use Rattle.words.specs.Change.{toggled, length-toggled, words-toggled, has-toggled}
 use Rattle.words.specs.Part.{has-none, words-none}
+use Rattle.words.specs.Members.{membersIn, listed-in-words}
 
 unfoldable pub toggledAll : List ℕ → List ℕ → List ℕ
 toggledAll row [] = row
@@ -90,3 +91,14 @@ run-toggles low high (x ∷ l) f run = elim (test (eqb f x)) [
 -- Such a list in words with no member makes the words of its set.
 pub run-packed : (low n : ℕ) (l : List ℕ) → Run low l n → toggledAll (replicate (wordsFor n) 0) l ≡ packed n (listed l)
 run-packed low n l run = toggled-packed n l (λ m i. run-in low n l m run i .1) ∙ packed-cong n (toggles l) (listed l) (λ f h. run-toggles low n l f run)
+
+-- And it is the list of that set's members, in any number of words that have a place for each.
+pub run-held : (low k : ℕ) (l : List ℕ) → Run low l (wordBits * k) → membersIn (toggledAll (replicate k 0) l) ≡ l
+run-held low k l run =
+    let words = toggledAll (replicate k 0) l in
+    run-same 0 (wordBits * length words) low (wordBits * k) (membersIn words) l (run-members (wordBits * length words) (has words)) run (λ f. listed-in-words words f ∙ held f)
+  where
+    held : (f : ℕ) → has (toggledAll (replicate k 0) l) f ≡ listed l f
+    held f =
+        has-all (replicate k 0) l f (λ m i. rw (length-replicate {A = ℕ} k 0) (run-in low (wordBits * k) l m run i .1))
+        ∙ rw (has-none k f, xor-false (toggles l f)) (run-toggles low (wordBits * k) l f run)

@@ -46,6 +46,9 @@ module _ {A : Type 0} (write : A → List ℕ) where
 pub numbers-few : (l : List ℕ) → length (bytesOf numberBytes l) ≤ mostGroups * length l
 numbers-few = bytes-few numberBytes mostGroups (λ n. number-bytes-length n .1)
 
+pub list-few : (l : List ℕ) → length (counted numberBytes l) ≤ mostGroups + mostGroups * length l
+list-few l = omega (arith, counted-length numberBytes l, number-bytes-length (length l) .1, numbers-few l)
+
 pub entry-length : (e : Entry) → length (entryBytes e) ≡ length (numberBytes (e .variable)) + length (numberBytes (e .before)) + length (numberBytes (e .after))
 unfolding entryBytes
 entry-length e =

@@ -1,5 +1,5 @@
-// The parts of task files, written into lent bytes: how many bytes a part has, and the part written at a place; and whole weight files, of a list of features
-// or of a set in words.
+// The parts of task files, written into lent bytes: how many bytes a part has, and the part written at a place; what stands before the operators, as a whole;
+// and whole weight files, of a list of features or of a set in words.
 ghost use mathlib.Core.Path.{_≡_};
 ghost use mathlib.Core.List.{_++_};
 ghost use Prim.Native.Nat.{_+_, _<_, _≤_};
@@ -13,13 +13,12 @@ ghost use Rattle.number.specs.Answers.{reasonOf};
 ghost use Rattle.words.specs.Members.{membersIn};
 ghost use Rattle.writer.specs.Answer.{writtenOf, outcomeOf};
 ghost use Rattle.writer.specs.Parts.{Numbers, Countable, Triples, FewWords};
+ghost use Rattle.writer.specs.Front.{Front, frontBytes};
 ghost use Rattle.writer.specs.Weights.{judgedOf, weightsJudged, weightsWritten};
 use limits::MOST_FEATURES;
+use limits::MOST_WORDS;
 use number::Reason;
 use words::WORD_BITS;
-
-// As many words as the most features fill: a feature behind them is out of range.
-const MOST_WORDS: usize = MOST_FEATURES / WORD_BITS;
 
 // What is wrong with a list of features: the first fault, or nothing.
 enum Judged {
@@ -142,6 +141,81 @@ pub fn write_operator(
     next
 }
 
+// How many bytes the members of a set have, without their count.
+fn members_width(words: &[u64]) -> usize
+    requires { ⌜ FewWords (now words) ⌝ }
+    ensures { λ r. ⌜ r ≡ length (bytesOf numberBytes (membersIn (now (words .entry)))) ⌝ }
+{
+    let mut sum = 0;
+    let mut f = words::next_member(words, 0);
+    while f < words.len() * WORD_BITS {
+        sum += number::width(f);
+        f = words::next_member(words, f + 1);
+    }
+    sum
+}
+
+// Writes the members of a set from a place on, increasing, without their count, and answers the place after them.
+fn write_members(room: &mut [u8], at: usize, words: &[u64]) -> usize
+    requires { ⌜ FewWords (now words) × (at + length (bytesOf numberBytes (membersIn (now words))) ≤ length (now room)) ⌝ }
+    ensures after { λ r. ⌜ r ≡ at + length (bytesOf numberBytes (membersIn (now (words .entry)))) ⌝ }
+    ensures written { λ r. ⌜ now (room .exit) ≡ take at (now (room .entry)) ++ (bytesOf numberBytes (membersIn (now (words .entry))) ++ drop r (now (room .entry))) ⌝ }
+{
+    let mut next = at;
+    let mut f = words::next_member(words, 0);
+    while f < words.len() * WORD_BITS {
+        next = number::write_number(room, next, f);
+        f = words::next_member(words, f + 1);
+    }
+    next
+}
+
+// How many bytes a set of features has: its count and its members.
+pub fn set_width(words: &[u64]) -> usize
+    requires { ⌜ FewWords (now words) ⌝ }
+    ensures { λ r. ⌜ r ≡ length (counted numberBytes (membersIn (now (words .entry)))) ⌝ }
+{
+    number::width(words::count(words)) + members_width(words)
+}
+
+// Writes a set of features from a place on, its count and its members, and answers the place after it.
+pub fn write_set(room: &mut [u8], at: usize, words: &[u64]) -> usize
+    requires { ⌜ FewWords (now words) × (at + length (counted numberBytes (membersIn (now words))) ≤ length (now room)) ⌝ }
+    ensures after { λ r. ⌜ r ≡ at + length (counted numberBytes (membersIn (now (words .entry)))) ⌝ }
+    ensures written { λ r. ⌜ now (room .exit) ≡ take at (now (room .entry)) ++ (counted numberBytes (membersIn (now (words .entry))) ++ drop r (now (room .entry))) ⌝ }
+{
+    let next = number::write_number(room, at, words::count(words));
+    write_members(room, next, words)
+}
+
+// How many bytes stand before the operators of a task: the sizes with their count, start, goal, and the set of its pairs.
+pub fn front_width(sizes: &[u64], start: &[u64], goal: &[u64], pairs: &[u64]) -> usize
+    requires { ⌜ Front (now sizes) (now start) (now goal) (now pairs) ⌝ }
+    ensures { λ r. ⌜ r ≡ length (frontBytes (now (sizes .entry)) (now (start .entry)) (now (goal .entry)) (membersIn (now (pairs .entry)))) ⌝ }
+{
+    list_width(sizes) + numbers_width(start) + numbers_width(goal) + set_width(pairs)
+}
+
+// Writes what stands before the operators of a task, and answers the place after it.
+pub fn write_front(
+    room: &mut [u8],
+    sizes: &[u64],
+    start: &[u64],
+    goal: &[u64],
+    pairs: &[u64],
+) -> usize
+    requires { ⌜ Front (now sizes) (now start) (now goal) (now pairs)
+        × (length (frontBytes (now sizes) (now start) (now goal) (membersIn (now pairs))) ≤ length (now room)) ⌝ }
+    ensures after { λ r. ⌜ r ≡ length (frontBytes (now (sizes .entry)) (now (start .entry)) (now (goal .entry)) (membersIn (now (pairs .entry)))) ⌝ }
+    ensures written { λ r. ⌜ now (room .exit)
+        ≡ frontBytes (now (sizes .entry)) (now (start .entry)) (now (goal .entry)) (membersIn (now (pairs .entry))) ++ drop r (now (room .entry)) ⌝ }
+{
+    let second = write_list(room, 0, sizes);
+    let third = write_numbers(room, second, start);
+    let fourth = write_numbers(room, third, goal);
+    write_set(room, fourth, pairs)
+}
+
 // Judges a list of features in list order: each feature's range, then its order.
 fn judge(weights: &[u64]) -> Judged
     ensures { λ r. ⌜ judgedOf r ≡ weightsJudged 0 (now (weights .entry)) ⌝ }
@@ -177,48 +251,15 @@ pub fn write_weights(weights: &[u64], room: &mut [u8]) -> Written
     }
 }
 
-// How many bytes the members of a set have, without their count.
-fn members_width(words: &[u64]) -> usize
-    requires { ⌜ FewWords (now words) ⌝ }
-    ensures { λ r. ⌜ r ≡ length (bytesOf numberBytes (membersIn (now (words .entry)))) ⌝ }
-{
-    let mut sum = 0;
-    let mut f = words::next_member(words, 0);
-    while f < words.len() * WORD_BITS {
-        sum += number::width(f);
-        f = words::next_member(words, f + 1);
-    }
-    sum
-}
-
-// Writes the members of a set from a place on, increasing, without their count, and answers the place after them.
-fn write_members(room: &mut [u8], at: usize, words: &[u64]) -> usize
-    requires { ⌜ FewWords (now words) × (at + length (bytesOf numberBytes (membersIn (now words))) ≤ length (now room)) ⌝ }
-    ensures after { λ r. ⌜ r ≡ at + length (bytesOf numberBytes (membersIn (now (words .entry)))) ⌝ }
-    ensures written { λ r. ⌜ now (room .exit) ≡ take at (now (room .entry)) ++ (bytesOf numberBytes (membersIn (now (words .entry))) ++ drop r (now (room .entry))) ⌝ }
-{
-    let mut next = at;
-    let mut f = words::next_member(words, 0);
-    while f < words.len() * WORD_BITS {
-        next = number::write_number(room, next, f);
-        f = words::next_member(words, f + 1);
-    }
-    next
-}
-
-// Writes the weight file of a set whose words are few enough that each feature is in range.
-fn write_set(words: &[u64], room: &mut [u8]) -> Written
+// Writes the weight file of a set whose words are few enough that each feature is in range, if it has room.
+fn deliver_set(words: &[u64], room: &mut [u8]) -> Written
     requires { ⌜ FewWords (now words) ⌝ }
     ensures { λ r. ⌜ outcomeOf r (now (room .exit)) ≡ weightsWritten (membersIn (now (words .entry))) (now (room .entry)) ⌝ }
 {
-    let count = words::count(words);
-    let members = members_width(words);
-    let width = number::width(count) + members;
-    if room.len() < width {
+    if room.len() < set_width(words) {
         return refuse(Reason::Small);
     }
-    let next = number::write_number(room, 0, count);
-    Written::Done(write_members(room, next, words))
+    Written::Done(write_set(room, 0, words))
 }
 
 // Writes the weight file of a set of features in words, as the finder leaves them. Any words are taken.
@@ -226,10 +267,10 @@ pub fn weight_file(words: &[u64], room: &mut [u8]) -> Written
     ensures { λ r. ⌜ outcomeOf r (now (room .exit)) ≡ weightsWritten (membersIn (now (words .entry))) (now (room .entry)) ⌝ }
 {
     if words.len() <= MOST_WORDS {
-        return write_set(words, room);
+        return deliver_set(words, room);
     }
     if !words::is_empty(&words[MOST_WORDS..]) {
         return refuse(Reason::Range);
     }
-    write_set(&words[..MOST_WORDS], room)
+    deliver_set(&words[..MOST_WORDS], room)
 }

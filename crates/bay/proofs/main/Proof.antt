@@ -8,9 +8,9 @@ use lib.ListN.{length, take, replicate, length-take}
 use lib.Seq.{length-take-le}
 use Rattle.meaning.specs.Bay.{Builds}
 use Rattle.theory.specs.Accepted.{accepted-end}
-use Rattle.building.specs.declared.Built.{Built}
-use Rattle.building.specs.declared.Built.the-variants.{Built as Whole}
-use Rattle.building.specs.Answers.{outcomeOf}
+use Rattle.writer.specs.declared.Written.{Written}
+use Rattle.writer.specs.declared.Written.the-variants.{Done}
+use Rattle.writer.specs.Answer.{outcomeOf}
 use Rattle.theory.specs.Demands.{built}
 use borrow.Author.Needs.{needs}
 use Rattle.bay.proofs.main.Statement.{statement}
@@ -20,7 +20,7 @@ abbrev taskBytes : ℕ
 taskBytes = 2048
 
 -- A file that was built ends within the room.
-within : (file room lent : List ℕ) (r : Built) (k : ℕ) → Builds file room (outcomeOf r lent) → r ≡ Whole k → k ≤ length lent
+within : (file room lent : List ℕ) (r : Written) (k : ℕ) → Builds file room (outcomeOf r lent) → r ≡ Done k → k ≤ length lent
 within file room lent r k h e =
     let task = built file room lent k (subst (λ b. Builds file room (outcomeOf b lent)) e h) .task in
     omega (arith, accepted-end (take k lent) _ k task, length-take k lent, min-le-right k (length lent))

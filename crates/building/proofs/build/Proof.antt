@@ -7,7 +7,8 @@ use Rattle.meaning.specs.Number.{Limit, got}
 use Rattle.theory.specs.Flat.{take-replicate}
 use Rattle.number.specs.Answers.{reasonOf, numberOf}
 use Rattle.building.specs.Answers.{madeOf}
-use Rattle.building.specs.Outcomes.{refused-so, sideAt, rows-fault, columns-fault, slots-product, sides-limit, few-slots, many-slots, sides-read, builds-made}
+use Rattle.writer.specs.Answer.{refused-so}
+use Rattle.building.specs.Outcomes.{sideAt, rows-fault, columns-fault, slots-product, sides-limit, few-slots, many-slots, sides-read, builds-made}
 use Rattle.building.proofs.build.Statement.{statement}
 use Rattle.building.proofs.build.Tie as tie
 

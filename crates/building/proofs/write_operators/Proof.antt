@@ -44,9 +44,10 @@ mul-write-walk c = search needs
 
 write-walk-requires : tie.Need-write-walk-requires
 write-walk-requires c κs =
-    let a = c .before .before .before .before .before .before .before .args in
+    let start = c .before .before .before .before .before .before .before in
+    let a = start .args in
     let last = walkBytes (a .rows * a .columns) (a .columns) in
-    (c .before .before .before .before .before .before .before .pre .0 .5, omega (arith, c .before .before .before .before .before .before .before .pre .0), part-fits (after-count (c .before .before .before)) last [] (sym (append-nil last)))
+    (start .pre .0 .5, omega (arith, start .pre .0), part-fits (after-count (c .before .before .before)) last [] (sym (append-nil last)))
 
 same-length : tie.Need-same-length
 same-length c = search needs

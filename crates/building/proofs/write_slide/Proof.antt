@@ -19,9 +19,10 @@ slice-aggregate-write-operator-3 c = search needs
 
 write-operator-requires : tie.Need-write-operator-requires
 write-operator-requires c κs =
-    let a = c .before .before .before .before .before .before .args in (
-      two-triples (a .p) (a .q) 0 (a .t) (a .t) 0 (omega (arith, c .before .before .before .before .before .before .pre)) (omega (arith, c .before .before .before .before .before .before .pre)) (omega arith) (omega (arith, c .before .before .before .before .before .before .pre)) (omega (arith, c .before .before .before .before .before .before .pre)) (omega arith),
-      omega (arith, c .before .before .before .before .before .before .pre .3, ap (λ o. length (operatorBytes o)) (slide-ordered (a .p) (a .q) (a .t) (c .before .before .before .before .if1 .taken))),
+    let start = c .before .before .before .before .before .before in
+    let a = start .args in (
+      two-triples (a .p) (a .q) 0 (a .t) (a .t) 0 (omega (arith, start .pre)) (omega (arith, start .pre)) (omega arith) (omega (arith, start .pre)) (omega (arith, start .pre)) (omega arith),
+      omega (arith, start .pre .3, ap (λ o. length (operatorBytes o)) (slide-ordered (a .p) (a .q) (a .t) (c .before .before .before .before .if1 .taken))),
     )
 
 same-length : tie.Need-same-length
@@ -42,9 +43,10 @@ slice-aggregate-write-operator-6 c = search needs
 
 write-operator-requires-2 : tie.Need-write-operator-requires-2
 write-operator-requires-2 c κs =
-    let a = c .before .before .before .before .before .before .args in (
-      two-triples (a .q) (a .p) (a .t) 0 0 (a .t) (omega (arith, c .before .before .before .before .before .before .pre)) (omega (arith, c .before .before .before .before .before .before .pre)) (omega (arith, c .before .before .before .before .before .before .pre)) (omega arith) (omega arith) (omega (arith, c .before .before .before .before .before .before .pre)),
-      omega (arith, c .before .before .before .before .before .before .pre .3, ap (λ o. length (operatorBytes o)) (slide-turned (a .p) (a .q) (a .t) (c .before .before .before .before .if1 .left))),
+    let start = c .before .before .before .before .before .before in
+    let a = start .args in (
+      two-triples (a .q) (a .p) (a .t) 0 0 (a .t) (omega (arith, start .pre)) (omega (arith, start .pre)) (omega (arith, start .pre)) (omega arith) (omega arith) (omega (arith, start .pre)),
+      omega (arith, start .pre .3, ap (λ o. length (operatorBytes o)) (slide-turned (a .p) (a .q) (a .t) (c .before .before .before .before .if1 .left))),
     )
 
 same-length-2 : tie.Need-same-length-2

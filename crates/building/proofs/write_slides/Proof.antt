@@ -46,9 +46,10 @@ add-write-slide c = omega arith
 
 write-slide-requires : tie.Need-write-slide-requires Inv-loop μ-loop
 write-slide-requires c κs =
-    let a = c .before .before .before .before .before .before .args in
+    let start = c .before .before .before .before .before .before in
+    let a = start .args in
     let turn = c .before .before .loop in
-    (omega (arith, c .before .before .before .before .before .before .pre), omega (arith, c .before .before .before .before .before .before .pre), omega (arith, c .before .before .before .before .before .before .pre, c .before .loop-test .taken), part-fits (turn .inv .1) (oneSlide (a .p) (a .q) (turn .k)) _ (left-more (oneSlide (a .p) (a .q)) (a .n - 1) (turn .k) (c .before .loop-test .taken)))
+    (omega (arith, start .pre), omega (arith, start .pre), omega (arith, start .pre, c .before .loop-test .taken), part-fits (turn .inv .1) (oneSlide (a .p) (a .q) (turn .k)) _ (left-more (oneSlide (a .p) (a .q)) (a .n - 1) (turn .k) (c .before .loop-test .taken)))
 
 add-k : tie.Need-add-k Inv-loop μ-loop
 add-k c = omega arith

@@ -1,12 +1,14 @@
 -- `put_word` writes the word of all digits but the last, and the last digit behind it. The measure is the number.
 use Prim.Native.Nat.{ℕ, _+_, _%_, _<_}
+use mathlib.Core.Path.{ap}
 use native.Mathlib.Omega.{arith}
 use lib.ListN.{length, set, length-set}
 use borrow.Author.Needs.{needs}
 use borrow.Fn.Kinds.{In}
 use borrow.Fn.PlainCycle.{Measures, is, falls, and}
 use Rattle.meaning.specs.Line.{word}
-use Rattle.decimal.specs.Written.{Written, written-one, written-more}
+use Rattle.decimal.specs.Decimal.{word-one, word-longer}
+use Rattle.decimal.specs.Put.{Put, put-one, put-more}
 use Rattle.decimal.proofs.put_word.Reads as reads
 use Rattle.decimal.proofs.put_word.Kinds as kinds
 use Rattle.decimal.proofs.+put_word.Lts-put_word as lts
@@ -27,23 +29,22 @@ below t = and 1 kinds.ps (falls 1 kinds.ps _<_ μ-put-word t) reads.Pre
 whole : (t : ℕ) (c : lts.After-slice-known2 (below t, reads.Post) (here t) reads.Post) →
     let a = c .before .before .before .before .before .before .args in
     let others = c .before .before .put-word in
-    (others .result < length (others .last .0)) × Written (a .line .now) (a .at) (word (a .n)) (others .result + 1) (set (others .last .0) (others .result) (48 + a .n % 10))
+    (others .result < length (others .last .0)) × Put (a .line .now) (a .at) (word (a .n)) (others .result + 1) (set (others .last .0) (others .result) (48 + a .n % 10))
 whole t c =
     let start = c .before .before .before .before .before .before in
     let a = start .args in
     let others = c .before .before .put-word in
-    written-more
+    put-more
     (a .line .now)
     (a .at)
     (a .n)
     (c .before .before .before .before .if1 .left)
-    (start .pre .1 .0)
-    (start .pre .1 .1)
+    (start .pre .1)
     (others .kept .0)
-    (record { place = others .ensures .0; stands = others .ensures .1 })
+    (others .ensures)
 
 slice-write-line : (t : ℕ) → lts.Need-slice-write-line (below t, reads.Post) (here t) reads.Post
-slice-write-line t c = omega arith
+slice-write-line t c = let a = c .before .before .args in omega (arith, ap length (word-one (a .n) (c .if1 .taken)))
 
 cast-line : (t : ℕ) → lts.Need-cast-line (below t, reads.Post) (here t) reads.Post
 cast-line t c = omega arith
@@ -55,7 +56,7 @@ add-line-2 : (t : ℕ) → lts.Need-add-line-2 (below t, reads.Post) (here t) re
 add-line-2 t c = omega arith
 
 slice-write-line-2 : (t : ℕ) → lts.Need-slice-write-line-2 (below t, reads.Post) (here t) reads.Post
-slice-write-line-2 t c = let a = c .before .before .args in omega (arith, length-set (a .line .now) (a .at) 32)
+slice-write-line-2 t c = let a = c .before .before .args in omega (arith, ap length (word-one (a .n) (c .if1 .taken)), length-set (a .line .now) (a .at) 32)
 
 add-result : (t : ℕ) → lts.Need-add-result (below t, reads.Post) (here t) reads.Post
 add-result t c = omega arith
@@ -64,10 +65,10 @@ same-length : (t : ℕ) → lts.Need-same-length (below t, reads.Post) (here t) 
 same-length t c = search needs
 
 returns : (t : ℕ) → lts.Need-returns (below t, reads.Post) (here t) reads.Post
-returns t c = let a = c .before .before .args in let w = written-one (a .line .now) (a .at) (a .n) (c .if1 .taken) (omega arith) in (w .place, w .stands)
+returns t c = let a = c .before .before .args in put-one (a .line .now) (a .at) (a .n) (c .if1 .taken) (omega arith)
 
 put-word-requires : (t : ℕ) → lts.Need-put-word-requires (below t, reads.Post) (here t) reads.Post
-put-word-requires t c κs = omega arith
+put-word-requires t c κs = let a = c .before .before .before .args in omega (arith, word-longer (a .n) (c .before .if1 .left))
 
 cast-line-2 : (t : ℕ) → lts.Need-cast-line-2 (below t, reads.Post) (here t) reads.Post
 cast-line-2 t c = omega arith
@@ -85,7 +86,7 @@ same-length-2 : (t : ℕ) → lts.Need-same-length-2 (below t, reads.Post) (here
 same-length-2 t c = search needs
 
 returns-2 : (t : ℕ) → lts.Need-returns-2 (below t, reads.Post) (here t) reads.Post
-returns-2 t c = let w = whole t c .1 in (w .place, w .stands)
+returns-2 t c = whole t c .1
 
 pub +put-word-spec : {M : Type 1} → statement M
 +put-word-spec =

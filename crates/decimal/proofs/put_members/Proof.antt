@@ -7,15 +7,15 @@ use Rattle.meaning.specs.Limits.{wordBits}
 use Rattle.meaning.specs.Line.{wordsIn}
 use Rattle.meaning.specs.Workspace.{has}
 use Rattle.theory.specs.Run.{members}
-use Rattle.decimal.specs.Written.{Written, written-none, written-behind}
+use Rattle.decimal.specs.Put.{Put, put-none, put-behind}
 use Rattle.words.specs.Members.{Reached, reached, members-first}
-use Rattle.decimal.specs.Members.{words-members-few, words-next}
+use Rattle.decimal.specs.Members.{words-part, words-next}
 use Rattle.decimal.proofs.put_members.Statement.{statement}
 use Rattle.decimal.proofs.put_members.Tie as tie
 
 abbrev Inv-loop : tie.InvT-loop
 Inv-loop line₀ at words next₀ f₀ line next f =
-    Reached (has words) (wordBits * length words) f × (length line ≡ length line₀) × Written line₀ at (wordsIn (members f (has words))) next line
+    Reached (has words) (wordBits * length words) f × (length line ≡ length line₀) × Put line₀ at (wordsIn (members f (has words))) next line
 
 abbrev μ-loop : tie.MeasureT-loop
 μ-loop line₀ at words next₀ f₀ line next f = wordBits * length words - f
@@ -30,15 +30,16 @@ loop-holds c =
     let features = has (a .words .now) in
     let n = wordBits * length (a .words .now) in
     let next = c .next-member .ensures in
-    (reached features n 0 _ next, refl, rw (members-first features n _ next) (written-none (a .line .now) (a .at)))
+    (reached features n 0 _ next, refl, rw (members-first features n _ next) (put-none (a .line .now) (a .at)))
 
 mul-loop : tie.Need-mul-loop Inv-loop μ-loop
 mul-loop c = omega arith
 
 put-word-requires : tie.Need-put-word-requires Inv-loop μ-loop
 put-word-requires c κs =
+    let words = c .before .before .before .before .before .before .args .words .now in
     let turn = c .before .before .loop in
-    omega (arith, turn .inv .1, turn .inv .2 .place, words-members-few (has (c .before .before .before .before .before .before .args .words .now)) (turn .f))
+    omega (arith, turn .inv .1, turn .inv .2 .place, words-part (has words) (wordBits * length words) (turn .f) (turn .inv .0) (omega (arith, c .before .loop-test .taken)))
 
 add-next-member : tie.Need-add-next-member Inv-loop μ-loop
 add-next-member c = omega arith
@@ -60,7 +61,7 @@ loop-again c =
     let more = words-next features n (turn .f) _ (turn .inv .0) (omega (arith, c .before .before .before .before .before .loop-test .taken)) next in (
       reached features n (turn .f + 1) _ next,
       put .kept .0 ∙ turn .inv .1,
-      rw more (written-behind (omega (arith, start .pre .1)) (turn .inv .2) (record { place = put .ensures .0; stands = put .ensures .1 })),
+      rw more (put-behind (omega (arith, start .pre .1)) (turn .inv .2) (put .ensures)),
     )
 
 same-length : tie.Need-same-length Inv-loop μ-loop
@@ -71,8 +72,7 @@ returns c =
     let words = c .before .before .before .before .before .args .words .now in
     let turn = c .before .loop in
     let end : turn .f ≡ wordBits * length words = omega (arith, turn .inv .0 .within, c .loop-test .left) in
-    let all = rw end at (turn .inv .2) in
-    (all .place, all .stands)
+    rw end at (turn .inv .2)
 
 pub put-members-spec : {M : Type 1} → statement M
 put-members-spec =

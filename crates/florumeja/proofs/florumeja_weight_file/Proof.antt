@@ -1,6 +1,6 @@
 -- `florumeja_weight_file`: the value fits, so that the number says the answer.
 use Rattle.words.specs.Members.{membersIn}
-use Rattle.writer.specs.Weights.{writtenOf}
+use Rattle.writer.specs.Answer.{outcomeOf}
 use Rattle.florumeja.specs.Fits.{writes-fit}
 use borrow.Author.Needs.{needs}
 use Rattle.florumeja.proofs.florumeja_weight_file.Statement.{statement}
@@ -11,7 +11,7 @@ weight-file-requires c κs = search needs
 
 written-number-requires : tie.Need-written-number-requires
 written-number-requires c κs = let start = c .before .before .before .before .before .before .args in
-    writes-fit (membersIn (start .words .now)) (start .room .now) (record { answer = writtenOf (c .before .before .weight-file .result); lent = _ }) (c .before .before .weight-file .ensures)
+    writes-fit (membersIn (start .words .now)) (start .room .now) (outcomeOf (c .before .before .weight-file .result) _) (c .before .before .weight-file .ensures)
 
 same-length : tie.Need-same-length
 same-length c = search needs

@@ -4,7 +4,7 @@ use native.Mathlib.Omega.{arith}
 use lib.Seq.{length-take-le}
 use Rattle.meaning.specs.Answer.{delivered}
 use Rattle.line.specs.Fits.{prints-short}
-use Rattle.text.specs.Parts.{written-front, written-within}
+use Rattle.text.specs.Parts.{put-front, put-within}
 use borrow.Author.Needs.{needs}
 use Rattle.line.proofs.line.Statement.{statement}
 use Rattle.line.proofs.line.Tie as tie
@@ -31,10 +31,10 @@ put-line-requires c κs =
     (search needs, search needs, prints-short input (sought .last .1 .1 .0) (sought .result) (sought .ensures))
 
 array-share-prefix-text : tie.Need-array-share-prefix-text
-array-share-prefix-text c = omega (arith, written-within _ _ _ _ (c .before .put-line .ensures))
+array-share-prefix-text c = omega (arith, put-within _ _ _ _ (c .before .put-line .ensures))
 
 slice-aggregate-deliver : tie.Need-slice-aggregate-deliver
-slice-aggregate-deliver c = sym (length-take-le _ _ (omega (arith, written-within _ _ _ _ (c .before .before .put-line .ensures))))
+slice-aggregate-deliver c = sym (length-take-le _ _ (omega (arith, put-within _ _ _ _ (c .before .before .put-line .ensures))))
 
 deliver-requires : tie.Need-deliver-requires
 deliver-requires c κs = search needs
@@ -46,7 +46,7 @@ returns : tie.Need-returns
 returns c =
     let room = c .before .before .before .before .before .before .before .before .before .before .before .before .before .before .before .before .args .room .now in
     let text = c .before .before .before .before .before .before .put-line .ensures in
-    (_, c .before .before .before .before .before .before .before .before .before .before .before .seek .ensures, c .before .before .deliver .ensures ∙ ap (λ bytes. delivered bytes room) (written-front _ _ _ _ text))
+    (_, c .before .before .before .before .before .before .before .before .before .before .before .seek .ensures, c .before .before .deliver .ensures ∙ ap (λ bytes. delivered bytes room) (put-front _ _ _ _ text))
 
 pub line-spec : {M : Type 1} → statement M
 line-spec =

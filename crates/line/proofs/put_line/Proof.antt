@@ -2,6 +2,7 @@
 use mathlib.Core.Path.{subst}
 use native.Mathlib.Omega.{arith}
 use Rattle.meaning.specs.Line.{line}
+use Rattle.text.specs.Parts.{refused-few}
 use Rattle.line.specs.Fits.{ShortNumber}
 use borrow.Author.Needs.{needs}
 use Rattle.line.proofs.put_line.Statement.{statement}
@@ -26,7 +27,9 @@ enum-known-found : tie.Need-enum-known-found
 enum-known-found c = search needs
 
 put-refused-requires : tie.Need-put-refused-requires
-put-refused-requires c κs = (omega arith, subst ShortNumber (c .before .before .found .given .1) (c .before .before .before .before .before .before .pre .2))
+put-refused-requires c κs =
+    let number = c .before .before .found .given .0 .0 in
+    omega (arith, refused-few number (subst ShortNumber (c .before .before .found .given .1) (c .before .before .before .before .before .before .pre .2)))
 
 same-length : tie.Need-same-length
 same-length c = search needs

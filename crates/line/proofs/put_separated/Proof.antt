@@ -1,16 +1,21 @@
--- `put_separated`: four parts one behind the other; a word has six bytes at most.
-use Prim.Native.Nat.{_*_}
+-- `put_separated`: four parts one behind the other, each of them short.
+use Prim.Native.Nat.{_*_, _≤_}
 use native.Mathlib.Omega.{arith}
 use lib.ListN.{length}
-use Rattle.meaning.specs.Limits.{wordBits}
+use Rattle.meaning.specs.Limits.{wordBits, mostProgramFeatures}
+use Rattle.meaning.specs.Line.{word, wordsIn}
 use Rattle.meaning.specs.Workspace.{has}
-use Rattle.words.specs.Members.{members-few}
+use Rattle.words.specs.Members.{membersIn, members-few}
+use Rattle.decimal.specs.Decimal.{wordWidth, word-few}
 use Rattle.decimal.specs.Members.{words-members-few}
-use Rattle.text.specs.Parts.{word-ends}
-use Rattle.line.specs.Text.{separated-written}
+use Rattle.text.specs.Parts.{mostDigits}
+use Rattle.line.specs.Text.{separated-put}
 use borrow.Author.Needs.{needs}
 use Rattle.line.proofs.put_separated.Statement.{statement}
 use Rattle.line.proofs.put_separated.Tie as tie
+
+abbrev start : tie.After-count → tie.Start
+start c = c .before .before .before
 
 count-requires : tie.Need-count-requires
 count-requires c κs = search needs
@@ -21,39 +26,42 @@ slice-aggregate-put c = search needs
 put-requires : tie.Need-put-requires
 put-requires c κs = search needs
 
+-- The count and the members are below the most features of the program, so that five digits are enough for each.
+count-short : (c : tie.After-count) → length (word (c .count .result)) ≤ wordWidth mostDigits
+count-short c =
+    let weights = start c .args .weights .now in
+    word-few mostDigits (c .count .result) (omega arith) (omega (arith, start c .pre, c .count .ensures, members-few (has weights) (wordBits * length weights)))
+
+features-short : (c : tie.After-count) → length (wordsIn (membersIn (start c .args .weights .now))) ≤ wordWidth mostDigits * mostProgramFeatures
+features-short c =
+    let weights = start c .args .weights .now in
+    omega (arith, start c .pre, words-members-few (has weights) mostDigits (wordBits * length weights) (omega arith) (omega (arith, start c .pre)))
+
 put-word-requires : tie.Need-put-word-requires
-put-word-requires c κs =
-    let weights = c .before .before .before .before .before .before .before .before .before .args .weights .now in
-    let first = c .before .before .before .put .ensures in
-    let few = members-few (has weights) (wordBits * length weights) in
-    (omega (arith, c .before .before .before .before .before .before .count .ensures, few, first .place), omega (arith, first .place))
+put-word-requires c κs = omega (arith, c .before .before .before .put .ensures .place, count-short (c .before .before .before .before .before .before))
 
 put-members-requires : tie.Need-put-members-requires
 put-members-requires c κs =
-    let first = c .before .before .before .before .before .before .before .put .ensures in
-    (omega arith, omega (arith, first .place, word-ends _ _ _ (c .before .before .before .put-word .ensures .0)))
+    let counted = c .before .before .before .before .before .before .before .before .before .before in
+    (omega arith, omega (arith, c .before .before .before .before .before .before .before .put .ensures .place, c .before .before .before .put-word .ensures .place, count-short counted, features-short counted))
 
 slice-aggregate-put-2 : tie.Need-slice-aggregate-put-2
 slice-aggregate-put-2 c = search needs
 
 put-requires-2 : tie.Need-put-requires-2
 put-requires-2 c κs =
-    let weights = c .before .before .before .before .before .before .before .before .before .before .before .before .before .before .before .before .before .before .args .weights .now in
-    let first = c .before .before .before .before .before .before .before .before .before .before .before .before .put .ensures in
-    let few = words-members-few (has weights) (wordBits * length weights) in
-    omega (arith, first .place, word-ends _ _ _ (c .before .before .before .before .before .before .before .before .put-word .ensures .0), c .before .before .before .before .put-members .ensures .0, few)
+    let counted = c .before .before .before .before .before .before .before .before .before .before .before .before .before .before .before in
+    omega (arith, c .before .before .before .before .before .before .before .before .before .before .before .before .put .ensures .place, c .before .before .before .before .before .before .before .before .put-word .ensures .place, c .before .before .before .before .put-members .ensures .place, count-short counted, features-short counted)
 
 same-length : tie.Need-same-length
 same-length c = search needs
 
 returns : tie.Need-returns
 returns c =
-    let weights = c .before .before .before .before .before .before .before .before .before .before .before .before .before .before .before .before .before .before .before .before .before .args .weights .now in
+    let counted = c .before .before .before .before .before .before .before .before .before .before .before .before .before .before .before .before .before .before in
     let first = c .before .before .before .before .before .before .before .before .before .before .before .before .before .before .before .put .ensures in
-    let word = c .before .before .before .before .before .before .before .before .before .before .before .put-word .ensures in
-    let words = c .before .before .before .before .before .before .before .put-members .ensures in
-    separated-written weights _ (c .before .before .before .before .before .before .before .before .before .before .before .before .before .before .before .before .before .before .count .ensures) (omega (arith, first .place)) first
-    (record { place = word .0; stands = word .1 }) (record { place = words .0; stands = words .1 }) (c .before .before .put2 .ensures)
+    separated-put (start counted .args .weights .now) _ (counted .count .ensures) (omega (arith, first .place)) first
+    (c .before .before .before .before .before .before .before .before .before .before .before .put-word .ensures) (c .before .before .before .before .before .before .before .put-members .ensures) (c .before .before .put2 .ensures)
 
 pub put-separated-spec : {M : Type 1} → statement M
 put-separated-spec =

@@ -1,6 +1,6 @@
 -- `put_numbered`: three parts one behind the other.
 use native.Mathlib.Omega.{arith}
-use Rattle.text.specs.Parts.{word-ends, numbered-written}
+use Rattle.text.specs.Parts.{numbered-put}
 use borrow.Author.Needs.{needs}
 use Rattle.text.proofs.put_numbered.Statement.{statement}
 use Rattle.text.proofs.put_numbered.Tie as tie
@@ -17,7 +17,7 @@ slice-aggregate-put c = search needs
 put-requires-2 : tie.Need-put-requires-2
 put-requires-2 c κs =
     let first = c .before .before .before .before .before .before .before .before .put .ensures in
-    omega (arith, first .place, word-ends _ _ _ (c .before .before .before .before .put-word .ensures .0))
+    omega (arith, first .place, c .before .before .before .before .put-word .ensures .place)
 
 same-length : tie.Need-same-length
 same-length c = search needs
@@ -26,8 +26,7 @@ returns : tie.Need-returns
 returns c =
     let number = c .before .before .before .before .before .before .before .before .before .before .before .before .before .before .before .args .number in
     let first = c .before .before .before .before .before .before .before .before .before .before .before .put .ensures in
-    let word = c .before .before .before .before .before .before .before .put-word .ensures in
-    numbered-written _ number (omega (arith, first .place)) first (record { place = word .0; stands = word .1 }) (c .before .before .put2 .ensures)
+    numbered-put _ number (omega (arith, first .place)) first (c .before .before .before .before .before .before .before .put-word .ensures) (c .before .before .put2 .ensures)
 
 pub put-numbered-spec : {M : Type 1} → statement M
 put-numbered-spec =

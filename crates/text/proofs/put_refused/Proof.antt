@@ -1,5 +1,8 @@
 -- `put_refused`: the line of `refused` and a number.
-use Rattle.meaning.specs.Line.{refusedLine}
+use mathlib.Core.List.{[], _∷_}
+use native.Mathlib.Omega.{arith}
+use lib.ListN.{length-append}
+use Rattle.meaning.specs.Line.{word, refusedLine}
 use borrow.Author.Needs.{needs}
 use Rattle.text.proofs.put_refused.Statement.{statement}
 use Rattle.text.proofs.put_refused.Tie as tie
@@ -8,7 +11,8 @@ slice-aggregate-put-numbered : tie.Need-slice-aggregate-put-numbered
 slice-aggregate-put-numbered c = search needs
 
 put-numbered-requires : tie.Need-put-numbered-requires
-put-numbered-requires c κs = search needs
+unfolding refusedLine
+put-numbered-requires c κs = omega (arith, length-append (word (c .before .before .before .args .number)) (10 ∷ []))
 
 same-length : tie.Need-same-length
 same-length c = search needs

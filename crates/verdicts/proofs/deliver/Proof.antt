@@ -3,7 +3,7 @@ use mathlib.Core.Path.{sym, ap, _∙_}
 use native.Mathlib.Omega.{arith}
 use lib.Seq.{length-take-le}
 use Rattle.meaning.specs.Answer.{delivered}
-use Rattle.text.specs.Parts.{written-front, written-within}
+use Rattle.text.specs.Parts.{put-front, put-within}
 use borrow.Author.Needs.{needs}
 use Rattle.verdicts.proofs.deliver.Statement.{statement}
 use Rattle.verdicts.proofs.deliver.Tie as tie
@@ -15,10 +15,10 @@ put-verdict-requires : tie.Need-put-verdict-requires
 put-verdict-requires c κs = search needs
 
 array-share-prefix-text : tie.Need-array-share-prefix-text
-array-share-prefix-text c = omega (arith, written-within _ _ _ _ (c .before .put-verdict .ensures))
+array-share-prefix-text c = omega (arith, put-within _ _ _ _ (c .before .put-verdict .ensures))
 
 slice-aggregate-deliver : tie.Need-slice-aggregate-deliver
-slice-aggregate-deliver c = sym (length-take-le _ _ (omega (arith, written-within _ _ _ _ (c .before .before .put-verdict .ensures))))
+slice-aggregate-deliver c = sym (length-take-le _ _ (omega (arith, put-within _ _ _ _ (c .before .before .put-verdict .ensures))))
 
 deliver-requires : tie.Need-deliver-requires
 deliver-requires c κs = search needs
@@ -27,7 +27,7 @@ same-length : tie.Need-same-length
 same-length c = search needs
 
 returns : tie.Need-returns
-returns c = c .before .before .deliver .ensures ∙ ap (λ bytes. delivered bytes (c .before .before .before .before .before .before .before .before .before .args .room .now)) (written-front _ _ _ _ (c .before .before .before .before .before .before .put-verdict .ensures))
+returns c = c .before .before .deliver .ensures ∙ ap (λ bytes. delivered bytes (c .before .before .before .before .before .before .before .before .before .args .room .now)) (put-front _ _ _ _ (c .before .before .before .before .before .before .put-verdict .ensures))
 
 pub deliver-spec : {M : Type 1} → statement M
 deliver-spec = tie.close (tie.spec slice-aggregate-put-verdict put-verdict-requires array-share-prefix-text slice-aggregate-deliver deliver-requires same-length returns)

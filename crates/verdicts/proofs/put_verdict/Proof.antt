@@ -3,6 +3,8 @@ use mathlib.Core.Path.{subst}
 use native.Mathlib.Omega.{arith}
 use Rattle.meaning.specs.Line.{verdictLine}
 use Rattle.checking.specs.Answer.{verdictOf}
+use Rattle.decimal.specs.Decimal.{word-few}
+use Rattle.text.specs.Parts.{mostDigits, refused-few}
 use Rattle.verdicts.specs.Fits.{Short}
 use borrow.Author.Needs.{needs}
 use Rattle.verdicts.proofs.put_verdict.Statement.{statement}
@@ -33,13 +35,18 @@ slice-aggregate-put-numbered : tie.Need-slice-aggregate-put-numbered
 slice-aggregate-put-numbered c = search needs
 
 put-numbered-requires : tie.Need-put-numbered-requires
-put-numbered-requires c κs = (omega arith, subst (λ v. Short (verdictOf v)) (c .before .before .before .verdict .given .1) (c .before .before .before .before .before .before .pre .1))
+put-numbered-requires c κs =
+    let j = c .before .before .before .verdict .given .0 .0 in
+    let short = subst (λ v. Short (verdictOf v)) (c .before .before .before .verdict .given .1) (c .before .before .before .before .before .before .pre .1) in
+    omega (arith, word-few mostDigits j (omega arith) short)
 
 enum-known-verdict-2 : tie.Need-enum-known-verdict-2
 enum-known-verdict-2 c = search needs
 
 put-refused-requires : tie.Need-put-refused-requires
-put-refused-requires c κs = (omega arith, subst (λ v. Short (verdictOf v)) (c .before .before .verdict2 .given .1) (c .before .before .before .before .before .pre .1))
+put-refused-requires c κs =
+    let number = c .before .before .verdict2 .given .0 .0 in
+    omega (arith, refused-few number (subst (λ v. Short (verdictOf v)) (c .before .before .verdict2 .given .1) (c .before .before .before .before .before .pre .1)))
 
 same-length : tie.Need-same-length
 same-length c = search needs

@@ -17,6 +17,13 @@ Inv-loop variables befores afters sum₀ i₀ sum i =
 abbrev μ-loop : tie.MeasureT-loop
 μ-loop variables befores afters sum₀ i₀ sum i = length variables - i
 
+-- After a turn's entry: where the call began, and the turn.
+abbrev start : tie.After-entry-width Inv-loop μ-loop → tie.Start Inv-loop μ-loop
+start c = c .before .before .before .before .before .before .before .before .before .before
+
+abbrev turn : tie.After-entry-width Inv-loop μ-loop → tie.At-loop Inv-loop μ-loop
+turn c = c .before .before .before .before .before
+
 width-requires : tie.Need-width-requires Inv-loop μ-loop
 width-requires c κs = omega arith
 
@@ -49,8 +56,8 @@ entry-width-requires c κs =
 
 add-sum : tie.Need-add-sum Inv-loop μ-loop
 add-sum c =
-    let a = c .before .before .before .before .before .before .before .before .before .before .args in
-    let more = entry-width-more (a .variables .now) (a .befores .now) (a .afters .now) (c .before .before .before .before .before .loop .i) (c .before .before .before .before .loop-test .taken) in
+    let a = start c .args in
+    let more = entry-width-more (a .variables .now) (a .befores .now) (a .afters .now) (turn c .loop .i) (c .before .before .before .before .loop-test .taken) in
     omega (arith, more, operator-few (a .variables .now) (a .befores .now) (a .afters .now))
 
 add-i : tie.Need-add-i Inv-loop μ-loop
@@ -61,8 +68,8 @@ loop-less c = omega arith
 
 loop-again : tie.Need-loop-again Inv-loop μ-loop
 loop-again c =
-    let a = c .before .before .before .before .before .before .before .before .before .before .args in
-    let more = entry-width-more (a .variables .now) (a .befores .now) (a .afters .now) (c .before .before .before .before .before .loop .i) (c .before .before .before .before .loop-test .taken) in
+    let a = start c .args in
+    let more = entry-width-more (a .variables .now) (a .befores .now) (a .afters .now) (turn c .loop .i) (c .before .before .before .before .loop-test .taken) in
     omega (arith, more)
 
 returns : tie.Need-returns Inv-loop μ-loop

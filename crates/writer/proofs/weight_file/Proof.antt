@@ -1,4 +1,4 @@
--- `weight_file` refuses words that have a feature out of range, and otherwise writes the set of the words that can have one in range.
+-- `weight_file` refuses words that have a feature out of range, and otherwise delivers the set of the words that can have one in range.
 use Prim.Native.Nat.{ℕ, _-_}
 use mathlib.Core.Path.{_≡_, sym, ap, _∙_, subst}
 use mathlib.Core.List.{List}
@@ -21,8 +21,12 @@ use Rattle.writer.proofs.weight_file.Tie as tie
 behind : (words : List ℕ) → take (length words - mostWords) (drop mostWords words) ≡ drop mostWords words
 behind words = take-all (length words - mostWords) (drop mostWords words) (omega (arith, length-drop mostWords words))
 
-write-set-requires : tie.Need-write-set-requires
-write-set-requires c κs = search needs
+-- Where the call began, seen from the test of the words behind the most.
+abbrev start : tie.After-is-empty → tie.Start
+start c = c .before .before .before .before .before
+
+deliver-set-requires : tie.Need-deliver-set-requires
+deliver-set-requires c κs = search needs
 
 same-length : tie.Need-same-length
 same-length c = search needs
@@ -47,32 +51,32 @@ refuse-requires c κs = search needs
 
 returns-2 : tie.Need-returns-2
 returns-2 c =
-    let a = c .before .before .before .before .before .before .before .args in
+    let a = start (c .before .before) .args in
     let words = a .words .now in
     let none = tells-no (subst (λ l. Tells (c .before .before .is-empty .result) (Empty l)) (behind words) (c .before .before .is-empty .ensures)) (not-true _ (c .before .if2 .taken)) in
     refused-so (c .refuse .result) Range (a .room .now) (c .refuse .ensures) ∙ sym (weights-refused (membersIn words) (a .room .now) _ (outside-range words (λ h. none (in-range-behind words h))))
 
-slice-aggregate-write-set : tie.Need-slice-aggregate-write-set
-slice-aggregate-write-set c = sym (length-take-le mostWords (c .before .before .before .before .before .before .before .args .words .now) (omega (arith, c .before .before .before .before .if1 .left)))
+slice-aggregate-deliver-set : tie.Need-slice-aggregate-deliver-set
+slice-aggregate-deliver-set c = sym (length-take-le mostWords (start (c .before .before) .args .words .now) (omega (arith, c .before .before .before .before .if1 .left)))
 
-write-set-requires-2 : tie.Need-write-set-requires-2
-write-set-requires-2 c κs = omega (arith, length-take-le mostWords (c .before .before .before .before .before .before .before .before .args .words .now) (omega (arith, c .before .before .before .before .before .if1 .left)))
+deliver-set-requires-2 : tie.Need-deliver-set-requires-2
+deliver-set-requires-2 c κs = omega (arith, length-take-le mostWords (start (c .before .before .before) .args .words .now) (omega (arith, c .before .before .before .before .before .if1 .left)))
 
 same-length-2 : tie.Need-same-length-2
 same-length-2 c = search needs
 
 returns-3 : tie.Need-returns-3
 returns-3 c =
-    let a = c .before .before .before .before .before .before .before .before .before .before .before .args in
+    let a = start (c .before .before .before .before .before .before) .args in
     let words = a .words .now in
     let empty = subst Empty (behind words) (c .before .before .before .before .before .before .is-empty .ensures .yes (not-false _ (c .before .before .before .before .before .if2 .left))) in
-    c .before .before .write-set2 .ensures ∙ ap (λ l. weightsWritten l (a .room .now)) (members-front mostWords words empty)
+    c .before .before .deliver-set2 .ensures ∙ ap (λ l. weightsWritten l (a .room .now)) (members-front mostWords words empty)
 
 pub weight-file-spec : {M : Type 1} → statement M
 weight-file-spec =
     tie.close
     (tie.spec
-    write-set-requires
+    deliver-set-requires
     same-length
     returns
     sub-is-empty
@@ -81,7 +85,7 @@ weight-file-spec =
     is-empty-requires
     refuse-requires
     returns-2
-    slice-aggregate-write-set
-    write-set-requires-2
+    slice-aggregate-deliver-set
+    deliver-set-requires-2
     same-length-2
     returns-3)

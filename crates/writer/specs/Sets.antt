@@ -1,5 +1,5 @@
 -- The weight file of a set of features in words: 3 where a feature is out of range, and otherwise 8 or the file; 4 is never given.
-use Prim.Native.Nat.{ℕ, suc, _+_, _*_, _/_, _≤_}
+use Prim.Native.Nat.{ℕ, suc, _+_, _*_, _≤_}
 use mathlib.Core.Path.{_≡_, refl, sym, _∙_}
 use mathlib.Core.Logic.{_⊎_, inl, inr}
 use mathlib.Core.Bool.{false}
@@ -11,7 +11,7 @@ use borrow.Author.Tests.{lt-ltb, le-leb}
 use Rattle.meaning.specs.Limits.{mostFeatures, wordBits}
 use Rattle.meaning.specs.Number.{Range}
 use Rattle.meaning.specs.Task.{Run}
-use Rattle.meaning.specs.Workspace.{has}
+use Rattle.meaning.specs.Workspace.{wordsFor, has}
 use Rattle.meaning.specs.File.{weightBytes}
 use Rattle.meaning.specs.Answer.{fine, faulty, refuses, delivered}
 use Rattle.theory.specs.Truth.{on, off, test}
@@ -25,7 +25,7 @@ use Rattle.writer.specs.Judging.{fine-run, weights-refused, weights-deli
 
 -- As many words as the most features fill.
 abbrev pub mostWords : ℕ
-mostWords = mostFeatures / wordBits
+mostWords = wordsFor mostFeatures
 
 -- Each feature is in the range of a weight file: below the most features.
 abbrev pub InRange : List ℕ → Type 0

@@ -1,7 +1,7 @@
 -- How a room is filled part after part: what remains to be written, from the start to the end, and when a whole file is delivered.
 use Prim.Native.Nat.{ℕ, suc, _+_, _<_, _≤_}
 use mathlib.Core.Path.{_≡_, refl, sym, ap, ap₂, _∙_}
-use mathlib.Core.List.{List, [], _∷_, _++_}
+use mathlib.Core.List.{List, [], _∷_, _++_, append-nil}
 use native.Mathlib.Omega.{arith}
 use native.Mathlib.Nat.{add-zero}
 use lib.ListN.{length, set, take, drop}
@@ -69,3 +69,12 @@ module _ (file room : List ℕ) where
   delivered-done room' n h p w =
       let q : n ≡ length file = omega arith in
       ap₂ (λ k l. outcomeOf (Done k) l) q (w ∙ ap (λ k. file ++ drop k room) q) ∙ sym (delivered-whole h)
+
+-- A file of two parts that were written one after the other is delivered: what stands before the operators of a task, and the operators.
+pub parts-delivered : (file front last room room₁ room₂ : List ℕ) (next end : ℕ) → file ≡ front ++ last → length file ≤ length room
+    → next ≡ length front → room₁ ≡ front ++ drop next room → end ≡ next + length last → room₂ ≡ take next room₁ ++ (last ++ drop end room₁)
+    → outcomeOf (Done end) room₂ ≡ delivered file room
+parts-delivered file front last room room₁ room₂ next end split fit p₁ w₁ p₂ w₂ =
+    let one = remains-after (remains-all room 0 file (omega arith)) front last room₁ next split (omega arith) w₁ in
+    let all = remains-none (remains-after one last [] room₂ end (sym (append-nil last)) p₂ w₂) refl in
+    delivered-done file room room₂ end fit (all .0) (all .1)

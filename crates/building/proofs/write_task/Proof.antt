@@ -1,7 +1,7 @@
 -- `write_task` refuses a room that is shorter than the whole, and otherwise writes front and operators until nothing remains.
 use Prim.Native.Nat.{ℕ, _+_, _*_, _≤_}
-use mathlib.Core.Path.{_≡_, refl, sym, _∙_}
-use mathlib.Core.List.{List, [], append-nil}
+use mathlib.Core.Path.{_≡_, sym, _∙_}
+use mathlib.Core.List.{List}
 use native.Mathlib.Omega.{arith}
 use lib.ListN.{length}
 use borrow.Author.Needs.{needs}
@@ -11,7 +11,7 @@ use Rattle.meaning.specs.Bay.{neighbours, bayOperators, bayTask}
 use Rattle.words.specs.Members.{membersIn}
 use Rattle.writer.specs.Answer.{refused-so}
 use Rattle.writer.specs.Front.{Front, frontBytes}
-use Rattle.writer.specs.Remains.{remains-all, remains-after, remains-none, delivered-small, delivered-done}
+use Rattle.writer.specs.Remains.{delivered-small, parts-delivered}
 use Rattle.building.specs.Answers.{bayWith}
 use Rattle.building.specs.Files.{front-written, task-split, task-length, task-few}
 use Rattle.building.proofs.write_task.Statement.{statement}
@@ -72,12 +72,10 @@ returns-2 c =
     let written = c .before .before .before .before .before .before in
     let s = start (written .before .before .before) in
     let room = s .args .room .now in
-    let fit : 0 + length (file s) ≤ length room = omega (arith, whole (written .before .before .before), written .before .before .if1 .left) in
+    let fit : length (file s) ≤ length room = omega (arith, whole (written .before .before .before), written .before .before .if1 .left) in
     let w₁ = written .write-front .ensures in
     let w₂ = c .before .before .write-operators .ensures in
-    let one = remains-after (remains-all room 0 (file s) fit) (front s) (last s) _ (written .write-front .result) (task-split (s .pre)) (omega (arith, w₁ .0)) (w₁ .1) in
-    let all = remains-none (remains-after one (last s) [] _ _ (sym (append-nil (last s))) (w₂ .0) (w₂ .1)) refl in
-    delivered-done (file s) room _ _ (omega (arith, fit)) (all .0) (all .1)
+    parts-delivered (file s) (front s) (last s) room _ _ _ _ (task-split (s .pre)) fit (w₁ .0) (w₁ .1) (w₂ .0) (w₂ .1)
 
 pub write-task-spec : {M : Type 1} → statement M
 write-task-spec =

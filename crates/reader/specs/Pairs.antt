@@ -12,7 +12,7 @@ use Rattle.meaning.specs.Feature.{atoms, features}
 use Rattle.meaning.specs.Number as meaning
 use Rattle.meaning.specs.Number.{got, fault, number}
 use Rattle.meaning.specs.File.{give, then, featureList, InLimits}
-use Rattle.meaning.specs.Workspace.{sizesAt, pairsAt, slotsAt, wordsFor}
+use Rattle.meaning.specs.Workspace.{pairsAt, slotsAt, wordsFor}
 use Rattle.theory.specs.Spent.{Gives, gives-then, gives-map}
 use Rattle.theory.specs.Parts.{header-said, values-said}
 use Rattle.theory.specs.Numbering.{atoms-room}

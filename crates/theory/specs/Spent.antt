@@ -9,7 +9,7 @@ use lib.ListN.{length, getD, drop, length-append, drop-of-length-le}
 use lib.Dec.{leb}
 use borrow.Author.Tests.{leb-true}
 use Rattle.meaning.specs.Number.{Reason, LeftOver, got, fault, onRead}
-use Rattle.meaning.specs.File.{Parser, give, then, judge, ended}
+use Rattle.meaning.specs.File.{Parser, give, then, ended}
 use Rattle.theory.specs.Reading.{got-value, got-next, on-got, test-passed, judged-passed}
 
 -- Bytes: each is below 256.

@@ -22,6 +22,13 @@ Inv-loop bytes at words₀ bounds to count low reason next₀ i₀ words next i 
 abbrev μ-loop : tie.MeasureT-loop
 μ-loop bytes at words₀ bounds to count low reason next₀ i₀ words next i = count - i
 
+-- The turn in which a number is read, and what the call began with.
+abbrev turn : tie.After-item-at Inv-loop μ-loop → tie.At-loop Inv-loop μ-loop
+turn c = c .before .before .before
+
+abbrev start : tie.After-item-at Inv-loop μ-loop → tie.Start Inv-loop μ-loop
+start c = c .before .before .before .before .before .before
+
 loop-holds : tie.Need-loop-holds Inv-loop μ-loop
 loop-holds c = let s = c .before .before in
     (omega arith, omega arith, unread-all _ _ _ _ (s .pre .0) (s .pre .1) (s .pre .2) (s .args .low) (reasonOf (s .args .reason)), simp add-zero)
@@ -57,8 +64,7 @@ same-length : tie.Need-same-length Inv-loop μ-loop
 same-length c = omega arith
 
 returns : tie.Need-returns Inv-loop μ-loop
-returns c = let s = c .before .before .before .before .before .before .before .before .before .pre in
-    let t = c .before .before .before .before .before .before .loop in
+returns c = let s = start (c .before .before .before) .pre in let t = turn (c .before .before .before) .loop in
     items-written _ _ _ _ (s .0) (s .1) (s .2) _ _ _ _ _ _ (placed-fault _ _ _ _ _ (t .inv .3
     ∙ list-fault (first-item _ _ _ _ (s .0) (s .1) (s .2) _ _ _ _ (c .before .before .before .before .before .loop-test .taken) (t .inv .2)) _ _ _ _ _
     (sym (c .before .before .before .item-at .ensures) ∙ ap numberOf (c .before .found .given .1))))
@@ -70,14 +76,13 @@ loop-less : tie.Need-loop-less Inv-loop μ-loop
 loop-less c = omega arith
 
 loop-again : tie.Need-loop-again Inv-loop μ-loop
-loop-again c = let s = c .before .before .before .before .before .before .before .before .before in
-    let t = c .before .before .before .before .before .before .loop in (
-      omega arith,
-      simp length-set (t .inv .1),
-      unread-set _ _ _ _ (s .pre .0) (s .pre .1) (s .pre .2) (s .args .low) (reasonOf (s .args .reason)) _ _ _ (t .inv .2),
-      t .inv .3 ∙ list-more (first-item _ _ _ _ (s .pre .0) (s .pre .1) (s .pre .2) _ _ _ _ (c .before .before .before .before .before .loop-test .taken) (t .inv .2)) _ _ _ _ _ _ _
-          (sym (c .before .before .before .item-at .ensures) ∙ ap numberOf (c .before .n .given .1)),
-    )
+loop-again c = let s = start (c .before .before .before) in let t = turn (c .before .before .before) .loop in (
+  omega arith,
+  simp length-set (t .inv .1),
+  unread-set _ _ _ _ (s .pre .0) (s .pre .1) (s .pre .2) (s .args .low) (reasonOf (s .args .reason)) _ _ _ (t .inv .2),
+  t .inv .3 ∙ list-more (first-item _ _ _ _ (s .pre .0) (s .pre .1) (s .pre .2) _ _ _ _ (c .before .before .before .before .before .loop-test .taken) (t .inv .2)) _ _ _ _ _ _ _
+      (sym (c .before .before .before .item-at .ensures) ∙ ap numberOf (c .before .n .given .1)),
+)
 
 same-length-2 : tie.Need-same-length-2 Inv-loop μ-loop
 same-length-2 c = omega arith

@@ -1,5 +1,4 @@
 -- `judge_features` meets its contract: the test of N decides between the two answers.
-use mathlib.Core.Path.{sym}
 use borrow.Author.Needs.{needs}
 use borrow.Author.Tests.{le-leb, lt-leb}
 use Rattle.reader.proofs.judge_features.Statement.{statement}

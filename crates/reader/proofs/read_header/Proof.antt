@@ -11,8 +11,18 @@ use borrow.Author.Needs.{needs}
 use Rattle.reader.proofs.read_header.Statement.{statement}
 use Rattle.reader.proofs.read_header.Tie as tie
 
+-- What the call began with, from the goal that was read; and that goal and N, from the pairs that were read.
+abbrev start : tie.After-next → tie.Start
+start c = c .before .before .before .before .before .before .before .before
+
+abbrev goal : tie.After-after → tie.After-next
+goal c = c .before .before .before .before .before .before .before .before .before .before .before
+
+abbrev total : tie.After-after → tie.After-features
+total c = c .before .before .before .before .before .before
+
 -- What is known after the goal.
-known : (c : tie.After-next) → let a = c .before .before .before .before .before .before .before .before .args in AfterGoal (a .bytes .now) (a .at) (a .header .now)
+known : (c : tie.After-next) → let a = start c .args in AfterGoal (a .bytes .now) (a .at) (a .header .now)
     (c .before .before .before .before .read-states .last .1 .1 .0) (c .next .given .0 .0)
 known c = after-states _ _ _ _ _ _ (c .before .before .before .before .read-states .ensures) (c .next .given .1)
 
@@ -44,9 +54,8 @@ features-requires : tie.Need-features-requires
 features-requires c κs = states-small _ _ _ _ _ (known (c .before .before .before .before))
 
 read-pairs-requires : tie.Need-read-pairs-requires
-read-pairs-requires c κs = cleared _ _ _ _ _ (known (c .before .before .before .before .before .before)) _ (c .before .features .ensures)
-    (c .before .before .before .before .before .before .before .before .before .before .before .before .before .before .pre .1)
-    (c .before .before .before .before .before .before .before .before .before .before .before .before .before .before .pre .0) (omega arith)
+read-pairs-requires c κs = let s = c .before .before .before .before .before .before in
+    cleared _ _ _ _ _ (known s) _ (c .before .features .ensures) (start s .pre .1) (start s .pre .0) (omega arith)
 
 enum-known-after : tie.Need-enum-known-after
 enum-known-after c = search needs
@@ -70,19 +79,16 @@ same-length : tie.Need-same-length
 same-length c = search needs
 
 returns : tie.Need-returns
-returns c = header-got _ _ _ _ _ (known (c .before .before .before .before .before .before .before .before .before .before .before .before .before .before .before .before)) _
-    (c .before .before .before .before .before .before .before .before .before .before .before .features .ensures) _ _ _
-    (c .before .before .before .before .before .before .before .before .before .read-pairs .ensures) (c .before .before .before .before .before .after .given .1) _ _ _ refl
+returns c = let t = c .before .before .before .before .before in
+    header-got _ _ _ _ _ (known (goal t)) _ (total t .features .ensures) _ _ _ (t .before .before .before .before .read-pairs .ensures) (t .after .given .1) _ _ _ refl
     (sym (c .before .before .before .number-at .ensures) ∙ ap numberOf (c .before .operators .given .1))
 
 same-length-2 : tie.Need-same-length-2
 same-length-2 c = search needs
 
 returns-2 : tie.Need-returns-2
-returns-2 c = header-fault _ _ _ _ _ _ (count-unread _ _ _ _ _ (known
-    (c .before .before .before .before .before .before .before .before .before .before .before .before .before .before .before .before)) _
-    (c .before .before .before .before .before .before .before .before .before .before .before .features .ensures) _ _ _
-    (c .before .before .before .before .before .before .before .before .before .read-pairs .ensures) (c .before .before .before .before .before .after .given .1) _ _
+returns-2 c = let t = c .before .before .before .before .before in
+    header-fault _ _ _ _ _ _ (count-unread _ _ _ _ _ (known (goal t)) _ (total t .features .ensures) _ _ _ (t .before .before .before .before .read-pairs .ensures) (t .after .given .1) _ _
     (sym (c .before .before .before .number-at .ensures) ∙ ap numberOf (c .before .reason .given .1)))
 
 same-length-3 : tie.Need-same-length-3

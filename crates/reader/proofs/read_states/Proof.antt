@@ -11,8 +11,15 @@ use borrow.Author.Needs.{needs}
 use Rattle.reader.proofs.read_states.Statement.{statement}
 use Rattle.reader.proofs.read_states.Tie as tie
 
+-- What the call began with, from the sizes that were read; and those sizes, from the start that was read.
+abbrev begun : tie.After-next → tie.Start
+begun c = c .before .before .before .before .before .before .before .before
+
+abbrev first : tie.After-after → tie.After-next
+first c = c .before .before .before .before .before .before .before .before
+
 -- What is known after the sizes.
-sized : (c : tie.After-next) → let a = c .before .before .before .before .before .before .before .before .args in AfterSizes (a .bytes .now) (a .at) (a .header .now)
+sized : (c : tie.After-next) → let a = begun c .args in AfterSizes (a .bytes .now) (a .at) (a .header .now)
     (c .before .before .before .before .read-limited .last .1 .1 .0) (c .next .given .0 .0)
 sized c = after-sizes _ _ _ _ _ _ (c .before .before .before .before .read-limited .ensures) (c .next .given .1)
 
@@ -20,11 +27,11 @@ few : (c : tie.After-next) → getD (c .before .before .before .before .read-lim
 few c = rw (sized c .count) (sized c .limits .variables .1)
 
 -- What is known after the start.
-started : (c : tie.After-after) → let a = c .before .before .before .before .before .before .before .before .before .before .before .before .before .before .before .before .args in
+started : (c : tie.After-after) → let a = begun (first c) .args in
     AfterStart (a .bytes .now) (a .at) (a .header .now) (c .before .before .before .before .items-at .last .1 .1 .0)
-    (getD (c .before .before .before .before .before .before .before .before .before .before .before .before .read-limited .last .1 .1 .0) 0 0) (c .after .given .0 .0)
+    (getD (first c .before .before .before .before .read-limited .last .1 .1 .0) 0 0) (c .after .given .0 .0)
 unfolding sizesIn
-started c = after-start _ _ _ _ _ (sized (c .before .before .before .before .before .before .before .before)) _ _ _ (c .before .before .before .before .items-at .ensures) (c .after .given .1)
+started c = after-start _ _ _ _ _ (sized (first c)) _ _ _ (c .before .before .before .before .items-at .ensures) (c .after .given .1)
 
 read-limited-requires : tie.Need-read-limited-requires
 read-limited-requires c κs = search needs
@@ -45,13 +52,13 @@ enum-known-after : tie.Need-enum-known-after
 enum-known-after c = search needs
 
 add-items-at-2 : tie.Need-add-items-at-2
-add-items-at-2 c = omega (arith, few (c .before .before .before .before .before .before .before .before .before .before))
+add-items-at-2 c = omega (arith, few (first (c .before .before)))
 
 add-items-at-3 : tie.Need-add-items-at-3
-add-items-at-3 c = omega (arith, few (c .before .before .before .before .before .before .before .before .before .before))
+add-items-at-3 c = omega (arith, few (first (c .before .before)))
 
 items-at-requires-2 : tie.Need-items-at-requires-2
-items-at-requires-2 c κs = let k = few (c .before .before .before .before .before .before .before .before .before .before) in (omega (arith, k), omega (arith, k), apart-behind _ _ _ (omega arith))
+items-at-requires-2 c κs = let k = few (first (c .before .before)) in (omega (arith, k), omega (arith, k), apart-behind _ _ _ (omega arith))
 
 enum-known-reason : tie.Need-enum-known-reason
 enum-known-reason c = search needs

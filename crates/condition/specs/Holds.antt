@@ -47,7 +47,7 @@ module _ (v n : ℕ) (c : Content) (further ws : List ℕ) (h : Holds v n c furt
   )
 
   -- Other slots in their place are those of the content.
-  pub held-slotted : (slots : Slots) → slotted v n ws slots ≡ wordsOf (withSlots c slots) ++ further
+  held-slotted : (slots : Slots) → slotted v n ws slots ≡ wordsOf (withSlots c slots) ++ further
   held-slotted slots = rw (h .variables, h .total, h .words) (sym (slots-changed c further (h .proper .start .full) (h .proper .goal .full) slots))
 
   held-reduced : Reduced n (c .slots)
@@ -76,7 +76,7 @@ module _ (v n : ℕ) (c : Content) (further ws : List ℕ) (h : Holds v n c furt
   }
 
   -- With other slots of the reduced shape it holds those.
-  pub held-again : (slots : Slots) → Reduced n slots → Holds v n (withSlots c slots) further (slotted v n ws slots)
+  held-again : (slots : Slots) → Reduced n slots → Holds v n (withSlots c slots) further (slotted v n ws slots)
   held-again slots R = record {
     words = held-slotted slots;
     proper = record {

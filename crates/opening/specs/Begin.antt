@@ -57,7 +57,7 @@ zeros-flat (suc k) w g h = let e : suc k * w ≡ k * w + w = omega arith in
     ap₂ _++_ (zeros-flat k w g h) (h k) ∙ replicate-append-replicate (k * w) w 0 ∙ ap (λ m. replicate m 0) (sym e)
 
 -- Words that are all 0 are those of empty slots.
-pub zeros-slots : (n : ℕ) → replicate (n * wordsFor n) 0 ≡ slotWords n bare
+zeros-slots : (n : ℕ) → replicate (n * wordsFor n) 0 ≡ slotWords n bare
 zeros-slots n = sym (zeros-flat n (wordsFor n) (λ i. packed n (bare i)) (zeros-slot n))
 
 -- ---- a task that was accepted

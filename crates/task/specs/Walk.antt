@@ -1,6 +1,6 @@
 -- The listed pairs judged on a walk over a file's operators.
 use Prim.Native.Nat.{ℕ}
-use mathlib.Core.Path.{_≡_, refl, sym, _∙_}
+use mathlib.Core.Path.{_≡_, refl, _∙_}
 use mathlib.Core.Bool.{Bool, true, false, _&&_}
 use mathlib.Core.List.{List, [], _∷_, foldl}
 use Rattle.meaning.specs.Sets.{Set, allOf}

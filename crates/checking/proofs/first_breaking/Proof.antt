@@ -64,9 +64,9 @@ ready s = slices-ready (held s) (start s .pre .0) (is s)
 parts : (s : tie.After-step Inv-loop μ-loop) → operatorOf (start s .args .sizes .now) (start s .args .bytes .now) (top s .loop .next) ≡ got (operator-of s) (s .step .given .0 .0)
 parts s = slices-read (held s) (start s .pre .0) (is s) _ _ _ (read s)
 
--- The turn in which an operator was judged.
-abbrev turn : tie.After-is-allowed Inv-loop μ-loop → tie.After-step Inv-loop μ-loop
-turn c = c .before .before .before .before .before .before .before .before
+-- The turn in which its arrays were taken.
+abbrev turn : tie.After-afters Inv-loop μ-loop → tie.After-step Inv-loop μ-loop
+turn c = c .before .before .before .before
 
 loop-holds : tie.Need-loop-holds Inv-loop μ-loop
 loop-holds c = (omega arith, simp sub-zero)
@@ -85,28 +85,28 @@ returns c = sym (ap (placeAmong _) (c .before .before .before .before .loop .inv
     ∙ walk-unread _ _ _ _ _ _ _ _ _ (read-faulted _ _ _ _ _ _ (c .before .before .read-operator .ensures) (c .enum-told .given .1))))
 
 array-share-prefix-variables : tie.Need-array-share-prefix-variables Inv-loop μ-loop
-array-share-prefix-variables c = let s = c .before .before .before .before in omega (arith, few s, held s .variables)
+array-share-prefix-variables c = let s = turn c in omega (arith, few s, held s .variables)
 
 slice-aggregate-is-allowed : tie.Need-slice-aggregate-is-allowed Inv-loop μ-loop
-slice-aggregate-is-allowed c = let s = c .before .before .before .before .before in sym (length-take-le _ _ (omega (arith, few s, held s .variables)))
+slice-aggregate-is-allowed c = let s = turn (c .before) in sym (length-take-le _ _ (omega (arith, few s, held s .variables)))
 
 array-share-prefix-befores : tie.Need-array-share-prefix-befores Inv-loop μ-loop
-array-share-prefix-befores c = let s = c .before .before .before .before .before in omega (arith, few s, held s .befores)
+array-share-prefix-befores c = let s = turn (c .before) in omega (arith, few s, held s .befores)
 
 slice-aggregate-is-allowed-2 : tie.Need-slice-aggregate-is-allowed-2 Inv-loop μ-loop
-slice-aggregate-is-allowed-2 c = let s = c .before .before .before .before .before .before in sym (length-take-le _ _ (omega (arith, few s, held s .befores)))
+slice-aggregate-is-allowed-2 c = let s = turn (c .before .before) in sym (length-take-le _ _ (omega (arith, few s, held s .befores)))
 
 array-share-prefix-afters : tie.Need-array-share-prefix-afters Inv-loop μ-loop
-array-share-prefix-afters c = let s = c .before .before .before .before .before .before in omega (arith, few s, held s .afters)
+array-share-prefix-afters c = let s = turn (c .before .before) in omega (arith, few s, held s .afters)
 
 slice-aggregate-is-allowed-3 : tie.Need-slice-aggregate-is-allowed-3 Inv-loop μ-loop
-slice-aggregate-is-allowed-3 c = let s = c .before .before .before .before .before .before .before in sym (length-take-le _ _ (omega (arith, few s, held s .afters)))
+slice-aggregate-is-allowed-3 c = let s = turn (c .before .before .before) in sym (length-take-le _ _ (omega (arith, few s, held s .afters)))
 
 is-allowed-requires : tie.Need-is-allowed-requires Inv-loop μ-loop
-is-allowed-requires c κs = let s = c .before .before .before .before .before .before .before in (ready s, start s .pre .1 .long, start s .pre .1 .past)
+is-allowed-requires c κs = let s = turn (c .before .before .before) in (ready s, start s .pre .1 .long, start s .pre .1 .past)
 
 returns-2 : tie.Need-returns-2 Inv-loop μ-loop
-returns-2 c = let s = turn (c .before) in let broken = sym (c .before .is-allowed .ensures) ∙ not-true _ (c .if1 .taken) in
+returns-2 c = let s = turn (c .before .before .before .before .before) in let broken = sym (c .before .is-allowed .ensures) ∙ not-true _ (c .if1 .taken) in
     sym (ap (placeAmong _) (top s .loop .inv .1 ∙ walk-left _ _ _ _ _ _ _ _ _ _ (s .before .before .before .loop-test .taken) (parts s) (search-finds _ _ _ _ _ broken) (λ p. refl)))
 
 add-k : tie.Need-add-k Inv-loop μ-loop
@@ -116,7 +116,7 @@ loop-less : tie.Need-loop-less Inv-loop μ-loop
 loop-less c = omega arith
 
 loop-again : tie.Need-loop-again Inv-loop μ-loop
-loop-again c = let s = turn (c .before) in let fine = sym (c .before .is-allowed .ensures) ∙ not-false _ (c .if1 .left) in
+loop-again c = let s = turn (c .before .before .before .before .before) in let fine = sym (c .before .is-allowed .ensures) ∙ not-false _ (c .if1 .left) in
     (omega arith, top s .loop .inv .1 ∙ walk-more _ _ _ _ _ _ _ _ _ _ (s .before .before .before .loop-test .taken) (parts s) (search-passes _ _ _ _ _ fine))
 
 returns-3 : tie.Need-returns-3 Inv-loop μ-loop

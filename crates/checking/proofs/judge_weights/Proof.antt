@@ -7,14 +7,18 @@ use borrow.Author.Needs.{needs}
 use Rattle.checking.proofs.judge_weights.Statement.{statement}
 use Rattle.checking.proofs.judge_weights.Tie as tie
 
+-- What the call began with.
+abbrev start : tie.After-row → tie.Start
+start c = c .before .before .before .before .before .before .before
+
 array-borrow-prefix-row : tie.Need-array-borrow-prefix-row
 array-borrow-prefix-row c = search needs
 
 slice-aggregate-do-ends-differ : tie.Need-slice-aggregate-do-ends-differ
-slice-aggregate-do-ends-differ c = simp length-take (omega (arith, c .before .before .before .before .before .before .before .pre .3 .long, c .before .before .before .before .before .before .before .pre .0 .limits .total))
+slice-aggregate-do-ends-differ c = simp length-take (omega (arith, start c .pre .3 .long, start c .pre .0 .limits .total))
 
 do-ends-differ-requires : tie.Need-do-ends-differ-requires
-do-ends-differ-requires c κs = let (listed, start, goal, for) = c .before .before .before .before .before .before .before .pre in (listed .limits, start, goal, for, room-zeros _ _ (listed .limits .total) (for .long))
+do-ends-differ-requires c κs = let (listed, first, last, for) = start c .pre in (listed .limits, first, last, for, room-zeros _ _ (listed .limits .total) (for .long))
 
 returns : tie.Need-returns
 returns c = verdict-alike _ _ _ _ _ _ _ _ _ (c .before .before .do-ends-differ .ensures) (not-true _ (c .if1 .taken))

@@ -25,6 +25,10 @@ read c = c .before .before
 few : (c : tie.After-step) → read c .read-operator .result .operator .count ≤ mostVariables
 few c = step-few _ _ _ (start (read c) .pre) _ _ _ (read c .before .sizes .ensures) _ (read c .read-operator .ensures) _ (c .step .given .1) (room (read c))
 
+-- The turn in which its arrays were taken.
+abbrev went : tie.After-add-rows-arg → tie.After-step
+went c = c .before .before .before .before .before
+
 sizes-requires : tie.Need-sizes-requires
 sizes-requires c κs = let due = work-due _ _ _ (c .before .before .before .pre) in (due .0, omega (arith, due .2))
 
@@ -35,25 +39,25 @@ enum-known-step : tie.Need-enum-known-step
 enum-known-step c = search needs
 
 array-share-prefix-variables : tie.Need-array-share-prefix-variables
-array-share-prefix-variables c = let s = c .before .before .before .before .before in omega (arith, few s, room (read s) .variables)
+array-share-prefix-variables c = let s = went c in omega (arith, few s, room (read s) .variables)
 
 slice-aggregate-add-rows : tie.Need-slice-aggregate-add-rows
-slice-aggregate-add-rows c = let s = c .before .before .before .before .before .before in sym (length-take-le _ _ (omega (arith, few s, room (read s) .variables)))
+slice-aggregate-add-rows c = let s = went (c .before) in sym (length-take-le _ _ (omega (arith, few s, room (read s) .variables)))
 
 array-share-prefix-befores : tie.Need-array-share-prefix-befores
-array-share-prefix-befores c = let s = c .before .before .before .before .before .before in omega (arith, few s, room (read s) .befores)
+array-share-prefix-befores c = let s = went (c .before) in omega (arith, few s, room (read s) .befores)
 
 slice-aggregate-add-rows-2 : tie.Need-slice-aggregate-add-rows-2
-slice-aggregate-add-rows-2 c = let s = c .before .before .before .before .before .before .before in sym (length-take-le _ _ (omega (arith, few s, room (read s) .befores)))
+slice-aggregate-add-rows-2 c = let s = went (c .before .before) in sym (length-take-le _ _ (omega (arith, few s, room (read s) .befores)))
 
 array-share-prefix-afters : tie.Need-array-share-prefix-afters
-array-share-prefix-afters c = let s = c .before .before .before .before .before .before .before in omega (arith, few s, room (read s) .afters)
+array-share-prefix-afters c = let s = went (c .before .before) in omega (arith, few s, room (read s) .afters)
 
 slice-aggregate-add-rows-3 : tie.Need-slice-aggregate-add-rows-3
-slice-aggregate-add-rows-3 c = let s = c .before .before .before .before .before .before .before .before in sym (length-take-le _ _ (omega (arith, few s, room (read s) .afters)))
+slice-aggregate-add-rows-3 c = let s = went (c .before .before .before) in sym (length-take-le _ _ (omega (arith, few s, room (read s) .afters)))
 
 add-rows-requires : tie.Need-add-rows-requires
-add-rows-requires c κs = let s = c .before .before .before .before .before .before .before .before in
+add-rows-requires c κs = let s = went (c .before .before .before) in
     step-opened _ _ _ (start (read s) .pre) _ _ _ (read s .before .sizes .ensures) _ (read s .read-operator .ensures) _ (s .step .given .1) (room (read s))
 
 enum-known-step-2 : tie.Need-enum-known-step-2
@@ -63,7 +67,7 @@ same-length : tie.Need-same-length
 same-length c = search needs
 
 returns : tie.Need-returns
-returns c = let s = c .before .before .before .before .before .before .before .before .before .before .before in (
+returns c = let s = went (c .before .before .before .before .before .before) in (
   step-place _ _ _ (start (read s) .pre) _ _ _ (read s .before .sizes .ensures) _ (read s .read-operator .ensures) _ (s .step .given .1) (room (read s)),
   step-rows _ _ _ (start (read s) .pre) _ _ _ (read s .before .sizes .ensures) _ (read s .read-operator .ensures) _ (s .step .given .1) (room (read s)) _ (c .before .before .add-rows .ensures),
 )

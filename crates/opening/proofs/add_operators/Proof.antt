@@ -17,6 +17,10 @@ Inv-loop bytes at count room₀ v n next₀ k₀ room next k = (k ≤ count) × 
 abbrev μ-loop : tie.MeasureT-loop
 μ-loop bytes at count room₀ v n next₀ k₀ room next k = count - k
 
+-- Where the loop stands in the turn of an operator.
+abbrev top : tie.After-add-operator Inv-loop μ-loop → tie.At-loop Inv-loop μ-loop
+top t = t .before .before .before
+
 loop-holds : tie.Need-loop-holds Inv-loop μ-loop
 loop-holds c = (omega arith, c .before .before .pre, refl, simp sub-zero)
 
@@ -30,11 +34,11 @@ enum-told : tie.Need-enum-told Inv-loop μ-loop
 enum-told c = search needs
 
 same-length : tie.Need-same-length Inv-loop μ-loop
-same-length c = omega (arith, c .before .before .before .before .before .before .before .loop .inv .2)
+same-length c = omega (arith, top (c .before .before .before .before) .loop .inv .2)
 
 returns : tie.Need-returns Inv-loop μ-loop
-returns c = let loop = c .before .before .before .before .before .before .before .loop in let told = c .before .before .before .before .add-operator .ensures in
-    sym (loop .inv .3 ∙ turn-unread _ _ _ _ _ _ _ _ _ (c .before .before .before .before .before .before .loop-test .taken) (told .0) (told .1) _ _ (c .enum-told .given .1))
+returns c = let turn = c .before .before .before .before in let told = turn .add-operator .ensures in
+    sym (top turn .loop .inv .3 ∙ turn-unread _ _ _ _ _ _ _ _ _ (turn .before .before .loop-test .taken) (told .0) (told .1) _ _ (c .enum-told .given .1))
 
 add-k : tie.Need-add-k Inv-loop μ-loop
 add-k c = omega arith
@@ -43,11 +47,11 @@ loop-less : tie.Need-loop-less Inv-loop μ-loop
 loop-less c = omega arith
 
 loop-again : tie.Need-loop-again Inv-loop μ-loop
-loop-again c = let loop = c .before .before .before .before .before .before .before .before .loop in let more = c .before .before .before .before .before .before .before .loop-test .taken in let told = c .before .before .before .before .before .add-operator .ensures in (
+loop-again c = let turn = c .before .before .before .before .before in let told = turn .add-operator .ensures in let inv = top turn .loop .inv in let more = turn .before .before .loop-test .taken in (
   omega arith,
-  added-workable _ _ _ _ _ _ _ (loop .inv .1) _ _ more (told .0) (told .1),
-  omega (arith, loop .inv .2),
-  loop .inv .3 ∙ added-more _ _ _ _ _ _ _ (loop .inv .1) _ _ more (told .0) (told .1) _ (c .before .after .given .1),
+  added-workable _ _ _ _ _ _ _ (inv .1) _ _ more (told .0) (told .1),
+  omega (arith, inv .2),
+  inv .3 ∙ added-more _ _ _ _ _ _ _ (inv .1) _ _ more (told .0) (told .1) _ (c .before .after .given .1),
 )
 
 same-length-2 : tie.Need-same-length-2 Inv-loop μ-loop

@@ -35,7 +35,8 @@ same-length : tie.Need-same-length
 same-length c = search needs
 
 returns : tie.Need-returns
-returns c = begin-made (c .before .before .before .before .before .before .before .before .before .before .args .room .now) (c .before .before .before .before .before .before .before .before .before .before .args .header .now) _ _ (c .before .before .before .before .before .before .before .before .before .before .args .due) (c .before .before .before .before .before .before .before .before .before .before .pre .0) (c .before .before .before .before .before .before .before .before .before .before .pre .1) (c .before .before .before .before .before .before .copy .ensures) (c .before .before .clear .ensures)
+returns c = let start = c .before .before .before .before .before .before .before .before .before .before in
+    begin-made (start .args .room .now) (start .args .header .now) _ _ (start .args .due) (start .pre .0) (start .pre .1) (c .before .before .before .before .before .before .copy .ensures) (c .before .before .clear .ensures)
 
 pub begin-spec : {M : Type 1} → statement M
 begin-spec =

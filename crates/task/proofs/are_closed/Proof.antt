@@ -93,9 +93,12 @@ ready s = slices-ready (held s) (start s .pre) (is s)
 all : (s : tie.After-step Inv-loop μ-loop Inv-walk μ-walk) → s .before .before .before .before .before .features .result ≡ features (sizes-of s)
 all s = s .before .before .before .before .before .features .ensures
 
--- The turn in which it was asked whether an operator is idle.
+-- The turn in which its arrays were taken, and in which it was asked whether the operator is idle.
+abbrev arrays : tie.After-all-afters Inv-loop μ-loop Inv-walk μ-walk → tie.After-step Inv-loop μ-loop Inv-walk μ-walk
+arrays c = c .before .before .before .before
+
 abbrev turn : tie.After-is-idle Inv-loop μ-loop Inv-walk μ-walk → tie.After-step Inv-loop μ-loop Inv-walk μ-walk
-turn c = c .before .before .before .before .before .before .before .before .before .before .before .before
+turn c = arrays (c .before .before .before .before .before .before .before .before)
 
 -- The turn of a pair.
 abbrev pair-turn : tie.After-is-unclosed Inv-loop μ-loop Inv-walk μ-walk → tie.After-step Inv-loop μ-loop Inv-walk μ-walk
@@ -128,34 +131,34 @@ enum-told : tie.Need-enum-told Inv-loop μ-loop Inv-walk μ-walk
 enum-told c = search needs
 
 array-share-prefix-all-variables : tie.Need-array-share-prefix-all-variables Inv-loop μ-loop Inv-walk μ-walk
-array-share-prefix-all-variables c = let s = c .before .before .before .before in omega (arith, few s, held s .variables)
+array-share-prefix-all-variables c = let s = arrays c in omega (arith, few s, held s .variables)
 
 slice-aggregate-variables : tie.Need-slice-aggregate-variables Inv-loop μ-loop Inv-walk μ-walk
-slice-aggregate-variables c = let s = c .before .before .before .before .before in sym (length-take-le _ _ (omega (arith, few s, held s .variables)))
+slice-aggregate-variables c = let s = arrays (c .before) in sym (length-take-le _ _ (omega (arith, few s, held s .variables)))
 
 array-share-prefix-all-befores : tie.Need-array-share-prefix-all-befores Inv-loop μ-loop Inv-walk μ-walk
-array-share-prefix-all-befores c = let s = c .before .before .before .before .before in omega (arith, few s, held s .befores)
+array-share-prefix-all-befores c = let s = arrays (c .before) in omega (arith, few s, held s .befores)
 
 slice-aggregate-befores : tie.Need-slice-aggregate-befores Inv-loop μ-loop Inv-walk μ-walk
-slice-aggregate-befores c = let s = c .before .before .before .before .before .before in sym (length-take-le _ _ (omega (arith, few s, held s .befores)))
+slice-aggregate-befores c = let s = arrays (c .before .before) in sym (length-take-le _ _ (omega (arith, few s, held s .befores)))
 
 array-share-prefix-all-afters : tie.Need-array-share-prefix-all-afters Inv-loop μ-loop Inv-walk μ-walk
-array-share-prefix-all-afters c = let s = c .before .before .before .before .before .before in omega (arith, few s, held s .afters)
+array-share-prefix-all-afters c = let s = arrays (c .before .before) in omega (arith, few s, held s .afters)
 
 slice-aggregate-afters : tie.Need-slice-aggregate-afters Inv-loop μ-loop Inv-walk μ-walk
-slice-aggregate-afters c = let s = c .before .before .before .before .before .before .before in sym (length-take-le _ _ (omega (arith, few s, held s .afters)))
+slice-aggregate-afters c = let s = arrays (c .before .before .before) in sym (length-take-le _ _ (omega (arith, few s, held s .afters)))
 
 slice-aggregate-fill-possible : tie.Need-slice-aggregate-fill-possible Inv-loop μ-loop Inv-walk μ-walk
 slice-aggregate-fill-possible c = search needs
 
 fill-possible-requires : tie.Need-fill-possible-requires Inv-loop μ-loop Inv-walk μ-walk
-fill-possible-requires c κs = let s = c .before .before .before .before .before .before .before .before in (ready s, omega (arith, atoms-limit _ (start s .pre .limits), top s .walk .inv .2))
+fill-possible-requires c κs = let s = arrays (c .before .before .before .before) in (ready s, omega (arith, atoms-limit _ (start s .pre .limits), top s .walk .inv .2))
 
 slice-aggregate-is-idle : tie.Need-slice-aggregate-is-idle Inv-loop μ-loop Inv-walk μ-walk
 slice-aggregate-is-idle c = search needs
 
 is-idle-requires : tie.Need-is-idle-requires Inv-loop μ-loop Inv-walk μ-walk
-is-idle-requires c κs = (ready (c .before .before .before .before .before .before .before .before .before .before .before), c .before .before .fill-possible .ensures .1)
+is-idle-requires c κs = (ready (arrays (c .before .before .before .before .before .before .before)), c .before .before .fill-possible .ensures .1)
 
 first-pair-requires : tie.Need-first-pair-requires Inv-loop μ-loop Inv-walk μ-walk
 first-pair-requires c κs = let s = turn (c .before) in (start s .pre, all s)

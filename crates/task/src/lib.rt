@@ -11,7 +11,7 @@ ghost use Rattle.pairs.specs.Ready.{Listed};
 ghost use Rattle.task.specs.Walk.{closedFrom};
 ghost use Rattle.task.specs.Rest.{restOf};
 ghost use Rattle.task.specs.Answer.{JudgedInto};
-use limits::MOST_WORDS;
+use limits::ATOM_WORDS;
 use number::Reason;
 use number::Step;
 use reader::Header;
@@ -58,7 +58,7 @@ fn are_closed(bytes: &[u8], at: usize, count: usize, sizes: &[u64], pairs: &[u64
     ensures { λ r. ⌜ r ≡ closedFrom (now (sizes .entry)) (has (now (pairs .entry))) count (now (bytes .entry)) at ⌝ }
 {
     let end = numbering::features(sizes);
-    let mut possible = [0u64; MOST_WORDS];
+    let mut possible = [0u64; ATOM_WORDS];
     let mut closed = true;
     let mut next = at;
     let mut judged = 0;

@@ -10,7 +10,7 @@ use lib.ListN.{length, take}
 use lib.Seq.{length-take-le}
 use borrow.Author.Needs.{needs}
 use borrow.Author.Tests.{not-true, not-false}
-use Rattle.meaning.specs.Limits.{mostVariables, mostFeatures}
+use Rattle.meaning.specs.Limits.{mostVariables, mostAtoms}
 use Rattle.meaning.specs.Task.{Operator, IsOperator}
 use Rattle.meaning.specs.Feature.{features}
 use Rattle.meaning.specs.Number.{Read, got}
@@ -19,7 +19,7 @@ use Rattle.meaning.specs.Answer.{operatorIn}
 use Rattle.meaning.specs.Pair.{closed}
 use Rattle.meaning.specs.Workspace.{wordsFor, has}
 use Rattle.theory.specs.Slices.{entriesIn}
-use Rattle.numbering.specs.Sizes.{limits-small, atoms-limit}
+use Rattle.numbering.specs.Sizes.{limits-small, atoms-most}
 use Rattle.operator.specs.Records.{recordOf}
 use Rattle.operator.specs.Known.{read-next, read-faulted, Room, operator-is}
 use Rattle.pairs.specs.Ready.{Ready}
@@ -40,7 +40,7 @@ abbrev μ-loop : tie.MeasureT-loop
 
 abbrev Inv-walk : tie.InvT-walk
 Inv-walk bytes at count sizes pairs end possible₀ closed₀ next₀ judged₀ possible closed next judged =
-    (judged ≤ count) × (closed ≡ true) × (length possible ≡ wordsFor mostFeatures)
+    (judged ≤ count) × (closed ≡ true) × (length possible ≡ wordsFor mostAtoms)
     × (closedFrom sizes (has pairs) count bytes at ≡ walked (closedAlso sizes (has pairs)) sizes (count - judged) bytes next true)
 
 abbrev μ-walk : tie.MeasureT-walk
@@ -152,7 +152,7 @@ slice-aggregate-fill-possible : tie.Need-slice-aggregate-fill-possible Inv-loop 
 slice-aggregate-fill-possible c = search needs
 
 fill-possible-requires : tie.Need-fill-possible-requires Inv-loop μ-loop Inv-walk μ-walk
-fill-possible-requires c κs = let s = arrays (c .before .before .before .before) in (ready s, omega (arith, atoms-limit _ (start s .pre .limits), top s .walk .inv .2))
+fill-possible-requires c κs = let s = arrays (c .before .before .before .before) in (ready s, omega (arith, atoms-most _ (start s .pre .limits), top s .walk .inv .2))
 
 slice-aggregate-is-idle : tie.Need-slice-aggregate-is-idle Inv-loop μ-loop Inv-walk μ-walk
 slice-aggregate-is-idle c = search needs

@@ -7,7 +7,7 @@ use mathlib.Core.List.{List}
 use lib.ListN.{length, getD}
 use Rattle.meaning.specs.Sets.{listed}
 use Rattle.meaning.specs.Task.{names}
-use Rattle.theory.specs.Truth.{on, off, test, clash}
+use Rattle.theory.specs.Truth.{clash}
 use Rattle.theory.specs.Search.{true-together, listed-in, in-listed}
 use Rattle.theory.specs.Flat.{getD-in, in-getD}
 use Rattle.theory.specs.Operators.{beforeOf, names-in}
@@ -16,14 +16,8 @@ use Rattle.theory.specs.Walk.{place-of, before-place}
 
 -- ---- whether a list has a number
 
-pub listed-at : (l : List ℕ) (k u : ℕ) → k < length l → getD l k 0 ≡ u → listed l u ≡ true
+listed-at : (l : List ℕ) (k u : ℕ) → k < length l → getD l k 0 ≡ u → listed l u ≡ true
 listed-at l k u h e = in-listed l u (rw (sym e) (getD-in l k 0 h))
-
-pub listed-none : (l : List ℕ) (u : ℕ) → ((k : ℕ) → k < length l → getD l k 0 ≡ u → ⊥) → listed l u ≡ false
-listed-none l u h = elim (test (listed l u)) [
-  | on e ↦ let (k, j, z) = in-getD l u 0 (listed-in l u e) in absurd (h k j z)
-  | off e ↦ e
-]
 
 -- ---- the entries
 

@@ -5,7 +5,7 @@ use mathlib.Core.Logic.{_≢_}
 use mathlib.Core.Bool.{true, false}
 use mathlib.Core.List.{List, [], _∷_, append-nil, flatMap}
 use native.Mathlib.Omega.{arith}
-use lib.ListN.{length, replicate, length-replicate}
+use lib.ListN.{length, getD, replicate, length-replicate}
 use borrow.Author.Tests.{eq-eqb, ne-eqb}
 use Rattle.meaning.specs.Limits.{wordBits}
 use Rattle.meaning.specs.Task.{Entry, size}
@@ -34,6 +34,10 @@ atomOf a = (a .value, kindOf (a .kind)) ∷ []
 
 abbrev pub entryOfMove : Move → Entry
 entryOfMove m = record { variable = m .variable; before = m .before; after = m .after }
+
+-- The entry at a place of three slices.
+abbrev pub moveAt : List ℕ → List ℕ → List ℕ → ℕ → Move
+moveAt variables befores afters k = record { variable = getD variables k 0; before = getD befores k 0; after = getD afters k 0 }
 
 abbrev pub AtomIn : List ℕ → Atom → Type 0
 AtomIn sizes a = (a .variable < length sizes) × (a .value < size sizes (a .variable))

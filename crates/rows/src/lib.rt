@@ -18,7 +18,7 @@ ghost use Rattle.theory.specs.Walk.{walk};
 ghost use Rattle.numbering.specs.Planes.{Spans};
 ghost use Rattle.words.specs.Next.{Next};
 ghost use Rattle.words.specs.Toggled.{toggledAll};
-ghost use Rattle.rows.specs.Moves.{kindOf, atomOf, entryOfMove, AtomIn, MoveIn, Room, byGrid};
+ghost use Rattle.rows.specs.Moves.{kindOf, atomOf, entryOfMove, moveAt, AtomIn, MoveIn, Room, byGrid};
 ghost use Rattle.rows.specs.Change.{movedBoth, valuesBoth, besideFeatures, apartFeatures, earlierFeatures, namedFeatures, unnamedFeatures, difference};
 ghost use Rattle.rows.specs.Base.{atomsAt, leastValues, withBefores, baseBy};
 ghost use Rattle.rows.specs.Apart.{wantedBy, wantedFrom, placesFrom};
@@ -214,6 +214,18 @@ fn toggle_values(sizes: &[u64], u: usize, x: usize, y: usize, to: Move, row: &mu
     );
 }
 
+// The entry at a place.
+fn move_at(variables: &[usize], befores: &[usize], afters: &[usize], k: usize) -> Move
+    requires { ⌜ (k < length (now variables)) × (length (now befores) ≡ length (now variables)) × (length (now afters) ≡ length (now variables)) ⌝ }
+    ensures { λ r. ⌜ r ≡ moveAt (now (variables .entry)) (now (befores .entry)) (now (afters .entry)) k ⌝ }
+{
+    Move {
+        variable: variables[k],
+        before: befores[k],
+        after: afters[k],
+    }
+}
+
 // Toggles what an unnamed variable, which keeps its value, changes together with each entry.
 fn toggle_beside(
     sizes: &[u64],
@@ -237,16 +249,7 @@ fn toggle_beside(
     };
     let mut k = 0;
     while k < variables.len() {
-        toggle_moves(
-            sizes,
-            still,
-            Move {
-                variable: variables[k],
-                before: befores[k],
-                after: afters[k],
-            },
-            row,
-        );
+        toggle_moves(sizes, still, move_at(variables, befores, afters, k), row);
         k += 1;
     }
 }
@@ -265,23 +268,10 @@ fn toggle_earlier(
         ≡ toggledAll (now (row .entry))
         (earlierFeatures (now (sizes .entry)) (entriesIn (now (variables .entry)) (now (befores .entry)) (now (afters .entry))) l) ⌝ }
 {
-    let last = Move {
-        variable: variables[l],
-        before: befores[l],
-        after: afters[l],
-    };
+    let last = move_at(variables, befores, afters, l);
     let mut k = 0;
     while k < l {
-        toggle_moves(
-            sizes,
-            Move {
-                variable: variables[k],
-                before: befores[k],
-                after: afters[k],
-            },
-            last,
-            row,
-        );
+        toggle_moves(sizes, move_at(variables, befores, afters, k), last, row);
         k += 1;
     }
 }
@@ -328,20 +318,6 @@ fn toggle_doubles(
     }
 }
 
-// Whether an entry names a variable.
-fn is_named(variables: &[usize], u: usize) -> bool
-    ensures { λ r. ⌜ r ≡ listed (now (variables .entry)) u ⌝ }
-{
-    let mut k = 0;
-    while k < variables.len() {
-        if variables[k] == u {
-            return true;
-        }
-        k += 1;
-    }
-    false
-}
-
 // Toggles what an unnamed variable with its value of a state changes together with each entry; nothing for a named one.
 fn toggle_value(
     sizes: &[u64],
@@ -358,7 +334,7 @@ fn toggle_value(
         ≡ toggledAll (now (row .entry))
         (unnamedFeatures (now (sizes .entry)) (entriesIn (now (variables .entry)) (now (befores .entry)) (now (afters .entry))) (now (base .entry)) u) ⌝ }
 {
-    if !is_named(variables, u) {
+    if !pairs::names(variables, u) {
         toggle_beside(sizes, variables, befores, afters, u, base[u], row);
     }
 }
@@ -424,18 +400,7 @@ fn toggle_apart(
 {
     let mut k = 0;
     while k < variables.len() {
-        toggle_values(
-            sizes,
-            u,
-            x,
-            y,
-            Move {
-                variable: variables[k],
-                before: befores[k],
-                after: afters[k],
-            },
-            row,
-        );
+        toggle_values(sizes, u, x, y, move_at(variables, befores, afters, k), row);
         k += 1;
     }
 }

@@ -18,6 +18,10 @@ Inv-loop sizes pairs state j y i₀ i = (i ≤ j) × (some i (λ k. paired sizes
 abbrev μ-loop : tie.MeasureT-loop
 μ-loop sizes pairs state j y i₀ i = j - i
 
+-- At a turn: what the call began with.
+abbrev start : tie.At-loop Inv-loop μ-loop → tie.Start Inv-loop μ-loop
+start c = c .before .before .before .before .before
+
 mul-y : tie.Need-mul-y Inv-loop μ-loop
 mul-y c = omega (arith, c .before .before .before .pre .1 .full)
 
@@ -28,13 +32,13 @@ loop-holds : tie.Need-loop-holds Inv-loop μ-loop
 loop-holds c = (omega arith, some-start _)
 
 mul-is-paired : tie.Need-mul-is-paired Inv-loop μ-loop
-mul-is-paired c = omega (arith, c .before .before .before .before .before .before .pre .1 .full)
+mul-is-paired c = omega (arith, start (c .before) .pre .1 .full)
 
 shared-slice-read-is-paired : tie.Need-shared-slice-read-is-paired Inv-loop μ-loop
-shared-slice-read-is-paired c = omega (arith, c .before .before .before .before .before .before .before .pre .1 .full)
+shared-slice-read-is-paired c = omega (arith, start (c .before .before) .pre .1 .full)
 
 is-paired-requires : tie.Need-is-paired-requires Inv-loop μ-loop
-is-paired-requires c κs = let (h, s, l) = c .before .before .before .before .before .before .before .pre in (h, omega arith, omega arith, l, s .values _ (omega arith), s .values _ l)
+is-paired-requires c κs = let (h, s, l) = start (c .before .before) .pre in (h, omega arith, omega arith, l, s .values _ (omega arith), s .values _ l)
 
 returns : tie.Need-returns Inv-loop μ-loop
 returns c = sym (some-at _ _ _ (c .before .before .before .loop-test .taken) (sym (c .before .is-paired .ensures) ∙ c .if1 .taken))

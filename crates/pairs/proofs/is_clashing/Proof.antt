@@ -19,6 +19,10 @@ Inv-loop sizes pairs variables values l₀ l = (l ≤ length variables) × (some
 abbrev μ-loop : tie.MeasureT-loop
 μ-loop sizes pairs variables values l₀ l = length variables - l
 
+-- At a turn: what the call began with.
+abbrev start : tie.At-loop Inv-loop μ-loop → tie.Start Inv-loop μ-loop
+start c = c .before .before .before .before .before
+
 loop-holds : tie.Need-loop-holds Inv-loop μ-loop
 loop-holds c = (omega arith, some-start _)
 
@@ -29,14 +33,14 @@ shared-slice-read-is-paired-within : tie.Need-shared-slice-read-is-paired-within
 shared-slice-read-is-paired-within c = omega arith
 
 mul-is-paired-within-2 : tie.Need-mul-is-paired-within-2 Inv-loop μ-loop
-mul-is-paired-within-2 c = omega (arith, c .before .before .before .before .before .before .before .pre .1 .equal)
+mul-is-paired-within-2 c = omega (arith, start (c .before .before) .pre .1 .equal)
 
 shared-slice-read-is-paired-within-2 :
     tie.Need-shared-slice-read-is-paired-within-2 Inv-loop μ-loop
-shared-slice-read-is-paired-within-2 c = omega (arith, c .before .before .before .before .before .before .before .before .pre .1 .equal)
+shared-slice-read-is-paired-within-2 c = omega (arith, start (c .before .before .before) .pre .1 .equal)
 
 is-paired-within-requires : tie.Need-is-paired-within-requires Inv-loop μ-loop
-is-paired-within-requires c κs = let (h, a) = c .before .before .before .before .before .before .before .before .pre in
+is-paired-within-requires c κs = let (h, a) = start (c .before .before .before) .pre in
     let i = a .inside (c .before .before .before .loop .l) (c .before .before .loop-test .taken) in
     (h, a, omega arith, λ k l. ne-of-lt (a .rise k (c .before .before .before .loop .l) l (c .before .before .loop-test .taken)), i .0, i .1)
 

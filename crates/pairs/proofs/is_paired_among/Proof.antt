@@ -19,6 +19,10 @@ Inv-loop sizes pairs variables values n u y k₀ k = (k ≤ n) × (some k (λ l.
 abbrev μ-loop : tie.MeasureT-loop
 μ-loop sizes pairs variables values n u y k₀ k = n - k
 
+-- At a turn: what the call began with.
+abbrev start : tie.At-loop Inv-loop μ-loop → tie.Start Inv-loop μ-loop
+start c = c .before .before .before .before .before
+
 loop-holds : tie.Need-loop-holds Inv-loop μ-loop
 loop-holds c = (omega arith, some-start _)
 
@@ -29,13 +33,13 @@ shared-slice-read-is-paired : tie.Need-shared-slice-read-is-paired Inv-loop μ-l
 shared-slice-read-is-paired c = omega arith
 
 mul-is-paired-2 : tie.Need-mul-is-paired-2 Inv-loop μ-loop
-mul-is-paired-2 c = omega (arith, c .before .before .before .before .before .before .before .pre .1 .equal)
+mul-is-paired-2 c = omega (arith, start (c .before .before) .pre .1 .equal)
 
 shared-slice-read-is-paired-2 : tie.Need-shared-slice-read-is-paired-2 Inv-loop μ-loop
-shared-slice-read-is-paired-2 c = omega (arith, c .before .before .before .before .before .before .before .before .pre .1 .equal)
+shared-slice-read-is-paired-2 c = omega (arith, start (c .before .before .before) .pre .1 .equal)
 
 is-paired-requires : tie.Need-is-paired-requires Inv-loop μ-loop
-is-paired-requires c κs = let (h, a, n, d, l, v) = c .before .before .before .before .before .before .before .before .pre in
+is-paired-requires c κs = let (h, a, n, d, l, v) = start (c .before .before .before) .pre in
     let i = a .inside (c .before .before .before .loop .k) (omega arith) in (h, d (c .before .before .before .loop .k) (c .before .before .loop-test .taken), i .0, l, i .1, v)
 
 returns : tie.Need-returns Inv-loop μ-loop

@@ -7,7 +7,7 @@ use Rattle.meaning.specs.Sets.{flat}
 use Rattle.theory.specs.Slices.{entriesIn, entry-at, entry-fine, length-held}
 use Rattle.theory.specs.Walk.{entryAt}
 use Rattle.words.specs.Toggled.{toggledAll, toggled-start, toggled-turn, length-next}
-use Rattle.rows.specs.Moves.{room-toggled}
+use Rattle.rows.specs.Moves.{entryOfMove, room-toggled}
 use Rattle.rows.specs.Given.{entry-other}
 use Rattle.rows.specs.Change.{movedBoth, stays, besideFeatures}
 use Rattle.rows.proofs.toggle_beside.Statement.{statement}
@@ -19,33 +19,19 @@ Inv-loop sizes variables befores afters u y row₀ still k₀ row k = (k ≤ len
 abbrev μ-loop : tie.MeasureT-loop
 μ-loop sizes variables befores afters u y row₀ still k₀ row k = length variables - k
 
+-- At a turn: what the call began with.
+abbrev start : tie.At-loop Inv-loop μ-loop → tie.Start Inv-loop μ-loop
+start c = c .before .before .before .before .before .before
+
 loop-holds : tie.Need-loop-holds Inv-loop μ-loop
 loop-holds c = (omega arith, toggled-start _ _)
 
-mul-t10 : tie.Need-mul-t10 Inv-loop μ-loop
-mul-t10 c = omega arith
-
-shared-slice-read-t14 : tie.Need-shared-slice-read-t14 Inv-loop μ-loop
-shared-slice-read-t14 c = omega arith
-
-mul-t15 : tie.Need-mul-t15 Inv-loop μ-loop
-mul-t15 c = omega arith
-
-shared-slice-read-t17 : tie.Need-shared-slice-read-t17 Inv-loop μ-loop
-shared-slice-read-t17 c = omega arith
-
-mul-t18 : tie.Need-mul-t18 Inv-loop μ-loop
-mul-t18 c = omega arith
-
-shared-slice-read-t20 : tie.Need-shared-slice-read-t20 Inv-loop μ-loop
-shared-slice-read-t20 c = omega arith
+move-at-requires : tie.Need-move-at-requires Inv-loop μ-loop
+move-at-requires c κs = let g = start (c .before) .pre .0 in (c .loop-test .taken, g .befores-equal, g .afters-equal)
 
 toggle-moves-requires : tie.Need-toggle-moves-requires Inv-loop μ-loop
-toggle-moves-requires c κs =
-    let start = c .before .before .before .before .before .before .before .before .before .before .before in
-    let at = c .before .before .before .before .before .loop in
-    let (g, r, a, b, n) = start .pre in
-    (room-toggled _ _ _ _ r (at .inv .1), (a, b, b), entry-fine g _ (c .before .before .before .before .loop-test .taken), entry-other g _ _ n (c .before .before .before .before .loop-test .taken))
+toggle-moves-requires c κs = let t = c .before .before .before in let (g, r, a, b, n) = start t .pre in let m = c .before .before .loop-test .taken in
+    rw (c .before .move-at .ensures) (room-toggled _ _ _ _ r (t .loop .inv .1), (a, b, b), entry-fine g _ m, entry-other g _ _ n m)
 
 add-k : tie.Need-add-k Inv-loop μ-loop
 add-k c = omega arith
@@ -54,20 +40,19 @@ loop-less : tie.Need-loop-less Inv-loop μ-loop
 loop-less c = omega arith
 
 loop-again : tie.Need-loop-again Inv-loop μ-loop
-loop-again c =
-    let start = c .before .before .before .before .before .before .before .before .before .before .before .before .before .before in
-    let at = c .before .before .before .before .before .before .before .before .loop in
-    (omega arith, toggled-turn _ _ _ _ _ (at .inv .1) (c .before .before .toggle-moves .ensures ∙ ap (λ e. toggledAll (at .row) (movedBoth (start .args .sizes .now) (stays (start .args .u) (start .args .y)) e)) (sym (entry-at (start .pre .0) _ (c .before .before .before .before .before .before .before .loop-test .taken)))))
+loop-again c = let t = c .before .before .before .before .before .before in let a = start t .args in (
+  omega arith,
+  toggled-turn _ _ _ _ _ (t .loop .inv .1) (c .before .before .toggle-moves .ensures
+      ∙ ap (λ e. toggledAll (t .loop .row) (movedBoth (a .sizes .now) (stays (a .u) (a .y)) e)) (ap entryOfMove (c .before .before .before .before .move-at .ensures) ∙ sym (entry-at (start t .pre .0) _ (c .before .before .before .before .before .loop-test .taken)))),
+)
 
 same-length : tie.Need-same-length Inv-loop μ-loop
 same-length c = length-next _ _ _ (c .before .loop .inv .1)
 
 returns : tie.Need-returns Inv-loop μ-loop
 unfolding besideFeatures
-returns c =
-    let start = c .before .before .before .before .before .before .before in
-    let e : c .before .loop .k ≡ length (start .args .variables .now) = omega arith in
-    c .before .loop .inv .1 ∙ rw (e, length-held (length (start .args .variables .now)) (start .args .variables .now) (start .args .befores .now) (start .args .afters .now))
+returns c = let a = start (c .before) .args in let e : c .before .loop .k ≡ length (a .variables .now) = omega arith in
+    c .before .loop .inv .1 ∙ rw (e, length-held (length (a .variables .now)) (a .variables .now) (a .befores .now) (a .afters .now))
 
 pub toggle-beside-spec : {M : Type 1} → statement M
 toggle-beside-spec =
@@ -76,12 +61,7 @@ toggle-beside-spec =
     Inv-loop
     μ-loop
     loop-holds
-    mul-t10
-    shared-slice-read-t14
-    mul-t15
-    shared-slice-read-t17
-    mul-t18
-    shared-slice-read-t20
+    move-at-requires
     toggle-moves-requires
     add-k
     loop-less

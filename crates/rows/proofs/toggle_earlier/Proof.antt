@@ -1,13 +1,14 @@
 -- `toggle_earlier` meets its contract: after k turns what the entry changes with the first k entries is toggled.
 use Prim.Native.Nat.{_≤_, _-_}
-use mathlib.Core.Path.{_≡_, sym, ap₂, _∙_}
+use mathlib.Core.Path.{_≡_, sym, ap, ap₂, _∙_}
 use native.Mathlib.Omega.{arith}
 use native.Mathlib.Nat.{ne-of-lt}
+use borrow.Author.Needs.{needs}
 use Rattle.meaning.specs.Sets.{flat}
 use Rattle.theory.specs.Slices.{entriesIn, entry-at, entry-fine, entries-rise}
 use Rattle.theory.specs.Walk.{entryAt}
 use Rattle.words.specs.Toggled.{toggledAll, toggled-start, toggled-turn, length-next}
-use Rattle.rows.specs.Moves.{room-toggled}
+use Rattle.rows.specs.Moves.{entryOfMove, room-toggled}
 use Rattle.rows.specs.Change.{movedBoth, earlierFeatures}
 use Rattle.rows.proofs.toggle_earlier.Statement.{statement}
 use Rattle.rows.proofs.toggle_earlier.Tie as tie
@@ -18,51 +19,22 @@ Inv-loop sizes variables befores afters l row₀ last k₀ row k = (k ≤ l) × 
 abbrev μ-loop : tie.MeasureT-loop
 μ-loop sizes variables befores afters l row₀ last k₀ row k = l - k
 
-mul-t9 : tie.Need-mul-t9 Inv-loop μ-loop
-mul-t9 c = omega arith
+-- At a turn: what the call began with.
+abbrev start : tie.At-loop Inv-loop μ-loop → tie.Start Inv-loop μ-loop
+start c = c .before .before .before .before .before .before .before
 
-shared-slice-read-t11 : tie.Need-shared-slice-read-t11 Inv-loop μ-loop
-shared-slice-read-t11 c = omega arith
-
-mul-t12 : tie.Need-mul-t12 Inv-loop μ-loop
-mul-t12 c = omega arith
-
-shared-slice-read-t14 : tie.Need-shared-slice-read-t14 Inv-loop μ-loop
-shared-slice-read-t14 c = omega arith
-
-mul-t15 : tie.Need-mul-t15 Inv-loop μ-loop
-mul-t15 c = omega arith
-
-shared-slice-read-t17 : tie.Need-shared-slice-read-t17 Inv-loop μ-loop
-shared-slice-read-t17 c = omega arith
+move-at-requires : tie.Need-move-at-requires Inv-loop μ-loop
+move-at-requires c κs = search needs
 
 loop-holds : tie.Need-loop-holds Inv-loop μ-loop
 loop-holds c = (omega arith, toggled-start _ _)
 
-mul-t20 : tie.Need-mul-t20 Inv-loop μ-loop
-mul-t20 c = omega arith
-
-shared-slice-read-t22 : tie.Need-shared-slice-read-t22 Inv-loop μ-loop
-shared-slice-read-t22 c = omega arith
-
-mul-t23 : tie.Need-mul-t23 Inv-loop μ-loop
-mul-t23 c = omega arith
-
-shared-slice-read-t25 : tie.Need-shared-slice-read-t25 Inv-loop μ-loop
-shared-slice-read-t25 c = omega arith
-
-mul-t26 : tie.Need-mul-t26 Inv-loop μ-loop
-mul-t26 c = omega arith
-
-shared-slice-read-t28 : tie.Need-shared-slice-read-t28 Inv-loop μ-loop
-shared-slice-read-t28 c = omega arith
+move-at-requires-2 : tie.Need-move-at-requires-2 Inv-loop μ-loop
+move-at-requires-2 c κs = let (g, r, a) = start (c .before) .pre in (omega (arith, c .loop-test .taken, a), g .befores-equal, g .afters-equal)
 
 toggle-moves-requires : tie.Need-toggle-moves-requires Inv-loop μ-loop
-toggle-moves-requires c κs =
-    let start = c .before .before .before .before .before .before .before .before .before .before .before .before .before .before in
-    let at = c .before .before .before .before .before .loop in
-    let (g, r, a) = start .pre in
-    (room-toggled _ _ _ _ r (at .inv .1), entry-fine g _ (omega arith), entry-fine g _ a, ne-of-lt (entries-rise g _ _ (c .before .before .before .before .loop-test .taken) a))
+toggle-moves-requires c κs = let t = c .before .before .before in let (g, r, a) = start t .pre in let m = c .before .before .loop-test .taken in
+    rw (c .before .move-at2 .ensures, t .before .move-at .ensures) (room-toggled _ _ _ _ r (t .loop .inv .1), entry-fine g _ (omega (arith, m, a)), entry-fine g _ a, ne-of-lt (entries-rise g _ _ m a))
 
 add-k : tie.Need-add-k Inv-loop μ-loop
 add-k c = omega arith
@@ -71,17 +43,19 @@ loop-less : tie.Need-loop-less Inv-loop μ-loop
 loop-less c = omega arith
 
 loop-again : tie.Need-loop-again Inv-loop μ-loop
-loop-again c =
-    let start = c .before .before .before .before .before .before .before .before .before .before .before .before .before .before .before .before .before in
-    let at = c .before .before .before .before .before .before .before .before .loop in
-    (omega arith, toggled-turn _ _ _ _ _ (at .inv .1) (c .before .before .toggle-moves .ensures ∙ ap₂ (λ e e'. toggledAll (at .row) (movedBoth (start .args .sizes .now) e e')) (sym (entry-at (start .pre .0) _ (omega arith))) (sym (entry-at (start .pre .0) _ (start .pre .2)))))
+loop-again c = let t = c .before .before .before .before .before .before in let g = start t .pre .0 in let a = start t .pre .2 in (
+  omega arith,
+  toggled-turn _ _ _ _ _ (t .loop .inv .1) (c .before .before .toggle-moves .ensures
+      ∙ ap₂ (λ e e'. toggledAll (t .loop .row) (movedBoth (start t .args .sizes .now) e e')) (ap entryOfMove (c .before .before .before .before .move-at2 .ensures) ∙ sym (entry-at g _ (omega (arith, c .before .before .before .before .before .loop-test .taken, a))))
+      (ap entryOfMove (t .before .move-at .ensures) ∙ sym (entry-at g _ a))),
+)
 
 same-length : tie.Need-same-length Inv-loop μ-loop
 same-length c = length-next _ _ _ (c .before .loop .inv .1)
 
 returns : tie.Need-returns Inv-loop μ-loop
 unfolding earlierFeatures
-returns c = let e : c .before .loop .k ≡ c .before .before .before .before .before .before .before .before .before .before .args .l = omega arith in c .before .loop .inv .1 ∙ rw e
+returns c = let e : c .before .loop .k ≡ start (c .before) .args .l = omega arith in c .before .loop .inv .1 ∙ rw e
 
 pub toggle-earlier-spec : {M : Type 1} → statement M
 toggle-earlier-spec =
@@ -89,19 +63,9 @@ toggle-earlier-spec =
     (tie.spec
     Inv-loop
     μ-loop
-    mul-t9
-    shared-slice-read-t11
-    mul-t12
-    shared-slice-read-t14
-    mul-t15
-    shared-slice-read-t17
+    move-at-requires
     loop-holds
-    mul-t20
-    shared-slice-read-t22
-    mul-t23
-    shared-slice-read-t25
-    mul-t26
-    shared-slice-read-t28
+    move-at-requires-2
     toggle-moves-requires
     add-k
     loop-less

@@ -7,7 +7,6 @@ use native.Mathlib.Omega.{arith}
 use lib.ListN.{length, take, drop}
 use lib.Seq.{drop-drop}
 use Rattle.meaning.specs.Sets.{Set, Slots}
-use Rattle.meaning.specs.Limits.{mostVariables, mostFeatures, wordBits}
 use Rattle.meaning.specs.Task.{Operator}
 use Rattle.meaning.specs.Feature.{features}
 use Rattle.meaning.specs.Slot.{Reduced, SlotsOf, Stored}
@@ -21,27 +20,28 @@ use Rattle.theory.specs.InsertAll.{insertAll, insertAll-reduced, insertAll-stor
 use Rattle.theory.specs.Operands.{add-fine}
 use Rattle.theory.specs.Contents.{formed-content, withStart, withGoal, withSlots, start-changed, goal-changed, slots-changed, edit-proper, edit-further}
 use Rattle.pairs.specs.Ready.{Listed, Ready}
+use Rattle.layout.specs.declared.Places.{Places}
+use Rattle.layout.specs.Places.{placesOf}
+use Rattle.layout.specs.Parts.{sizesPart, pairsPart, slotsPart, lent, length-part}
 use Rattle.slots.specs.Area.{slotsIn}
 use Rattle.condition.specs.Slotted.{heldSlots, slotted, Opened, area-slotted}
 use Rattle.formed.specs.declared.Formed.the-variants.{Yes, No}
-use Rattle.formed.specs.Parts.{sizesPart, pairsPart, slotsPart, contentParts, cut-listed, lent, length-part, sized-small}
+use Rattle.formed.specs.Parts.{contentParts, cut-listed}
 use Rattle.formed.specs.Formed.{FormedIs, no-formed, yes-formed, yes-content, yes-sized, yes-due, yes-cut}
 use Rattle.editing.specs.declared.End.{End}
 use Rattle.editing.specs.declared.End.the-variants.{Start, Goal}
-use Rattle.editing.specs.Answers.{replaced, endAt}
-use Rattle.editing.specs.Operand.{valuesAnd, endJudged, operatorJudged, values-long}
-
--- The sizes and the listed pairs as they are lent, from one place to the next.
-abbrev pub sizesLent : ℕ → List ℕ → List ℕ
-sizesLent v ws = take (startAt v - sizesAt) (drop sizesAt ws)
-
-abbrev pub pairsLent : ℕ → ℕ → List ℕ → List ℕ
-pairsLent v n ws = take (slotsAt v n - pairsAt v) (drop (pairsAt v) ws)
+use Rattle.editing.specs.Answers.{replaced, endAt, placeOf}
+use Rattle.editing.specs.Operand.{valuesAnd, endJudged, values-long}
 
 -- Values written over a part that was lent.
 part-written : (ws values new : List ℕ) (at v : ℕ) → new ≡ values
     → take at ws ++ (new ++ drop (at + v - at) (drop at ws)) ≡ take at ws ++ (values ++ drop (at + v) ws)
 part-written ws values new at v e = let q : at + v - at ≡ v = omega arith in rw (e, q, drop-drop v at ws)
+
+-- An end's place by the places of a workspace.
+pub place-is : (end : End) (v n : ℕ) (at : Places) → at ≡ placesOf v n → placeOf end at ≡ endAt end v
+place-is Start v n at is = ap (λ p. p .start) is
+place-is Goal v n at is = ap (λ p. p .goal) is
 
 -- Words that are not well formed.
 pub edit-malformed : (ws : List ℕ) (edit : Edit) (number : ℕ) → FormedIs ws No → number ≡ refusal Malformed
@@ -81,25 +81,16 @@ module _ (ws : List ℕ) (v n : ℕ) (yes : FormedIs ws (Yes v n)) where
       further = sym (ap (drop (length (wordsOf c'))) (formed-parts .words)
           ∙ edit-further (contentParts v n ws) c' edit (formed-parts .further) (formed-parts .proper) (edit-proper (contentParts v n ws) c' edit (formed-parts .proper) e h) h)
 
-  -- All places are within the words, and small.
-  pub places : (v ≤ mostVariables) × (n ≤ mostFeatures) × (n * wordsFor n ≤ mostFeatures * wordBits) × (wordsDue v n ≤ length ws)
-  places = let s = sized-small ws v n (yes-sized ws v n yes) in (s .0, s .1, s .2, yes-due ws v n yes)
-
   count : length (sizesPart v ws) ≡ v
   count = length-part sizesAt v ws (yes-sized ws v n yes .room)
 
-  -- What was judged by the parts that were lent.
-  pub end-judged : (end : End) (values : List ℕ) (found : Judged) → found ≡ endJudged end (sizesLent v ws) (has (pairsLent v n ws)) values
-      → editJudged (contentParts v n ws) (replaced end values) ≡ found
-  end-judged Start values found e = sym (rw (lent sizesAt v ws, lent (pairsAt v) (wordsFor n) ws) at e)
-  end-judged Goal values found e = sym (rw (lent sizesAt v ws) at e)
+  -- An end's values are judged by the sizes and the listed pairs.
+  pub end-judged : (end : End) (values : List ℕ) → editJudged (contentParts v n ws) (replaced end values) ≡ endJudged end (sizesPart v ws) (has (pairsPart v n ws)) values
+  end-judged Start values = refl
+  end-judged Goal values = refl
 
-  pub operator-judged : (r : OperatorRecord) (found : Judged) → found ≡ operatorJudged (sizesLent v ws) (has (pairsLent v n ws)) r
-      → editJudged (contentParts v n ws) (addOperator r) ≡ found
-  operator-judged r found e = sym (rw (lent sizesAt v ws, lent (pairsAt v) (wordsFor n) ws) at e)
-
-  pub parts-listed : Listed (sizesLent v ws) (pairsLent v n ws)
-  parts-listed = rw (lent sizesAt v ws, lent (pairsAt v) (wordsFor n) ws) (cut-listed (yes-cut ws v n yes))
+  pub parts-listed : Listed (sizesPart v ws) (pairsPart v n ws)
+  parts-listed = cut-listed (yes-cut ws v n yes)
 
   abbrev withEnd : End → List ℕ → Content
   withEnd Start values = withStart (contentParts v n ws) values
@@ -117,17 +108,16 @@ module _ (ws : List ℕ) (v n : ℕ) (yes : FormedIs ws (Yes v n)) where
       ∙ ap₂ (λ k l. take (goalAt k) l ++ (values ++ drop (pairsAt k) l)) count (sym (formed-parts .words))
 
   end-due : (end : End) → endAt end v + v ≤ length ws
-  end-due Start = omega (arith, yes-due ws v n yes)
-  end-due Goal = omega (arith, yes-due ws v n yes)
+  end-due Start = omega (arith, yes-due ws v n yes .words)
+  end-due Goal = omega (arith, yes-due ws v n yes .words)
 
   -- The part for an end's values is in the words, and as long as values that are found fine; with these in it the edit is done.
   module _ (end : End) (at : ℕ) (here : at ≡ endAt end v) (values : List ℕ) where
     pub end-room : at + v ≤ length ws
     end-room = rw here (end-due end)
 
-    pub end-long : (rest : Judged) → valuesAnd rest (sizesLent v ws) values ≡ fine → length (take (at + v - at) (drop at ws)) ≡ length values
-    end-long rest e = ap length (lent at v ws) ∙ length-part at v ws end-room
-        ∙ sym (values-long (sizesLent v ws) values rest e ∙ ap length (lent sizesAt v ws) ∙ count)
+    pub end-long : (rest : Judged) → valuesAnd rest (sizesPart v ws) values ≡ fine → length (take (at + v - at) (drop at ws)) ≡ length values
+    end-long rest e = ap length (lent at v ws) ∙ length-part at v ws end-room ∙ sym (values-long (sizesPart v ws) values rest e ∙ count)
 
     pub end-done : (new : List ℕ) → editJudged (contentParts v n ws) (replaced end values) ≡ fine → new ≡ values
         → Edits ws (replaced end values) (record { answer = done tt; lent = take at ws ++ (new ++ drop (at + v - at) (drop at ws)) })
@@ -145,13 +135,13 @@ module _ (ws : List ℕ) (v n : ℕ) (yes : FormedIs ws (Yes v n)) where
   slots-written m slots q = rw q (slots-changed (contentParts v n ws) (formed-parts .further) (formed-parts .proper .start .full) (formed-parts .proper .goal .full) (slots (features (sizesPart v ws)))
       ∙ ap₂ (λ k l. slotted k (features (sizesPart v ws)) l (slots (features (sizesPart v ws)))) count (sym (formed-parts .words)))
 
-  pub added-opened : (variables befores afters : List ℕ) → Ready (sizesLent v ws) (pairsLent v n ws) variables befores afters
+  pub added-opened : (variables befores afters : List ℕ) → Ready (sizesPart v ws) (pairsPart v n ws) variables befores afters
       → Opened v n ws variables befores afters
   added-opened variables befores afters ready = record {
     counted = total;
-    due = yes-due ws v n yes;
-    ready = rw (lent sizesAt v ws, lent (pairsAt v) (wordsFor n) ws) at ready;
-    filled = ap (λ l. take (n * wordsFor n) (drop (slotsAt v n) l)) own ∙ area-slotted v n ws (yes-due ws v n yes) (heldSlots v n ws);
+    due = yes-due ws v n yes .words;
+    ready = ready;
+    filled = ap (λ l. take (n * wordsFor n) (drop (slotsAt v n) l)) own ∙ area-slotted v n ws (yes-due ws v n yes .words) (heldSlots v n ws);
     reduced = subst (λ m. Reduced m (slotsIn m (slotsPart v n ws))) (sym total) (formed-parts .proper .slots);
   }
     where

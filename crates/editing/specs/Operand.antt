@@ -1,7 +1,7 @@
 -- What is judged of an operand, by the sizes and the listed pairs of a workspace: new values one at a time, and what is judged after them.
 use Prim.Native.Nat.{ℕ, suc, _+_, _<_, _≤_}
 use mathlib.Core.Path.{_≡_, refl, ap, ap₂, sym, _∙_}
-use mathlib.Core.Bool.{not}
+use mathlib.Core.Bool.{Bool, not}
 use mathlib.Core.List.{List, [], _∷_}
 use native.Mathlib.Omega.{arith}
 use native.Mathlib.Numerals.{add-one}
@@ -27,6 +27,13 @@ valuesAnd rest sizes values = need (eqb (length values) (length sizes)) Range (v
 abbrev pub heldJudged : End → List ℕ → Set → List ℕ → Judged
 heldJudged Start sizes pairs values = need (not (holds sizes pairs values)) Held fine
 heldJudged Goal sizes pairs values = fine
+
+pub start-held : (end : End) (sizes : List ℕ) (pairs : Set) (values : List ℕ) (held : Bool) → end ≡ Start → holds sizes pairs values ≡ held
+    → heldJudged end sizes pairs values ≡ need (not held) Held fine
+start-held end sizes pairs values held e h = rw (e, h)
+
+pub goal-free : (end : End) (sizes : List ℕ) (pairs : Set) (values : List ℕ) → end ≡ Goal → heldJudged end sizes pairs values ≡ fine
+goal-free end sizes pairs values e = rw e
 
 abbrev pub endJudged : End → List ℕ → Set → List ℕ → Judged
 endJudged end sizes pairs values = valuesAnd (heldJudged end sizes pairs values) sizes values

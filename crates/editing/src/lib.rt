@@ -1,21 +1,18 @@
 // Edits of a workspace: another goal, another start, one more operator. A refused edit changes no word.
 use formed::Formed;
-use limits::MOST_WORDS;
-use limits::SIZES_AT;
+use layout::Places;
+use limits::ATOM_WORDS;
 use number::Reason;
 use operator::Judgement;
 use operator::Operator;
-use words::WORD_BITS;
 ghost use mathlib.Core.Path.{_≡_};
-ghost use Prim.Native.Nat.{_≤_};
-ghost use Rattle.meaning.specs.Limits.{mostVariables};
 ghost use Rattle.meaning.specs.Pair.{closed};
 ghost use Rattle.meaning.specs.Workspace.{has};
 ghost use Rattle.meaning.specs.Answer.{Edits, fine, addOperator, replaceStart, replaceGoal};
 ghost use Rattle.theory.specs.Slices.{entriesIn};
 ghost use Rattle.operator.specs.Records.{recordOf, judgementOf};
 ghost use Rattle.pairs.specs.Ready.{Listed, Ready};
-ghost use Rattle.editing.specs.Answers.{editedOf, replaced, endAt};
+ghost use Rattle.editing.specs.Answers.{editedOf, replaced, placeOf};
 ghost use Rattle.editing.specs.Operand.{valuesAnd, endJudged, operatorJudged};
 
 // What an edit comes to: it is done, or refused with the paper's number.
@@ -67,13 +64,12 @@ fn judge_end(end: End, sizes: &[u64], pairs: &[u64], values: &[u64]) -> Judgemen
 }
 
 // Where an end's values begin.
-fn place_of(end: End, variables: usize) -> usize
-    requires { ⌜ variables ≤ mostVariables ⌝ }
-    ensures { λ r. ⌜ r ≡ endAt end variables ⌝ }
+fn place_of(end: End, at: Places) -> usize
+    ensures { λ r. ⌜ r ≡ placeOf end at ⌝ }
 {
     match end {
-        End::Start => SIZES_AT + variables,
-        End::Goal => SIZES_AT + variables + variables,
+        End::Start => at.start,
+        End::Goal => at.goal,
     }
 }
 
@@ -88,7 +84,7 @@ fn is_closed(
     requires { ⌜ Ready (now sizes) (now pairs) (now variables) (now befores) (now afters) ⌝ }
     ensures { λ r. ⌜ r ≡ closed (now (sizes .entry)) (has (now (pairs .entry))) (entriesIn (now (variables .entry)) (now (befores .entry)) (now (afters .entry))) ⌝ }
 {
-    let mut possible = [0u64; MOST_WORDS];
+    let mut possible = [0u64; ATOM_WORDS];
     pairs::fill_possible(sizes, pairs, variables, befores, afters, &mut possible);
     pairs::is_closed(sizes, pairs, variables, befores, afters, &possible)
 }
@@ -128,17 +124,14 @@ fn replace(workspace: &mut [u64], end: End, values: &[u64]) -> Edited
             variables,
             features,
         } => {
-            let start = SIZES_AT + variables;
-            let pairs = start + variables + variables;
-            let slots = pairs + (features + (WORD_BITS - 1)) / WORD_BITS;
             match judge_end(
                 end,
-                &workspace[SIZES_AT..start],
-                &workspace[pairs..slots],
+                layout::sizes(workspace, variables),
+                layout::pairs(workspace, variables, features),
                 values,
             ) {
                 Judgement::Fine => {
-                    let at = place_of(end, variables);
+                    let at = place_of(end, layout::places_for(variables, features));
                     words::copy(&mut workspace[at..at + variables], values);
                     Edited::Done
                 }
@@ -172,16 +165,13 @@ pub fn add_operator(workspace: &mut [u64], operator: Operator) -> Edited
             variables,
             features,
         } => {
-            let start = SIZES_AT + variables;
-            let pairs = start + variables + variables;
-            let slots = pairs + (features + (WORD_BITS - 1)) / WORD_BITS;
             let count = operator.count;
             let named = operator.variables;
             let befores = operator.befores;
             let afters = operator.afters;
             match judge_operator(
-                &workspace[SIZES_AT..start],
-                &workspace[pairs..slots],
+                layout::sizes(workspace, variables),
+                layout::pairs(workspace, variables, features),
                 operator,
             ) {
                 Judgement::Fine => {

@@ -1,37 +1,51 @@
 -- `editing::add_operator`: a refusal by the first test that fails; else the operator's rows were inserted into the slots.
 use mathlib.Core.Path.{_≡_, ap, sym, _∙_, subst}
-use native.Mathlib.Omega.{arith}
 use lib.Seq.{length-take-le}
 use borrow.Author.Needs.{needs}
+use Rattle.meaning.specs.Workspace.{has}
 use Rattle.meaning.specs.Answer.{addOperator, fine}
 use Rattle.operator.specs.Records.{recordOf, judgementOf}
-use Rattle.formed.specs.declared.Formed.the-variants.{Yes}
-use Rattle.formed.specs.Formed.{FormedIs}
 use Rattle.operator.specs.Known.{Room}
 use Rattle.pairs.specs.Slices.{Fits, slices-fit, slices-hold, slices-ready}
+use Rattle.layout.specs.Parts.{sizesPart, pairsPart, due-sizes, due-headed}
+use Rattle.formed.specs.declared.Formed.the-variants.{Yes}
+use Rattle.formed.specs.Formed.{FormedIs, yes-due}
+use Rattle.editing.specs.Operand.{operatorJudged}
 use Rattle.editing.specs.Judging.{fileJudged, operator-file, file-known}
-use Rattle.editing.specs.Change.{sizesLent, pairsLent, edit-malformed, edit-refused, places, parts-listed, operator-judged, added-opened, operator-done}
+use Rattle.editing.specs.Change.{edit-malformed, edit-refused, parts-listed, added-opened, operator-done}
 use Rattle.editing.proofs.add_operator.Statement.{statement}
 use Rattle.editing.proofs.add_operator.Tie as tie
 
+-- What the call began with, seen from where the workspace is known; and that place, seen from where both parts are lent.
+abbrev begun : tie.After-variables → tie.Start
+begun c = c .before .before .before .before .before
+
+abbrev known : tie.After-pairs → tie.After-variables
+known c = c .before .before .before .before .before .before .before
+
 -- The workspace is well formed.
-yes : (c : tie.After-variables) → FormedIs (c .before .before .before .before .before .args .workspace .now) (Yes (c .variables .given .0 .0) (c .variables .given .0 .1 .0))
+yes : (c : tie.After-variables) → FormedIs (begun c .args .workspace .now) (Yes (c .variables .given .0 .0) (c .variables .given .0 .1 .0))
 yes c = subst (FormedIs _) (c .variables .given .1) (c .before .before .well-formed .ensures)
+
+-- The operator is judged by the sizes and the listed pairs.
+judged : (c : tie.After-judge-operator) → let k = known (c .before) in let a = begun k .args in
+    judgementOf (c .judge-operator .result)
+    ≡ operatorJudged (sizesPart (k .variables .given .0 .0) (a .workspace .now)) (has (pairsPart (k .variables .given .0 .0) (k .variables .given .0 .1 .0) (a .workspace .now))) (recordOf (a .operator))
+judged c = rw (c .before .before .sizes .ensures, c .before .pairs .ensures) at (c .judge-operator .ensures)
 
 -- Where the operator was found fine.
 abbrev formed-at : tie.After-enum-told → tie.After-variables
-formed-at c = c .before .before .before .before .before .before .before .before .before .before
+formed-at c = known (c .before .before .before)
 
-room : (c : tie.After-enum-told) → Room (formed-at c .before .before .before .before .before .args .operator)
+room : (c : tie.After-enum-told) → Room (begun (formed-at c) .args .operator)
 room c = record { variables = search needs; befores = search needs; afters = search needs }
 
-file : (c : tie.After-enum-told) → let s = formed-at c in let a = s .before .before .before .before .before .args in
-    fileJudged (sizesLent (s .variables .given .0 .0) (a .workspace .now)) (a .operator) ≡ fine
-file c = let s = formed-at c in let a = s .before .before .before .before .before .args in let v = s .variables .given .0 .0 in
-    operator-file (sizesLent v (a .workspace .now)) (pairsLent v (s .variables .given .0 .1 .0) (a .workspace .now)) (a .operator)
-    (sym (c .before .before .judge-operator .ensures) ∙ ap judgementOf (c .enum-told .given .1))
+file : (c : tie.After-enum-told) → let k = formed-at c in let a = begun k .args in fileJudged (sizesPart (k .variables .given .0 .0) (a .workspace .now)) (a .operator) ≡ fine
+file c = let k = formed-at c in let a = begun k .args in let v = k .variables .given .0 .0 in
+    operator-file (sizesPart v (a .workspace .now)) (pairsPart v (k .variables .given .0 .1 .0) (a .workspace .now)) (a .operator)
+    (sym (judged (c .before .before)) ∙ ap judgementOf (c .enum-told .given .1))
 
-fits : (c : tie.After-enum-told) → Fits (formed-at c .before .before .before .before .before .args .operator)
+fits : (c : tie.After-enum-told) → Fits (begun (formed-at c) .args .operator)
 fits c = slices-fit (room c) (parts-listed _ _ _ (yes (formed-at c))) (file-known _ _ (file c))
 
 well-formed-requires : tie.Need-well-formed-requires
@@ -40,48 +54,14 @@ well-formed-requires c κs = search needs
 enum-known-variables : tie.Need-enum-known-variables
 enum-known-variables c = search needs
 
-add-start : tie.Need-add-start
-add-start c = omega (arith, places _ _ _ (yes (c .before)))
+sizes-requires : tie.Need-sizes-requires
+sizes-requires c κs = due-sizes (yes-due _ _ _ (yes (c .before .before .before .before .before)))
 
-add-pairs : tie.Need-add-pairs
-add-pairs c = omega (arith, places _ _ _ (yes (c .before)))
-
-add-pairs-2 : tie.Need-add-pairs-2
-add-pairs-2 c = omega (arith, places _ _ _ (yes (c .before)))
-
-sub-slots : tie.Need-sub-slots
-sub-slots c = search needs
-
-add-slots : tie.Need-add-slots
-add-slots c = omega (arith, places _ _ _ (yes (c .before)))
-
-add-slots-2 : tie.Need-add-slots-2
-add-slots-2 c = omega (arith, places _ _ _ (yes (c .before)))
-
-sub-judge-operator : tie.Need-sub-judge-operator
-sub-judge-operator c = search needs
-
-part-judge-operator-start : tie.Need-part-judge-operator-start
-part-judge-operator-start c = search needs
-
-part-judge-operator-end : tie.Need-part-judge-operator-end
-part-judge-operator-end c = omega (arith, places _ _ _ (yes (c .before .before .before .before .before)))
-
-mul-judge-operator : tie.Need-mul-judge-operator
-mul-judge-operator c = omega (arith, places _ _ _ (yes (c .before .before .before .before .before .before)))
-
-sub-judge-operator-2 : tie.Need-sub-judge-operator-2
-sub-judge-operator-2 c = search needs
-
-part-judge-operator-start-2 : tie.Need-part-judge-operator-start-2
-part-judge-operator-start-2 c = search needs
-
-part-judge-operator-end-2 : tie.Need-part-judge-operator-end-2
-part-judge-operator-end-2 c = omega (arith, places _ _ _ (yes (c .before .before .before .before .before .before)))
+pairs-requires : tie.Need-pairs-requires
+pairs-requires c κs = due-headed (yes-due _ _ _ (yes (c .before .before .before .before .before .before)))
 
 judge-operator-requires : tie.Need-judge-operator-requires
-judge-operator-requires c κs = let s = c .before .before .before .before .before .before .before .before .before .before .before .before .args in
-    parts-listed (s .workspace .now) _ _ (yes (c .before .before .before .before .before .before .before))
+judge-operator-requires c κs = rw (c .before .sizes .ensures, c .pairs .ensures) (parts-listed _ _ _ (yes (known c)))
 
 enum-told : tie.Need-enum-told
 enum-told c = search needs
@@ -107,8 +87,7 @@ slice-aggregate-add-rows-3 c = sym (length-take-le _ _ (fits (c .before .before 
 add-rows-requires : tie.Need-add-rows-requires
 add-rows-requires c κs = let t = c .before .before .before .before in
     let formed = yes (formed-at t) in
-    added-opened (formed-at t .before .before .before .before .before .args .workspace .now) _ _ formed _ _ _
-    (slices-ready (room t) (parts-listed _ _ _ formed) (file-known _ _ (file t)))
+    added-opened (begun (formed-at t) .args .workspace .now) _ _ formed _ _ _ (slices-ready (room t) (parts-listed _ _ _ formed) (file-known _ _ (file t)))
 
 enum-known-reason : tie.Need-enum-known-reason
 enum-known-reason c = search needs
@@ -127,28 +106,24 @@ same-length c = search needs
 
 returns : tie.Need-returns
 returns c = let t = c .before .before .before .before .before .before .before in
-    let s = formed-at t .before .before .before .before .before .args in
+    let a = begun (formed-at t) .args in
     let formed = yes (formed-at t) in
-    operator-done (s .workspace .now) _ _ formed (recordOf (s .operator)) _ _
-    (operator-judged _ _ _ formed (recordOf (s .operator)) _ (t .before .before .judge-operator .ensures) ∙ ap judgementOf (t .enum-told .given .1))
+    operator-done (a .workspace .now) _ _ formed (recordOf (a .operator)) _ _ (sym (judged (t .before .before)) ∙ ap judgementOf (t .enum-told .given .1))
     (slices-hold (room t) (parts-listed _ _ _ formed) (file-known _ _ (file t))) (c .before .before .add-rows .ensures)
 
 same-length-2 : tie.Need-same-length-2
 same-length-2 c = search needs
 
 returns-2 : tie.Need-returns-2
-returns-2 c = let s = c .before .before .before .before .before .before .before .before .before .before .before .before .before .before .before .before .before .args in
-    let formed = yes (c .before .before .before .before .before .before .before .before .before .before .before .before) in
-    edit-refused (s .workspace .now) _ _ formed (addOperator (recordOf (s .operator))) _ _
-    (operator-judged _ _ _ formed (recordOf (s .operator)) _ (c .before .before .before .before .judge-operator .ensures) ∙ ap judgementOf (c .before .before .reason .given .1))
-    (c .refusal .ensures)
+returns-2 c = let j = c .before .before .before .before in let k = known (j .before) in let a = begun k .args in
+    edit-refused (a .workspace .now) _ _ (yes k) (addOperator (recordOf (a .operator))) _ _ (sym (judged j) ∙ ap judgementOf (c .before .before .reason .given .1)) (c .refusal .ensures)
 
 same-length-3 : tie.Need-same-length-3
 same-length-3 c = search needs
 
 returns-3 : tie.Need-returns-3
-returns-3 c = let s = c .before .before .before .before .before .before .args in
-    edit-malformed (s .workspace .now) (addOperator (recordOf (s .operator))) _
+returns-3 c = let a = c .before .before .before .before .before .before .args in
+    edit-malformed (a .workspace .now) (addOperator (recordOf (a .operator))) _
     (subst (FormedIs _) (c .before .enum-told2 .given .1) (c .before .before .before .well-formed .ensures)) (c .refusal2 .ensures)
 
 pub add-operator-spec : {M : Type 1} → statement M
@@ -157,19 +132,8 @@ add-operator-spec =
     (tie.spec
     well-formed-requires
     enum-known-variables
-    add-start
-    add-pairs
-    add-pairs-2
-    sub-slots
-    add-slots
-    add-slots-2
-    sub-judge-operator
-    part-judge-operator-start
-    part-judge-operator-end
-    mul-judge-operator
-    sub-judge-operator-2
-    part-judge-operator-start-2
-    part-judge-operator-end-2
+    sizes-requires
+    pairs-requires
     judge-operator-requires
     enum-told
     array-share-prefix-named

@@ -1,7 +1,7 @@
 -- `editing::is_closed`: the table has room for every atom.
 use native.Mathlib.Omega.{arith}
 use borrow.Author.Needs.{needs}
-use Rattle.numbering.specs.Sizes.{atoms-limit}
+use Rattle.numbering.specs.Sizes.{atoms-most}
 use Rattle.editing.proofs.is_closed.Statement.{statement}
 use Rattle.editing.proofs.is_closed.Tie as tie
 
@@ -9,7 +9,7 @@ slice-aggregate-fill-possible : tie.Need-slice-aggregate-fill-possible
 slice-aggregate-fill-possible c = search needs
 
 fill-possible-requires : tie.Need-fill-possible-requires
-fill-possible-requires c κs = (c .before .before .before .before .before .before .pre, omega (arith, atoms-limit _ (c .before .before .before .before .before .before .pre .limits)))
+fill-possible-requires c κs = let ready = c .before .before .before .before .before .before .pre in (ready, omega (arith, atoms-most _ (ready .limits)))
 
 slice-aggregate-is-closed : tie.Need-slice-aggregate-is-closed
 slice-aggregate-is-closed c = search needs

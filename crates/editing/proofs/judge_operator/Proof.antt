@@ -12,19 +12,22 @@ use Rattle.editing.specs.Judging.{fileJudged, operator-after, file-known
 use Rattle.editing.proofs.judge_operator.Statement.{statement}
 use Rattle.editing.proofs.judge_operator.Tie as tie
 
--- Where the operator was found fine in file order.
-room : (c : tie.After-enum-told) → Room (c .before .before .before .before .before .before .before .before .args .operator)
+-- What the call began with, seen from where the operator was found fine in file order.
+abbrev begun : tie.After-enum-told → tie.Start
+begun c = c .before .before .before .before .before .before .before .before
+
+room : (c : tie.After-enum-told) → Room (begun c .args .operator)
 room c = record { variables = search needs; befores = search needs; afters = search needs }
 
-file : (c : tie.After-enum-told) → let s = c .before .before .before .before .before .before .before .before .args in fileJudged (s .sizes .now) (s .operator) ≡ fine
+file : (c : tie.After-enum-told) → let s = begun c .args in fileJudged (s .sizes .now) (s .operator) ≡ fine
 file c = sym (c .before .before .judge-operator .ensures) ∙ ap judgementOf (c .enum-told .given .1)
 
-fits : (c : tie.After-enum-told) → Fits (c .before .before .before .before .before .before .before .before .args .operator)
-fits c = slices-fit (room c) (c .before .before .before .before .before .before .before .before .pre) (file-known _ _ (file c))
+fits : (c : tie.After-enum-told) → Fits (begun c .args .operator)
+fits c = slices-fit (room c) (begun c .pre) (file-known _ _ (file c))
 
 -- Its entries are those of the slices.
-holds : (c : tie.After-enum-told) → let o = c .before .before .before .before .before .before .before .before .args .operator in operatorIn (recordOf o) ≡ sliced o
-holds c = slices-hold (room c) (c .before .before .before .before .before .before .before .before .pre) (file-known _ _ (file c))
+holds : (c : tie.After-enum-told) → let o = begun c .args .operator in operatorIn (recordOf o) ≡ sliced o
+holds c = slices-hold (room c) (begun c .pre) (file-known _ _ (file c))
 
 judge-operator-requires : tie.Need-judge-operator-requires
 judge-operator-requires c κs = search needs
@@ -51,7 +54,7 @@ slice-aggregate-is-closed-3 : tie.Need-slice-aggregate-is-closed-3
 slice-aggregate-is-closed-3 c = sym (length-take-le _ _ (fits (c .before .before .before) .afters))
 
 is-closed-requires : tie.Need-is-closed-requires
-is-closed-requires c κs = let t = c .before .before .before in slices-ready (room t) (t .before .before .before .before .before .before .before .before .pre) (file-known _ _ (file t))
+is-closed-requires c κs = let t = c .before .before .before in slices-ready (room t) (begun t .pre) (file-known _ _ (file t))
 
 returns : tie.Need-returns
 returns c = let t = c .before .before .before .before .before in

@@ -12,7 +12,7 @@ use Rattle.meaning.specs.Feature.{features}
 use Rattle.meaning.specs.Slot.{Reduced, SlotsOf, Stored}
 use Rattle.meaning.specs.Weight.{Allows}
 use Rattle.meaning.specs.Number.{Reason, Malformed, refusal}
-use Rattle.meaning.specs.Workspace.{has, wordsFor, sizesAt, startAt, goalAt, pairsAt, slotsAt, wordsDue, Content, wordsOf, Proper, WellFormed}
+use Rattle.meaning.specs.Workspace.{has, wordsFor, sizesAt, startAt, goalAt, pairsAt, slotsAt, Content, wordsOf, Proper, WellFormed}
 use Rattle.meaning.specs.Answer.{OperatorRecord, operatorIn, Edit, addOperator, Judged, fine, faulty, editJudged, Changes, EditsIn, Edits, done, refused}
 use Rattle.theory.specs.SlotsOf.{slots-of-stored}
 use Rattle.theory.specs.Rows.{rowsOf, allows-rows}

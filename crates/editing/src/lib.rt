@@ -123,21 +123,19 @@ fn replace(workspace: &mut [u64], end: End, values: &[u64]) -> Edited
         Formed::Yes {
             variables,
             features,
-        } => {
-            match judge_end(
-                end,
-                layout::sizes(workspace, variables),
-                layout::pairs(workspace, variables, features),
-                values,
-            ) {
-                Judgement::Fine => {
-                    let at = place_of(end, layout::places_for(variables, features));
-                    words::copy(&mut workspace[at..at + variables], values);
-                    Edited::Done
-                }
-                Judgement::Faulty(reason) => Edited::Refused(number::refusal(reason)),
+        } => match judge_end(
+            end,
+            layout::sizes(workspace, variables),
+            layout::pairs(workspace, variables, features),
+            values,
+        ) {
+            Judgement::Fine => {
+                let at = place_of(end, layout::places_for(variables, features));
+                words::copy(&mut workspace[at..at + variables], values);
+                Edited::Done
             }
-        }
+            Judgement::Faulty(reason) => Edited::Refused(number::refusal(reason)),
+        },
         Formed::No => Edited::Refused(number::refusal(Reason::Malformed)),
     }
 }

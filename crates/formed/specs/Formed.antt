@@ -1,9 +1,8 @@
 -- What the answer says, and what callers have from it.
-use Prim.Native.Nat.{ℕ, _≤_}
+use Prim.Native.Nat.{ℕ}
 use mathlib.Core.Path.{_≡_, refl, sym, ap₂, _∙_}
 use mathlib.Core.List.{List}
-use lib.ListN.{length}
-use Rattle.meaning.specs.Workspace.{wordsDue, Proper, WellFormed}
+use Rattle.meaning.specs.Workspace.{Proper, WellFormed}
 use Rattle.theory.specs.Determined.{AtMostOne}
 use Rattle.theory.specs.Contents.{contentIn, variablesIn, featuresIn, formed-proper}
 use Rattle.layout.specs.Parts.{sizesPart, startPart, goalPart, pairsPart, slotsPart, Due}

@@ -1,5 +1,4 @@
 -- `finding::find_in`: the parts as they are lent make the content.
-use Prim.Native.Nat.{_≤_}
 use mathlib.Core.Path.{subst}
 use native.Mathlib.Omega.{arith}
 use lib.ListN.{length-take}

@@ -40,11 +40,11 @@ module _ (v n : ℕ) (c : Content) (further ws : List ℕ) (h : Holds v n c furt
 
   -- All words that are due are there.
   pub held-due : Due v n ws
-  held-due = (
-    omega (arith, h .variables, h .proper .limits .variables),
-    omega (arith, h .total, h .proper .limits .total),
-    rw (h .variables, h .total, h .words) (omega (arith, length-append (wordsOf c) further, length-words c (h .proper .start .full) (h .proper .goal .full))),
-  )
+  held-due = record {
+    variables = omega (arith, h .variables, h .proper .limits .variables);
+    features = omega (arith, h .total, h .proper .limits .total);
+    words = rw (h .variables, h .total, h .words) (omega (arith, length-append (wordsOf c) further, length-words c (h .proper .start .full) (h .proper .goal .full)));
+  }
 
   -- Other slots in their place are those of the content.
   held-slotted : (slots : Slots) → slotted v n ws slots ≡ wordsOf (withSlots c slots) ++ further
@@ -57,15 +57,15 @@ module _ (v n : ℕ) (c : Content) (further ws : List ℕ) (h : Holds v n c furt
   own = held-slotted (c .slots) ∙ sym (h .words)
 
   held-slots : heldSlots v n ws ≡ c .slots
-  held-slots = ap (heldSlots v n) (sym own) ∙ slots-back v n ws (held-due .2) (c .slots) held-reduced
+  held-slots = ap (heldSlots v n) (sym own) ∙ slots-back v n ws (held-due .words) (c .slots) held-reduced
 
   -- It is ready for the rows of an operator in three slices.
   pub held-opened : (vs xs ys : List ℕ) → Ready (sizesPart v ws) (pairsPart v n ws) vs xs ys → Opened v n ws vs xs ys
   held-opened vs xs ys r = record {
     counted = h .total ∙ ap features (sym held-sizes);
-    due = held-due .2;
+    due = held-due .words;
     ready = r;
-    filled = ap (slotsPart v n) (sym own) ∙ area-slotted v n ws (held-due .2) (c .slots) ∙ ap (slotWords n) (sym held-slots);
+    filled = ap (slotsPart v n) (sym own) ∙ area-slotted v n ws (held-due .words) (c .slots) ∙ ap (slotWords n) (sym held-slots);
     reduced = rw held-slots held-reduced;
   }
 

@@ -30,10 +30,10 @@ abbrev went : tie.After-add-rows-arg → tie.After-step
 went c = c .before .before .before .before .before
 
 sizes-requires : tie.Need-sizes-requires
-sizes-requires c κs = let due = work-due _ _ _ (c .before .before .before .pre) in (due .0, omega (arith, due .2))
+sizes-requires c κs = let due = work-due _ _ _ (c .before .before .before .pre) in (due .variables, omega (arith, due .words))
 
 read-operator-requires : tie.Need-read-operator-requires
-read-operator-requires c κs = simp (c .sizes .ensures, length-take) (omega (arith, work-due _ _ _ (c .before .before .before .before .pre) .0))
+read-operator-requires c κs = simp (c .sizes .ensures, length-take) (omega (arith, work-due _ _ _ (c .before .before .before .before .pre) .variables))
 
 enum-known-step : tie.Need-enum-known-step
 enum-known-step c = search needs

@@ -43,7 +43,7 @@ enum-known-variables : tie.Need-enum-known-variables
 enum-known-variables c = search needs
 
 places-for-requires : tie.Need-places-for-requires
-places-for-requires c κs = let room = known-room (known (c .before)) in (room .0, room .1)
+places-for-requires c κs = let room = known-room (known (c .before)) in (room .variables, room .features)
 
 refusal-requires : tie.Need-refusal-requires
 refusal-requires c κs = search needs
@@ -52,10 +52,10 @@ returns : tie.Need-returns
 returns c = let p = c .before .before .before in opens-small _ _ _ (lent p) _ _ _ _ (known (task p)) _ _ (due p) (c .before .if1 .taken) (c .refusal .ensures)
 
 array-share-prefix-header : tie.Need-array-share-prefix-header
-array-share-prefix-header c = let p = c .before .before .before in let room = known-room (known (task p)) in omega (arith, slots p, room .0, room .1)
+array-share-prefix-header c = let p = c .before .before .before in let room = known-room (known (task p)) in omega (arith, slots p, room .variables, room .features)
 
 slice-aggregate-begin : tie.Need-slice-aggregate-begin
-slice-aggregate-begin c = let p = c .before .before .before .before in let room = known-room (known (task p)) in sym (length-take-le _ _ (omega (arith, slots p, room .0, room .1)))
+slice-aggregate-begin c = let p = c .before .before .before .before in let room = known-room (known (task p)) in sym (length-take-le _ _ (omega (arith, slots p, room .variables, room .features)))
 
 begin-requires : tie.Need-begin-requires
 begin-requires c κs = let p = c .before .before .before .before in (simp length-take (omega (arith, due p, slots p)), c .before .before .if1 .left)

@@ -44,14 +44,14 @@ within-past words low n r q h l k = tells-map to from (tells-eq q (length words 
     above : (f : ℕ) → has words f ≡ true → low ≤ f
     above f e = elim (test (ltb f low)) [ on t ↦ absurd (clash e (h .clear f (omega arith) (omega (arith, ltb-true f low t)))) | off t ↦ ltb-false f low t ]
 
-    none : q ≡ length words * 64 → (f : ℕ) → n ≤ f → has words f ≡ false
+    none : q ≡ length words * wordBits → (f : ℕ) → n ≤ f → has words f ≡ false
     none z f j = elim (test (ltb f q)) [ on t ↦ k .clear f j (ltb-true f q t) | off t ↦ has-past words f (omega (arith, ltb-false f q t)) ]
 
-    to : q ≡ length words * 64 → Within (has words) low n
+    to : q ≡ length words * wordBits → Within (has words) low n
     to z f e = (above f e, elim (test (ltb f n)) [ on t ↦ ltb-true f n t | off t ↦ absurd (clash e (none z f (ltb-false f n t))) ])
 
-    from : Within (has words) low n → q ≡ length words * 64
-    from w = elim (test (ltb q (64 * length words))) [
-      | on t ↦ absurd (omega (arith, w q (k .member (ltb-true q (64 * length words) t)), k .above))
-      | off t ↦ omega (arith, ltb-false q (64 * length words) t, k .within)
+    from : Within (has words) low n → q ≡ length words * wordBits
+    from w = elim (test (ltb q (wordBits * length words))) [
+      | on t ↦ absurd (omega (arith, w q (k .member (ltb-true q (wordBits * length words) t)), k .above))
+      | off t ↦ omega (arith, ltb-false q (wordBits * length words) t, k .within)
     ]

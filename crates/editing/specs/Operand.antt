@@ -28,19 +28,20 @@ abbrev pub heldJudged : End → List ℕ → Set → List ℕ → Judged
 heldJudged Start sizes pairs values = need (not (holds sizes pairs values)) Held fine
 heldJudged Goal sizes pairs values = fine
 
-pub start-held : (end : End) (sizes : List ℕ) (pairs : Set) (values : List ℕ) (held : Bool) → end ≡ Start → holds sizes pairs values ≡ held
-    → heldJudged end sizes pairs values ≡ need (not held) Held fine
-start-held end sizes pairs values held e h = rw (e, h)
-
-pub goal-free : (end : End) (sizes : List ℕ) (pairs : Set) (values : List ℕ) → end ≡ Goal → heldJudged end sizes pairs values ≡ fine
-goal-free end sizes pairs values e = rw e
-
 abbrev pub endJudged : End → List ℕ → Set → List ℕ → Judged
 endJudged end sizes pairs values = valuesAnd (heldJudged end sizes pairs values) sizes values
 
 abbrev pub operatorJudged : List ℕ → Set → OperatorRecord → Judged
 operatorJudged sizes pairs r =
     need (inside 1 (suc (length sizes)) (r .count)) Range (entriesJudged sizes 0 (operatorIn r) (need (closed sizes pairs (operatorIn r)) Unclosed fine))
+
+-- What is judged of a start is whether it holds a listed pair; of a goal, nothing.
+pub start-held : (end : End) (sizes : List ℕ) (pairs : Set) (values : List ℕ) (held : Bool) → end ≡ Start → holds sizes pairs values ≡ held
+    → heldJudged end sizes pairs values ≡ need (not held) Held fine
+start-held end sizes pairs values held e h = rw (e, h)
+
+pub goal-free : (end : End) (sizes : List ℕ) (pairs : Set) (values : List ℕ) → end ≡ Goal → heldJudged end sizes pairs values ≡ fine
+goal-free end sizes pairs values e = rw e
 
 -- ---- values one at a time
 

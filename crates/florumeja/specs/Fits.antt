@@ -1,12 +1,12 @@
 -- Every value that a call can answer fits: it is below 2^32.
-use Prim.Native.Nat.{ℕ, _<_, _≤_}
+use Prim.Native.Nat.{ℕ, _*_, _<_, _≤_}
 use mathlib.Core.Path.{_≡_, refl}
 use mathlib.Core.Logic.{_⊎_, inl, inr}
 use mathlib.Core.List.{List, []}
 use native.Mathlib.Omega.{arith}
 use native.Mathlib.Nat.{mul-le-mul}
 use lib.Dec.{ltb}
-use lib.ListN.{length}
+use lib.ListN.{length, replicate, length-replicate}
 use Rattle.meaning.specs.Limits.{mostFeatures}
 use Rattle.meaning.specs.Feature.{features}
 use Rattle.meaning.specs.Number.{Reason, Small, Malformed, refusal}
@@ -14,19 +14,21 @@ use Rattle.meaning.specs.File.{judgedTask, taskBytes, weightBytes, InLimits}
 use Rattle.meaning.specs.Workspace.{packed, wordsFor, wordsDue, Content, wordsOf, WellFormed}
 use Rattle.meaning.specs.Answer.{Answer, done, refused, Outcome, refuses, writes, delivered, Verdict, accepted, endsAlike, breaks, Checks, Opens}
 use Rattle.meaning.specs.Answer.{Finding, none, separated, FindsIn, FindsBy, Finds, Edit, Judged, fine, faulty, editJudged, EditsIn, Edits}
-use Rattle.meaning.specs.Bay.{Bay, judgedBay, bayTask, Builds}
+use Rattle.meaning.specs.Bay.{Bay, baySizes, bayPairs, judgedBay, bayTask, Builds}
 use Rattle.meaning.specs.Line.{line, verdictLine}
 use Rattle.theory.specs.Accepted.{accepted as task-accepted}
 use Rattle.theory.specs.BayTask.{ReadableBay, accepted-bay}
 use Rattle.theory.specs.Truth.{on, off, test}
 use Rattle.building.specs.Answers.{Sides}
-use Rattle.building.specs.Files.{task-few}
+use Rattle.building.specs.Parts.{TaskParts}
+use Rattle.building.specs.Files.{pairs-held, task-few}
 use Rattle.line.specs.Answer.{Lines}
 use Rattle.line.specs.Fits.{line-short}
 use Rattle.text.specs.Allowed.{is-good, if-good, read-good}
 use Rattle.text.specs.Parts.{refusal-short}
 use Rattle.verdicts.specs.Answer.{VerdictLines}
 use Rattle.verdicts.specs.Fits.{Short, checks-short, verdict-few}
+use Rattle.words.specs.Toggled.{toggledAll, length-all}
 use Rattle.writer.specs.Weights.{weightsJudged, weightsWritten, Writes}
 use Rattle.writer.specs.Judging.{fine-few, weights-refused, weights-delivered}
 use Rattle.codes.specs.Code.{valueEnd, verdictCode, lengthCode, findingCode, editCode, Fits, FitsIn}
@@ -107,7 +109,18 @@ builds-fit bay room =
         let columns = bay .columns-limit in
         let slots = bay .slots-limit in
         let sides : Sides (b .rows) (b .columns) = (rows .0, rows .1, columns .0, columns .1, slots .0, slots .1) in
-        omega (arith, task-few (b .rows) (b .columns) sides _ (b .start) (b .goal) _ refl (bay .start-state) (bay .goal-state) refl)
+        let n = b .rows * b .columns in
+        let none = replicate {A = ℕ} (wordsFor mostFeatures) 0 in
+        let pairs = bayPairs (length (baySizes n)) in
+        let parts : TaskParts (b .rows) (b .columns) (baySizes n) (b .start) (b .goal) (toggledAll none pairs) = record {
+          sides = sides;
+          all-sizes = refl;
+          is-start = bay .start-state;
+          is-goal = bay .goal-state;
+          few-words = omega (arith, length-all none pairs, length-replicate {A = ℕ} (wordsFor mostFeatures) 0);
+          all-pairs = pairs-held n (baySizes n) (toggledAll none pairs) (slots .0) (slots .1) refl refl;
+        } in
+        omega (arith, task-few parts)
 
 -- ---- the lines: they are short
 

@@ -4,28 +4,14 @@ ghost use lib.ListN.{getD};
 ghost use Rattle.meaning.specs.Limits.{mostVariables};
 ghost use Rattle.meaning.specs.Answer.{Checks, Opens, Finds, Edits, addOperator, replaceStart, replaceGoal};
 ghost use Rattle.meaning.specs.Bay.{Builds};
-ghost use Rattle.building.specs.Answers.{builtOf};
 ghost use Rattle.line.specs.Answer.{Lines};
 ghost use Rattle.verdicts.specs.Answer.{VerdictLines};
 ghost use Rattle.words.specs.Members.{membersIn};
 ghost use Rattle.writer.specs.Weights.{Writes};
-ghost use Rattle.codes.specs.Code.{numberOf, answerCode, verdictCode, lengthCode, findingCode, editCode, Coded, Leaves, Fits};
+ghost use Rattle.codes.specs.Code.{verdictCode, lengthCode, findingCode, editCode, Coded, Leaves};
 ghost use Rattle.florumeja.specs.Places.{handed, SamePlaces};
-use building::Built;
 use limits::MOST_ENTRIES;
 use operator::Operator;
-use writer::Written;
-
-// A bay's task file is numbered as every other file.
-fn built_number(built: Built) -> u64
-    requires { ⌜ Fits lengthCode (builtOf built) ⌝ }
-    ensures { λ r. ⌜ r ≡ numberOf (answerCode lengthCode (builtOf built)) ⌝ }
-{
-    match built {
-        Built::Built(k) => codes::written_number(Written::Done(k)),
-        Built::Refused(n) => codes::written_number(Written::Refused(n)),
-    }
-}
 
 // The word at a place; 0 past the end.
 fn place(words: &[u64], i: usize) -> usize
@@ -117,7 +103,7 @@ pub extern "C" fn florumeja_replace_goal(workspace: &mut [u64], values: &[u64]) 
 pub extern "C" fn florumeja_build(bay: &[u8], room: &mut [u8]) -> u64
     ensures { λ r. ⌜ Leaves lengthCode (Builds (now (bay .entry)) (now (room .entry))) (record { number = r; lent = now (room .exit) }) ⌝ }
 {
-    built_number(building::build(bay, room))
+    codes::written_number(building::build(bay, room))
 }
 
 // The line that the finder's program prints for an input.

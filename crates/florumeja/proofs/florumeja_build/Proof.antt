@@ -1,5 +1,5 @@
 -- `florumeja_build`: the value fits, so that the number says the answer.
-use Rattle.building.specs.Answers.{builtOf}
+use Rattle.writer.specs.Answer.{outcomeOf}
 use Rattle.florumeja.specs.Fits.{builds-fit}
 use borrow.Author.Needs.{needs}
 use Rattle.florumeja.proofs.florumeja_build.Statement.{statement}
@@ -8,9 +8,9 @@ use Rattle.florumeja.proofs.florumeja_build.Tie as tie
 build-requires : tie.Need-build-requires
 build-requires c κs = search needs
 
-built-number-requires : tie.Need-built-number-requires
-built-number-requires c κs = let start = c .before .before .before .before .before .before .args in
-    builds-fit (start .bay .now) (start .room .now) (record { answer = builtOf (c .before .before .build .result); lent = _ }) (c .before .before .build .ensures)
+written-number-requires : tie.Need-written-number-requires
+written-number-requires c κs = let start = c .before .before .before .before .before .before .args in
+    builds-fit (start .bay .now) (start .room .now) (outcomeOf (c .before .before .build .result) _) (c .before .before .build .ensures)
 
 same-length : tie.Need-same-length
 same-length c = search needs
@@ -20,4 +20,4 @@ returns c = search needs
 
 pub florumeja-build-spec : {M : Type 1} → statement M
 florumeja-build-spec =
-    tie.close (tie.spec build-requires built-number-requires same-length returns)
+    tie.close (tie.spec build-requires written-number-requires same-length returns)

@@ -29,7 +29,7 @@ enum-told : tie.Need-enum-told
 enum-told c = search needs
 
 sizes-requires : tie.Need-sizes-requires
-sizes-requires c κs = let room = known-room (start c .pre .0 .1) in (room .variables, omega (arith, room .words))
+sizes-requires c κs = headed-sizes (known-room (start c .pre .0 .1))
 
 start-requires : tie.Need-start-requires
 start-requires c κs = known-room (start (c .before) .pre .0 .1)

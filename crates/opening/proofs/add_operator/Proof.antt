@@ -30,7 +30,7 @@ abbrev went : tie.After-add-rows-arg → tie.After-step
 went c = c .before .before .before .before .before
 
 sizes-requires : tie.Need-sizes-requires
-sizes-requires c κs = let due = work-due _ _ _ (c .before .before .before .pre) in (due .variables, omega (arith, due .words))
+sizes-requires c κs = due-sizes (work-due _ _ _ (c .before .before .before .pre))
 
 read-operator-requires : tie.Need-read-operator-requires
 read-operator-requires c κs = simp (c .sizes .ensures, length-take) (omega (arith, work-due _ _ _ (c .before .before .before .before .pre) .variables))

@@ -1,5 +1,6 @@
 -- `all_even`: whether all rows are met evenly is whether those that the walk has left are.
 use mathlib.Core.Path.{_≡_, refl, sym, ap, _∙_}
+use mathlib.Core.Bool.{true}
 use mathlib.Core.List.{List}
 use native.Mathlib.Omega.{arith}
 use lib.ListN.{length}
@@ -26,6 +27,10 @@ start c = c .before .before .before .before .before .before .before .before .bef
 abbrev turn : tie.After-next-row Inv-loop μ-loop → tie.At-loop Inv-loop μ-loop
 turn c = c .before .before .before .before .before .before
 
+-- In it a row is at hand.
+more : (c : tie.After-next-row Inv-loop μ-loop) → turn c .loop .walk .more ≡ true
+more c = c .before .before .before .before .before .loop-test .taken
+
 first-row-requires : tie.Need-first-row-requires Inv-loop μ-loop
 first-row-requires c κs = let p = c .before .before .before .before .before .before .before .before .before .pre in let h = p .0 .1 in (h .given, base-state h, base-applies h, p .3)
 
@@ -46,11 +51,11 @@ next-row-requires : tie.Need-next-row-requires Inv-loop μ-loop
 next-row-requires c κs = let walked = c .before .before .before .before .before .loop .inv .1 in (start (c .before .before .before .before .before) .pre .0, walked .inside, walked .long)
 
 loop-less : tie.Need-loop-less Inv-loop μ-loop
-loop-less c = walked-less _ _ _ _ _ _ _ _ (c .before .before .next-row .ensures) (c .before .before .before .before .before .before .before .loop-test .taken)
+loop-less c = walked-less _ _ _ _ _ _ _ _ (c .before .before .next-row .ensures) (more (c .before .before))
 
 loop-again : tie.Need-loop-again Inv-loop μ-loop
 loop-again c = let t = turn (c .before .before) in let (left, walked, e) = t .loop .inv in let p = start t .pre in
-    (_, c .before .before .next-row .ensures, e ∙ even-next _ _ _ _ _ (p .1) (p .2) (walked-row _ _ _ _ _ _ _ walked (c .before .before .before .before .before .before .before .loop-test .taken)) (sym (c .before .before .before .before .before .odd-shared .ensures) ∙ c .before .before .before .before .if1 .left))
+    (_, c .before .before .next-row .ensures, e ∙ even-next _ _ _ _ _ (p .1) (p .2) (walked-row _ _ _ _ _ _ _ walked (more (c .before .before))) (sym (c .before .before .before .before .before .odd-shared .ensures) ∙ c .before .before .before .before .if1 .left))
 
 same-length-2 : tie.Need-same-length-2 Inv-loop μ-loop
 same-length-2 c = omega (arith, c .before .loop .inv .1 .long, start (c .before) .pre .3)

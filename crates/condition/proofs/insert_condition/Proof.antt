@@ -30,6 +30,9 @@ placed c = c .before .before .before .before
 abbrev copied : tie.After-prepare → tie.After-copy
 copied c = c .before .before .before .before .before .before .before .before
 
+abbrev lending : tie.After-insert-rows-arg3 → tie.After-places-for
+lending c = placed (copied (c .before .before .before .before .before .before .before .before))
+
 -- The places rise, and end within the workspace.
 rise : (c : tie.After-places-for) → let at = c .places-for .result in
     (sizesAt ≤ at .start) × (at .start ≤ at .pairs) × (at .pairs ≤ at .slots) × (at .slots ≤ at .end) × (at .end ≤ length (start c .args .workspace .now))
@@ -101,16 +104,16 @@ returns c = let k = copied (c .before .before .before .before .before) in let s 
     (ap₂ (λ sizes pairs. idle sizes (has pairs) (entriesIn (a .variables .now) (a .befores .now) (a .afters .now))) (sym (held k)) (sym (listed k)) ∙ sym (c .before .before .before .before .before .prepare .ensures .0) ∙ c .if1 .taken))
 
 mul-insert-rows : tie.Need-mul-insert-rows
-mul-insert-rows c = let f = placed (copied (c .before .before .before .before .before .before .before .before)) in omega (arith, rise f, start f .good)
+mul-insert-rows c = let f = lending c in omega (arith, rise f, start f .good)
 
 sub-insert-rows : tie.Need-sub-insert-rows
-sub-insert-rows c = rise (placed (copied (c .before .before .before .before .before .before .before .before))) .3
+sub-insert-rows c = rise (lending c) .3
 
 part-insert-rows-start : tie.Need-part-insert-rows-start
-part-insert-rows-start c = omega (arith, rise (placed (copied (c .before .before .before .before .before .before .before .before))))
+part-insert-rows-start c = omega (arith, rise (lending c))
 
 part-insert-rows-end : tie.Need-part-insert-rows-end
-part-insert-rows-end c = rise (placed (copied (c .before .before .before .before .before .before .before .before))) .4
+part-insert-rows-end c = rise (lending c) .4
 
 insert-rows-requires : tie.Need-insert-rows-requires
 insert-rows-requires c κs = let p = c .before .before .before .before .before .before .before .before .before .before in let k = copied p in let f = placed k in let s = start f in let o = s .pre .0 in let n = s .args .n in (

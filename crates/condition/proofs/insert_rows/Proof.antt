@@ -1,5 +1,6 @@
 -- `insert_rows`: inserting all rows into the first slots is inserting those that the walk has left into the present ones (`Inserting`).
-use mathlib.Core.Path.{refl, sym, ap, _∙_}
+use mathlib.Core.Path.{_≡_, refl, sym, ap, _∙_}
+use mathlib.Core.Bool.{true}
 use mathlib.Core.List.{List}
 use native.Mathlib.Omega.{arith}
 use lib.ListN.{length}
@@ -27,6 +28,10 @@ start c = c .before .before .before .before .before .before .before .before .bef
 abbrev turn : tie.After-next-row Inv-loop μ-loop → tie.At-loop Inv-loop μ-loop
 turn c = c .before .before .before .before .before .before .before .before .before .before
 
+-- In it a row is at hand.
+more : (c : tie.After-next-row Inv-loop μ-loop) → turn c .loop .walk .more ≡ true
+more c = c .before .before .before .before .before .before .before .before .before .loop-test .taken
+
 first-row-requires : tie.Need-first-row-requires Inv-loop μ-loop
 first-row-requires c κs = let p = c .before .before .before .before .before .before .before .before .before .pre in let h = p .0 .1 in (h .given, base-state h, base-applies h, p .3)
 
@@ -46,11 +51,11 @@ next-row-requires : tie.Need-next-row-requires Inv-loop μ-loop
 next-row-requires c κs = let walked = c .before .before .before .before .before .before .before .before .before .loop .inv .1 in (start (c .before .before .before .before .before .before .before .before .before) .pre .0, walked .inside, omega (arith, c .before .before .before .before .before .insert, walked .long))
 
 loop-less : tie.Need-loop-less Inv-loop μ-loop
-loop-less c = walked-less _ _ _ _ _ _ _ _ (c .before .before .next-row .ensures) (c .before .before .before .before .before .before .before .before .before .before .before .loop-test .taken)
+loop-less c = walked-less _ _ _ _ _ _ _ _ (c .before .before .next-row .ensures) (more (c .before .before))
 
 loop-again : tie.Need-loop-again Inv-loop μ-loop
 loop-again c = let (left, walked, inserting) = turn (c .before .before) .loop .inv in
-    (_, c .before .before .next-row .ensures, inserting-turn _ _ _ _ _ inserting _ _ _ (walked-row _ _ _ _ _ _ _ walked (c .before .before .before .before .before .before .before .before .before .before .before .loop-test .taken)) (c .before .before .before .before .before .before .before .before .insert .ensures))
+    (_, c .before .before .next-row .ensures, inserting-turn _ _ _ _ _ inserting _ _ _ (walked-row _ _ _ _ _ _ _ walked (more (c .before .before))) (c .before .before .before .before .before .before .before .before .insert .ensures))
 
 same-length : tie.Need-same-length Inv-loop μ-loop
 same-length c = omega (arith, filled-long _ _ (c .before .loop .inv .2 .filled), filled-long _ _ (start (c .before) .pre .2))

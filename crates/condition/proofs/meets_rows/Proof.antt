@@ -18,8 +18,7 @@ returns : tie.Need-returns
 returns c = sym (allowed-even _ _ _ _ ∙ ap (allEven _ _) (idle-rows _ _ _ (sym (c .before .before .before .before .before .prepare .ensures .0) ∙ c .if1 .taken)) ∙ even-none _ _)
 
 all-even-requires : tie.Need-all-even-requires
-all-even-requires c κs = let (r, e, past, a, l, k) = c .before .before .before .before .before .before .before .before .before .before .before .before .before .before
-    .before .before .before .before .before .before .pre in
+all-even-requires c κs = let (r, e, past, a, l, k) = c .before .before .before .before .before .before .before .before .before .before .before .before .before .before .before .before .before .before .before .before .pre in
     ((_, prepared _ _ _ _ _ _ _ _ r (c .before .before .before .before .before .before .before .before .prepare .ensures) (c .before .before .before .if1 .left)), e, past, k)
 
 same-length-3 : tie.Need-same-length-3
@@ -33,8 +32,7 @@ same-length-5 c = search needs
 
 returns-2 : tie.Need-returns-2
 returns-2 c = c .before .before .all-even .ensures ∙ sym (allowed-even _ _ _ _ ∙ ap (allEven _ _) (rows-by (prepared _ _ _ _ _ _ _ _
-    (c .before .before .before .before .before .before .before .before .before .before .before .before .before .before .before .before .before .before .before .before
-    .before .before .before .pre .0) (c .before .before .before .before .before .before .before .before .before .before .before .prepare .ensures)
+    (c .before .before .before .before .before .before .before .before .before .before .before .before .before .before .before .before .before .before .before .before .before .before .before .pre .0) (c .before .before .before .before .before .before .before .before .before .before .before .prepare .ensures)
     (c .before .before .before .before .before .before .if1 .left))))
 
 pub meets-rows-spec : {M : Type 1} → statement M

@@ -21,12 +21,7 @@ same-length-2 : tie.Need-same-length-2
 same-length-2 c = search needs
 
 returns : tie.Need-returns
-returns c = (
-  c .is-idle .ensures,
-  c .before .before .before .before .before .before .before .before .before .fill-possible .ensures .1,
-  c .before .before .before .before .fill-base .ensures ∙ base-by _ _ _ _
-      (λ f l. c .before .before .before .before .before .before .before .before .before .fill-possible .ensures .1 .each f),
-)
+returns c = let table = c .before .before .before .before .before .before .before .before .before .fill-possible .ensures .1 in (c .is-idle .ensures, table, c .before .before .before .before .fill-base .ensures ∙ base-by _ _ _ _ (λ f l. table .each f))
 
 pub prepare-spec : {M : Type 1} → statement M
 prepare-spec =

@@ -1,10 +1,10 @@
 -- `weigh`: the parts of the header, the weights that were read, and the verdict on them.
 use mathlib.Core.Path.{_≡_}
 use mathlib.Core.List.{List}
-use native.Mathlib.Omega.{arith}
 use borrow.Author.Needs.{needs}
 use Rattle.meaning.specs.Number.{got}
 use Rattle.meaning.specs.File.{judgedWeights}
+use Rattle.layout.specs.Parts.{headed-sizes}
 use Rattle.task.specs.Answer.{known-room}
 use Rattle.reader.specs.Answer.{featureWords, reads-next, reads-fault}
 use Rattle.checking.specs.Weigh.{weights-refused, lent-ready, lent-checks}

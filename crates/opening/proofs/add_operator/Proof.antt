@@ -6,6 +6,7 @@ use lib.ListN.{length-take}
 use lib.Seq.{length-take-le}
 use borrow.Author.Needs.{needs}
 use Rattle.meaning.specs.Limits.{mostVariables}
+use Rattle.layout.specs.Parts.{due-sizes}
 use Rattle.operator.specs.Known.{Room}
 use Rattle.opening.specs.Step.{work-due, step-few, step-opened, step-place, step-rows, fault-place, fault-rows}
 use Rattle.opening.proofs.add_operator.Statement.{statement}

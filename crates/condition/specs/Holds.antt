@@ -81,6 +81,7 @@ module _ (v n : ℕ) (c : Content) (further ws : List ℕ) (h : Holds v n c furt
     words = held-slotted slots;
     proper = record {
       limits = h .proper .limits;
+      taken = h .proper .taken;
       start = h .proper .start;
       goal = h .proper .goal;
       pairs = h .proper .pairs;

@@ -26,4 +26,4 @@ pub const MOST_ENTRIES: usize = 64;
 pub const SIZES_AT: usize = 1;
 
 // Room for the largest of these headers.
-pub const HEADER_WORDS: usize = 257;
+pub const HEADER_WORDS: usize = SIZES_AT + 3 * MOST_VARIABLES + MOST_WORDS;

@@ -15,7 +15,7 @@ use Rattle.theory.specs.InsertAll.{insertAll, insertAll-reduced}
 use Rattle.theory.specs.Rows.{rowsOf}
 use Rattle.layout.specs.Parts.{sizesPart, pairsPart, slotsPart, Due}
 use Rattle.pairs.specs.Ready.{Listed, Ready}
-use Rattle.condition.specs.Slotted.{heldSlots, slotted, area-slotted, held-slotted as slots-back, Opened}
+use Rattle.condition.specs.Slotted.{heldSlots, slotted, area-slotted, held-slotted as slots-back, Opened, withRows}
 
 -- The words of a proper content for v variables and n features, with further words behind them.
 pub record Holds (v n : ℕ) (c : Content) (further ws : List ℕ) : Type 0 where
@@ -23,10 +23,6 @@ pub record Holds (v n : ℕ) (c : Content) (further ws : List ℕ) : Type 0 wher
   pub proper : Proper c
   pub variables : v ≡ length (c .sizes)
   pub total : n ≡ features (c .sizes)
-
--- A workspace with the rows of an operator inserted.
-unfoldable pub withRows : ℕ → ℕ → List ℕ → Operator → List ℕ
-withRows v n ws o = slotted v n ws (insertAll n (heldSlots v n ws) (rowsOf (sizesPart v ws) (has (pairsPart v n ws)) o))
 
 module _ (v n : ℕ) (c : Content) (further ws : List ℕ) (h : Holds v n c further ws) where
   pub held-sizes : sizesPart v ws ≡ c .sizes

@@ -6,17 +6,19 @@ use native.Mathlib.Omega.{arith}
 use lib.ListN.{length, take, drop, take-append-drop}
 use lib.Seq.{length-take-le, take-at, drop-at, drop-drop}
 use Rattle.meaning.specs.Sets.{Set, Slots}
+use Rattle.meaning.specs.Task.{Operator}
 use Rattle.meaning.specs.Feature.{features}
 use Rattle.meaning.specs.Slot.{Reduced}
-use Rattle.meaning.specs.Workspace.{wordsFor, sizesAt, slotsAt, wordsDue}
+use Rattle.meaning.specs.Workspace.{has, wordsFor, sizesAt, slotsAt, wordsDue}
 use Rattle.theory.specs.Contents.{slotWords, length-slots}
 use Rattle.theory.specs.Insert.{insert, insert-reduced}
 use Rattle.theory.specs.InsertAll.{insertAll}
+use Rattle.theory.specs.Rows.{rowsOf}
 use Rattle.pairs.specs.Ready.{Ready}
 use Rattle.slots.specs.Area.{slotsIn, area-back}
 use Rattle.layout.specs.declared.Places.{Places}
 use Rattle.layout.specs.Places.{placesOf}
-use Rattle.layout.specs.Parts.{sizesPart, pairsPart, slotsPart, lent, length-part}
+use Rattle.layout.specs.Parts.{sizesPart, pairsPart, slotsPart, Due, length-part}
 
 abbrev pub heldSlots : ℕ → ℕ → List ℕ → Slots
 heldSlots v n ws = slotsIn n (slotsPart v n ws)
@@ -24,6 +26,10 @@ heldSlots v n ws = slotsIn n (slotsPart v n ws)
 -- The workspace with other slots in their place.
 abbrev pub slotted : ℕ → ℕ → List ℕ → Slots → List ℕ
 slotted v n ws slots = take (slotsAt v n) ws ++ (slotWords n slots ++ drop (wordsDue v n) ws)
+
+-- The workspace with the rows of an operator inserted.
+unfoldable pub withRows : ℕ → ℕ → List ℕ → Operator → List ℕ
+withRows v n ws o = slotted v n ws (insertAll n (heldSlots v n ws) (rowsOf (sizesPart v ws) (has (pairsPart v n ws)) o))
 
 -- An area of the words of n slots in reduced shape.
 pub record Filled (n : ℕ) (area : List ℕ) : Type 0 where
@@ -37,6 +43,14 @@ pub record Opened (v n : ℕ) (ws variables befores afters : List ℕ) : Type 0 
   pub ready : Ready (sizesPart v ws) (pairsPart v n ws) variables befores afters
   pub filled : slotsPart v n ws ≡ slotWords n (heldSlots v n ws)
   pub reduced : Reduced n (heldSlots v n ws)
+
+-- Its words are all there, and few enough to count.
+pub opened-due : {v n : ℕ} {ws variables befores afters : List ℕ} → Opened v n ws variables befores afters → Due v n ws
+opened-due {v = v} {ws = ws} opened = record {
+  variables = omega (arith, length-part sizesAt v ws (omega (arith, opened .due)), opened .ready .limits .variables);
+  features = omega (arith, opened .counted, opened .ready .limits .total);
+  words = opened .due;
+}
 
 pub filled-long : (n : ℕ) (area : List ℕ) → Filled n area → length area ≡ n * wordsFor n
 filled-long n area h = ap length (h .words) ∙ length-slots n (slotsIn n area)
@@ -56,17 +70,19 @@ module _ (v n : ℕ) (ws : List ℕ) (due : wordsDue v n ≤ length ws) where
   pub held-slotted : (slots : Slots) → Reduced n slots → heldSlots v n (slotted v n ws slots) ≡ slots
   held-slotted slots R = ap (slotsIn n) (area-slotted slots) ∙ area-back R
 
-  -- No rows leave a workspace whose area holds the words of its slots as it is.
-  pub slotted-none : (rows : List Set) → slotsPart v n ws ≡ slotWords n (heldSlots v n ws) → rows ≡ [] → ws ≡ slotted v n ws (insertAll n (heldSlots v n ws) rows)
-  unfolding insertAll
-  slotted-none rows e q = rw q (sym (ap (λ l. take (slotsAt v n) ws ++ (l ++ drop (wordsDue v n) ws)) (sym e)
+  -- An operator without rows leaves a workspace whose area holds the words of its slots as it is.
+  pub rows-none : (o : Operator) → slotsPart v n ws ≡ slotWords n (heldSlots v n ws) → rowsOf (sizesPart v ws) (has (pairsPart v n ws)) o ≡ [] → ws ≡ withRows v n ws o
+  unfolding withRows insertAll
+  rows-none o e q = rw q (sym (ap (λ l. take (slotsAt v n) ws ++ (l ++ drop (wordsDue v n) ws)) (sym e)
       ∙ ap (λ l. take (slotsAt v n) ws ++ l) (ap (λ l. slotsPart v n ws ++ l) (sym (drop-drop (n * wordsFor n) (slotsAt v n) ws)) ∙ take-append-drop (n * wordsFor n) (drop (slotsAt v n) ws))
       ∙ take-append-drop (slotsAt v n) ws))
 
--- The workspace after a call that wrote to the area.
-pub area-written : (v n : ℕ) (at : Places) → at ≡ placesOf v n → (ws area : List ℕ) (slots : Slots) → area ≡ slotWords n slots
-    → take (at .slots) ws ++ (area ++ drop (at .end - at .slots) (drop (at .slots) ws)) ≡ slotted v n ws slots
-area-written v n at is ws area slots q = let k : wordsDue v n - slotsAt v n ≡ n * wordsFor n = omega arith in rw (is, k, q, drop-drop (n * wordsFor n) (slotsAt v n) ws)
+-- The workspace after a call that inserted the rows into its area.
+pub rows-written : (v n : ℕ) (at : Places) → at ≡ placesOf v n → (ws area : List ℕ) (o : Operator)
+    → area ≡ slotWords n (insertAll n (heldSlots v n ws) (rowsOf (sizesPart v ws) (has (pairsPart v n ws)) o))
+    → take (at .slots) ws ++ (area ++ drop (at .end - at .slots) (drop (at .slots) ws)) ≡ withRows v n ws o
+unfolding withRows
+rows-written v n at is ws area o q = let k : wordsDue v n - slotsAt v n ≡ n * wordsFor n = omega arith in rw (is, k, q, drop-drop (n * wordsFor n) (slotsAt v n) ws)
 
 -- ---- rows inserted one after another
 
@@ -93,17 +109,3 @@ module _ (n : ℕ) (slots : Slots) (rows : List Set) (area : List ℕ) (left : L
   pub inserting-done : left ≡ [] → area ≡ slotWords n (insertAll n slots rows)
   unfolding insertAll
   inserting-done is = h .filled .words ∙ ap (slotWords n) (sym (h .rest ∙ rw is refl))
-
--- ---- the names of the parts that `opening` has
-
-abbrev pub sizeWords : ℕ → List ℕ → List ℕ
-sizeWords = sizesPart
-
-abbrev pub pairWords : ℕ → ℕ → List ℕ → List ℕ
-pairWords = pairsPart
-
-abbrev pub slotArea : ℕ → ℕ → List ℕ → List ℕ
-slotArea = slotsPart
-
-pub sizes-part : (v : ℕ) (ws : List ℕ) → take (1 + v - 1) (drop 1 ws) ≡ sizesPart v ws
-sizes-part v ws = lent sizesAt v ws

@@ -2,7 +2,6 @@
 use limits::ATOM_WORDS;
 use limits::MOST_VARIABLES;
 use limits::MOST_WORDS;
-use limits::SIZES_AT;
 use rows::Place;
 ghost use mathlib.Core.Path.{_≡_};
 ghost use mathlib.Core.Bool.{true, false};
@@ -18,17 +17,17 @@ ghost use Rattle.meaning.specs.Pair.{idle};
 ghost use Rattle.meaning.specs.Workspace.{wordsFor, has, packed};
 ghost use Rattle.theory.specs.Slices.{entriesIn, Given};
 ghost use Rattle.theory.specs.Contents.{slotWords};
-ghost use Rattle.theory.specs.Rows.{base, rowsOf, allowed};
+ghost use Rattle.theory.specs.Rows.{base, allowed};
 ghost use Rattle.theory.specs.InsertAll.{insertAll};
 ghost use Rattle.theory.specs.Finder.{difference};
 ghost use Rattle.pairs.specs.Ready.{Ready, HoldsPossible};
 ghost use Rattle.words.specs.Toggled.{toggledAll};
 ghost use Rattle.rows.specs.Moves.{Room};
 ghost use Rattle.slots.specs.Area.{slotsIn};
-ghost use Rattle.layout.specs.Parts.{sizesPart, pairsPart};
+ghost use Rattle.layout.specs.Parts.{sizesPart};
 ghost use Rattle.condition.specs.Ends.{trueAtoms, truePairsOf, truePairs, trueFeatures};
 ghost use Rattle.condition.specs.Walk.{Prepared, Walked, rowsBy, rowsAfter, allEven};
-ghost use Rattle.condition.specs.Slotted.{heldSlots, slotted, Filled, Opened};
+ghost use Rattle.condition.specs.Slotted.{Filled, Opened, withRows};
 
 // A walk over an operator's rows: whether a row is at hand, and from which value of which variable on the next one is looked for.
 struct Walk {
@@ -320,18 +319,12 @@ fn insert_condition(
 )
     requires { ⌜ Opened v n (now workspace) (now variables) (now befores) (now afters) × (length (now sizes) ≡ v)
         × (atoms (sizesPart v (now workspace)) ≤ wordBits * length (now possible)) × (length (now state) ≡ v) × (length (now row) ≡ wordsFor n) ⌝ }
-    ensures { λ r. ⌜ now (workspace .exit) ≡ slotted v n (now (workspace .entry)) (insertAll n (heldSlots v n (now (workspace .entry)))
-        (rowsOf (sizesPart v (now (workspace .entry))) (has (pairsPart v n (now (workspace .entry)))) (entriesIn (now (variables .entry)) (now (befores .entry)) (now (afters .entry))))) ⌝ }
+    ensures { λ r. ⌜ now (workspace .exit) ≡ withRows v n (now (workspace .entry)) (entriesIn (now (variables .entry)) (now (befores .entry)) (now (afters .entry))) ⌝ }
 {
-    let places = layout::places_for(v, n);
-    let start = places.start;
-    let pairs = places.pairs;
-    let slots = places.slots;
-    let end = places.end;
-    words::copy(sizes, &workspace[SIZES_AT..start]);
+    words::copy(sizes, layout::sizes(workspace, v));
     if prepare(
         sizes,
-        &workspace[pairs..slots],
+        layout::pairs(workspace, v, n),
         variables,
         befores,
         afters,
@@ -340,6 +333,9 @@ fn insert_condition(
     ) {
         return;
     }
+    let places = layout::places_for(v, n);
+    let slots = places.slots;
+    let end = places.end;
     insert_rows(
         sizes,
         variables,
@@ -363,8 +359,7 @@ pub fn add_rows(
     afters: &[usize],
 )
     requires { ⌜ Opened v n (now workspace) (now variables) (now befores) (now afters) ⌝ }
-    ensures { λ r. ⌜ now (workspace .exit) ≡ slotted v n (now (workspace .entry)) (insertAll n (heldSlots v n (now (workspace .entry)))
-        (rowsOf (sizesPart v (now (workspace .entry))) (has (pairsPart v n (now (workspace .entry)))) (entriesIn (now (variables .entry)) (now (befores .entry)) (now (afters .entry))))) ⌝ }
+    ensures { λ r. ⌜ now (workspace .exit) ≡ withRows v n (now (workspace .entry)) (entriesIn (now (variables .entry)) (now (befores .entry)) (now (afters .entry))) ⌝ }
 {
     let w = layout::words_for(n);
     let mut sizes = [0u64; MOST_VARIABLES];

@@ -23,8 +23,8 @@ use Rattle.pairs.specs.Ready.{Listed, Ready}
 use Rattle.layout.specs.declared.Places.{Places}
 use Rattle.layout.specs.Places.{placesOf}
 use Rattle.layout.specs.Parts.{sizesPart, pairsPart, slotsPart, lent, length-part}
-use Rattle.slots.specs.Area.{slotsIn}
-use Rattle.condition.specs.Slotted.{heldSlots, slotted, Opened, area-slotted}
+use Rattle.condition.specs.Slotted.{withRows}
+use Rattle.condition.specs.Holds.{Holds, held-rows}
 use Rattle.formed.specs.declared.Formed.the-variants.{Yes, No}
 use Rattle.formed.specs.Parts.{contentParts, cut-listed}
 use Rattle.formed.specs.Formed.{FormedIs, no-formed, yes-formed, yes-content, yes-sized, yes-due, yes-cut}
@@ -126,34 +126,16 @@ module _ (ws : List ℕ) (v n : ℕ) (yes : FormedIs ws (Yes v n)) where
 
   -- ---- one more operator
 
-  total : n ≡ features (sizesPart v ws)
-  total = yes-cut ws v n yes .total
-
-  -- The words with other slots are those of the content with other slots.
-  slots-written : (m : ℕ) (slots : ℕ → Slots) → m ≡ features (sizesPart v ws)
-      → wordsOf (withSlots (contentParts v n ws) (slots (features (sizesPart v ws)))) ++ formed-parts .further ≡ slotted v m ws (slots m)
-  slots-written m slots q = rw q (slots-changed (contentParts v n ws) (formed-parts .further) (formed-parts .proper .start .full) (formed-parts .proper .goal .full) (slots (features (sizesPart v ws)))
-      ∙ ap₂ (λ k l. slotted k (features (sizesPart v ws)) l (slots (features (sizesPart v ws)))) count (sym (formed-parts .words)))
-
-  pub added-opened : (variables befores afters : List ℕ) → Ready (sizesPart v ws) (pairsPart v n ws) variables befores afters
-      → Opened v n ws variables befores afters
-  added-opened variables befores afters ready = record {
-    counted = total;
-    due = yes-due ws v n yes .words;
-    ready = ready;
-    filled = ap (λ l. take (n * wordsFor n) (drop (slotsAt v n) l)) own ∙ area-slotted v n ws (yes-due ws v n yes .words) (heldSlots v n ws);
-    reduced = subst (λ m. Reduced m (slotsIn m (slotsPart v n ws))) (sym total) (formed-parts .proper .slots);
-  }
-    where
-      own : ws ≡ slotted v n ws (heldSlots v n ws)
-      own = formed-parts .words ∙ slots-written n (λ m. slotsIn m (slotsPart v n ws)) total
+  -- The workspace holds the content that its parts make.
+  pub held-parts : Holds v n (contentParts v n ws) (formed-parts .further) ws
+  held-parts = record { words = formed-parts .words; proper = formed-parts .proper; variables = sym count; total = yes-cut ws v n yes .total }
 
   -- The slots after an operator's rows were inserted stand for what was stored and for the operator's condition.
   pub operator-done : (r : OperatorRecord) (o : Operator) (exit : List ℕ) → editJudged (contentParts v n ws) (addOperator r) ≡ fine → operatorIn r ≡ o
-      → exit ≡ slotted v n ws (insertAll n (heldSlots v n ws) (rowsOf (sizesPart v ws) (has (pairsPart v n ws)) o))
-      → Edits ws (addOperator r) (record { answer = done tt; lent = exit })
+      → exit ≡ withRows v n ws o → Edits ws (addOperator r) (record { answer = done tt; lent = exit })
   operator-done r o exit e h q = edit-done (addOperator r) (withSlots (contentParts v n ws) slots) exit e (slots, stands, refl)
-      (q ∙ ap (λ p. slotted v n ws (insertAll n (heldSlots v n ws) (rowsOf (sizesPart v ws) (has (pairsPart v n ws)) p))) (sym h) ∙ sym (slots-written n (λ m. insertAll m (slotsIn m (slotsPart v n ws)) rows) total))
+      (q ∙ ap (withRows v n ws) (sym h) ∙ held-rows v n (contentParts v n ws) (formed-parts .further) ws held-parts (operatorIn r) .words
+      ∙ ap (λ m. wordsOf (withSlots (contentParts v n ws) (insertAll m (contentParts v n ws .slots) rows)) ++ formed-parts .further) (held-parts .total))
     where
       rows : List Set
       rows = rowsOf (sizesPart v ws) (has (pairsPart v n ws)) (operatorIn r)

@@ -15,7 +15,8 @@ use Rattle.number.specs.declared.Step.{Step}
 use Rattle.number.specs.declared.Step.the-variants.{Next}
 use Rattle.layout.specs.Parts.{sizesPart}
 use Rattle.operator.specs.Fold.{walked, walk-keeps, walk-all, turn-more}
-use Rattle.condition.specs.Holds.{Holds, withRows, held-sizes, held-rows}
+use Rattle.condition.specs.Slotted.{withRows}
+use Rattle.condition.specs.Holds.{Holds, held-sizes, held-rows}
 
 -- A workspace that holds some proper content.
 abbrev pub Workable : ℕ → ℕ → List ℕ → Type 0

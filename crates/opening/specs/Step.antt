@@ -7,12 +7,9 @@ use Rattle.meaning.specs.Limits.{mostVariables}
 use Rattle.meaning.specs.Number.{got, fault}
 use Rattle.meaning.specs.File.{operatorOf}
 use Rattle.meaning.specs.Answer.{operatorIn}
-use Rattle.meaning.specs.Workspace.{has}
 use Rattle.meaning.specs.Task.{IsOperator}
 use Rattle.theory.specs.Slices.{entriesIn}
-use Rattle.theory.specs.InsertAll.{insertAll}
-use Rattle.theory.specs.Rows.{rowsOf}
-use Rattle.layout.specs.Parts.{sizesPart, pairsPart, Due}
+use Rattle.layout.specs.Parts.{sizesPart, Due}
 use Rattle.number.specs.Answers.{placeOf, place-fault, reasonOf}
 use Rattle.number.specs.declared.Reason.{Reason}
 use Rattle.number.specs.declared.Step.the-variants.{Next, Fault}
@@ -21,8 +18,8 @@ use Rattle.operator.specs.Records.{recordOf, operatorReadOf}
 use Rattle.operator.specs.Known.{read-next, read-faulted, Room, operator-is}
 use Rattle.operator.specs.Fold.{walked, walk-unread}
 use Rattle.pairs.specs.Slices.{count-room, slices-read, slices-ready}
-use Rattle.condition.specs.Slotted.{heldSlots, slotted, Opened}
-use Rattle.condition.specs.Holds.{withRows, held-due, held-listed, held-opened}
+use Rattle.condition.specs.Slotted.{Opened, withRows}
+use Rattle.condition.specs.Holds.{held-due, held-listed, held-opened}
 use Rattle.opening.specs.Adding.{Workable, addedFrom}
 
 module _ (v n : ℕ) (ws : List ℕ) (h : Workable v n ws) where
@@ -63,9 +60,8 @@ module _ (v n : ℕ) (ws : List ℕ) (h : Workable v n ws) where
       pub step-place : Next next ≡ placeOf (operatorOf (sizesPart v ws) bytes at)
       step-place = rw parts
 
-      pub step-rows : (left : List ℕ) → left ≡ slotted v n ws (insertAll n (heldSlots v n ws) (rowsOf (sizesPart v ws) (has (pairsPart v n ws)) (entriesIn variables befores afters)))
-          → left ≡ addedFrom v n 1 bytes at ws
-      unfolding withRows walked
+      pub step-rows : (left : List ℕ) → left ≡ withRows v n ws (entriesIn variables befores afters) → left ≡ addedFrom v n 1 bytes at ws
+      unfolding walked
       step-rows left q = rw parts q
 
     module _ (reason : Reason) (place : ℕ) (went : r .step ≡ Fault reason place) where

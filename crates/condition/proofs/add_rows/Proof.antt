@@ -1,12 +1,10 @@
 -- `add_rows`: the local arrays have room for the sizes, the table (`atoms-most`), the base state and a row.
-use Prim.Native.Nat.{_≤_}
 use native.Mathlib.Omega.{arith}
 use lib.ListN.{length-take}
 use borrow.Author.Needs.{needs}
-use Rattle.meaning.specs.Limits.{mostVariables, mostFeatures}
 use Rattle.numbering.specs.Sizes.{atoms-most}
-use Rattle.layout.specs.Parts.{sizesPart}
-use Rattle.condition.specs.Slotted.{length-sizes}
+use Rattle.layout.specs.Parts.{sizesPart, Due}
+use Rattle.condition.specs.Slotted.{opened-due}
 use Rattle.condition.proofs.add_rows.Statement.{statement}
 use Rattle.condition.proofs.add_rows.Tie as tie
 
@@ -14,43 +12,40 @@ use Rattle.condition.proofs.add_rows.Tie as tie
 abbrev start : tie.After-row → tie.Start
 start c = c .before .before .before .before .before .before .before .before .before .before
 
-few : (s : tie.Start) → s .args .v ≤ mostVariables
-few s = omega (arith, length-sizes (s .args .v) (s .args .n) (s .args .workspace .now) (s .pre .due), s .pre .ready .limits .variables)
-
-small : (s : tie.Start) → s .args .n ≤ mostFeatures
-small s = omega (arith, s .pre .counted, s .pre .ready .limits .total)
+due : (s : tie.Start) → Due (s .args .v) (s .args .n) (s .args .workspace .now)
+due s = opened-due (s .pre)
 
 words-for-requires : tie.Need-words-for-requires
 words-for-requires c κs = search needs
 
 array-borrow-prefix-sizes : tie.Need-array-borrow-prefix-sizes
-array-borrow-prefix-sizes c = omega (arith, few (c .before .before .before .before .before .before))
+array-borrow-prefix-sizes c = omega (arith, due (c .before .before .before .before .before .before) .variables)
 
 slice-aggregate-insert-condition : tie.Need-slice-aggregate-insert-condition
-slice-aggregate-insert-condition c = simp length-take (omega (arith, few (c .before .before .before .before .before .before .before)))
+slice-aggregate-insert-condition c = simp length-take (omega (arith, due (c .before .before .before .before .before .before .before) .variables))
 
 slice-aggregate-insert-condition-2 : tie.Need-slice-aggregate-insert-condition-2
 slice-aggregate-insert-condition-2 c = search needs
 
 array-borrow-prefix-state : tie.Need-array-borrow-prefix-state
-array-borrow-prefix-state c = omega (arith, few (c .before .before .before .before .before .before .before .before))
+array-borrow-prefix-state c = omega (arith, due (c .before .before .before .before .before .before .before .before) .variables)
 
 slice-aggregate-insert-condition-3 : tie.Need-slice-aggregate-insert-condition-3
-slice-aggregate-insert-condition-3 c = simp length-take (omega (arith, few (c .before .before .before .before .before .before .before .before .before)))
+slice-aggregate-insert-condition-3 c = simp length-take (omega (arith, due (c .before .before .before .before .before .before .before .before .before) .variables))
 
 array-borrow-prefix-row : tie.Need-array-borrow-prefix-row
 array-borrow-prefix-row c = search needs
 
 slice-aggregate-insert-condition-4 : tie.Need-slice-aggregate-insert-condition-4
-slice-aggregate-insert-condition-4 c = simp length-take (omega (arith, c .before .before .before .before .before .words-for .ensures, small (start c)))
+slice-aggregate-insert-condition-4 c = simp length-take (omega (arith, c .before .before .before .before .before .words-for .ensures, due (start c) .features))
 
 insert-condition-requires : tie.Need-insert-condition-requires
 insert-condition-requires c κs = let s = start c in (
   s .pre,
-  simp length-take (omega (arith, few s)),
+  simp length-take (omega (arith, due s .variables)),
   omega (arith, atoms-most (sizesPart (s .args .v) (s .args .workspace .now)) (s .pre .ready .limits)),
-  simp length-take (omega (arith, few s)),
-  simp length-take (omega (arith, c .before .before .before .before .before .words-for .ensures, small s)),
+  simp length-take (omega (arith, due s .variables)),
+  simp length-take (omega (arith, c .before .before .before .before .before .words-for .ensures, due s .features)),
 )
 
 same-length : tie.Need-same-length

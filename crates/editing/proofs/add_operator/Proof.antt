@@ -8,11 +8,12 @@ use Rattle.operator.specs.Records.{recordOf, judgementOf}
 use Rattle.operator.specs.Known.{Room}
 use Rattle.pairs.specs.Slices.{Fits, slices-fit, slices-hold, slices-ready}
 use Rattle.layout.specs.Parts.{sizesPart, pairsPart, due-sizes, due-headed}
+use Rattle.condition.specs.Holds.{held-opened}
 use Rattle.formed.specs.declared.Formed.the-variants.{Yes}
 use Rattle.formed.specs.Formed.{FormedIs, yes-due}
 use Rattle.editing.specs.Operand.{operatorJudged}
 use Rattle.editing.specs.Judging.{fileJudged, operator-file, file-known}
-use Rattle.editing.specs.Change.{edit-malformed, edit-refused, parts-listed, added-opened, operator-done}
+use Rattle.editing.specs.Change.{edit-malformed, edit-refused, parts-listed, held-parts, operator-done}
 use Rattle.editing.proofs.add_operator.Statement.{statement}
 use Rattle.editing.proofs.add_operator.Tie as tie
 
@@ -87,7 +88,7 @@ slice-aggregate-add-rows-3 c = sym (length-take-le _ _ (fits (c .before .before 
 add-rows-requires : tie.Need-add-rows-requires
 add-rows-requires c κs = let t = c .before .before .before .before in
     let formed = yes (formed-at t) in
-    added-opened (begun (formed-at t) .args .workspace .now) _ _ formed _ _ _ (slices-ready (room t) (parts-listed _ _ _ formed) (file-known _ _ (file t)))
+    held-opened _ _ _ _ _ (held-parts _ _ _ formed) _ _ _ (slices-ready (room t) (parts-listed _ _ _ formed) (file-known _ _ (file t)))
 
 enum-known-reason : tie.Need-enum-known-reason
 enum-known-reason c = search needs

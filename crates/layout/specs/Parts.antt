@@ -58,9 +58,6 @@ lent from n l = let e : from + n - from ≡ n = omega arith in rw e
 
 -- The parts as they are lent by the code's places.
 module _ (v n : ℕ) (at : Places) (is : at ≡ placesOf v n) (ws : List ℕ) where
-  pub lent-sizes : take (at .start - sizesAt) (drop sizesAt ws) ≡ sizesPart v ws
-  lent-sizes = rw is (lent sizesAt v ws)
-
   pub lent-start : take (at .goal - at .start) (drop (at .start) ws) ≡ startPart v ws
   lent-start = rw is (lent (startAt v) v ws)
 

@@ -20,21 +20,25 @@ Inv-loop sizes state row₀ i₀ row i = (i ≤ length sizes) × (row ≡ toggle
 abbrev μ-loop : tie.MeasureT-loop
 μ-loop sizes state row₀ i₀ row i = length sizes - i
 
+-- What the call began with, seen from a turn.
+abbrev start : tie.At-loop Inv-loop μ-loop → tie.Start Inv-loop μ-loop
+start c = c .before .before .before .before
+
 loop-holds : tie.Need-loop-holds Inv-loop μ-loop
 loop-holds c = (omega arith, toggled-start _ _)
 
 mul-single : tie.Need-mul-single Inv-loop μ-loop
-mul-single c = omega (arith, c .before .before .before .before .before .before .pre .1 .full)
+mul-single c = omega (arith, start (c .before .before) .pre .1 .full)
 
 shared-slice-read-single : tie.Need-shared-slice-read-single Inv-loop μ-loop
-shared-slice-read-single c = omega (arith, c .before .before .before .before .before .before .before .pre .1 .full)
+shared-slice-read-single c = omega (arith, start (c .before .before .before) .pre .1 .full)
 
 single-requires : tie.Need-single-requires Inv-loop μ-loop
-single-requires c κs = let (r, s) = c .before .before .before .before .before .before .before .pre in
+single-requires c κs = let (r, s) = start (c .before .before .before) .pre in
     (limits-small _ (r .limits), c .before .before .loop-test .taken, s .values _ (c .before .before .loop-test .taken))
 
 toggle-requires : tie.Need-toggle-requires Inv-loop μ-loop
-toggle-requires c κs = let (r, s) = c .before .before .before .before .before .before .before .before .pre in
+toggle-requires c κs = let (r, s) = start (c .before .before .before .before) .pre in
     rw (c .single .ensures) (single-room _ _ _ _ (room-toggled _ _ _ _ r (c .before .before .before .before .loop .inv .1)) (s .values _
     (c .before .before .before .loop-test .taken)))
 
@@ -56,7 +60,7 @@ same-length c = length-next _ _ _ (c .before .loop .inv .1)
 
 returns : tie.Need-returns Inv-loop μ-loop
 unfolding trueAtoms
-returns c = let e : c .before .loop .i ≡ length (c .before .before .before .before .before .args .sizes .now) = omega arith in c .before .loop .inv .1 ∙ rw e
+returns c = let e : c .before .loop .i ≡ length (start (c .before) .args .sizes .now) = omega arith in c .before .loop .inv .1 ∙ rw e
 
 pub toggle-atoms-spec : {M : Type 1} → statement M
 toggle-atoms-spec =

@@ -16,13 +16,17 @@ Inv-loop sizes state row₀ j₀ row j = (j ≤ length sizes) × (row ≡ toggle
 abbrev μ-loop : tie.MeasureT-loop
 μ-loop sizes state row₀ j₀ row j = length sizes - j
 
+-- What the call began with, seen from a turn.
+abbrev start : tie.At-loop Inv-loop μ-loop → tie.Start Inv-loop μ-loop
+start c = c .before .before .before .before
+
 loop-holds : tie.Need-loop-holds Inv-loop μ-loop
 loop-holds c = (omega arith, toggled-start _ _)
 
 toggle-pairs-of-requires : tie.Need-toggle-pairs-of-requires Inv-loop μ-loop
 toggle-pairs-of-requires c κs = (
-  room-toggled _ _ _ _ (c .before .before .before .before .before .before .pre .0) (c .before .before .loop .inv .1),
-  c .before .before .before .before .before .before .pre .1,
+  room-toggled _ _ _ _ (start (c .before .before) .pre .0) (c .before .before .loop .inv .1),
+  start (c .before .before) .pre .1,
   c .before .loop-test .taken,
 )
 
@@ -40,7 +44,7 @@ same-length c = length-next _ _ _ (c .before .loop .inv .1)
 
 returns : tie.Need-returns Inv-loop μ-loop
 unfolding truePairs
-returns c = let e : c .before .loop .j ≡ length (c .before .before .before .before .before .args .sizes .now) = omega arith in c .before .loop .inv .1 ∙ rw e
+returns c = let e : c .before .loop .j ≡ length (start (c .before) .args .sizes .now) = omega arith in c .before .loop .inv .1 ∙ rw e
 
 pub toggle-pairs-spec : {M : Type 1} → statement M
 toggle-pairs-spec =

@@ -20,6 +20,10 @@ Inv-loop sizes state j row₀ y i₀ row i = (i ≤ j) × (row ≡ toggledAll ro
 abbrev μ-loop : tie.MeasureT-loop
 μ-loop sizes state j row₀ y i₀ row i = j - i
 
+-- What the call began with, seen from a turn.
+abbrev start : tie.At-loop Inv-loop μ-loop → tie.Start Inv-loop μ-loop
+start c = c .before .before .before .before .before
+
 mul-y : tie.Need-mul-y Inv-loop μ-loop
 mul-y c = omega (arith, c .before .before .before .pre .1 .full)
 
@@ -30,17 +34,17 @@ loop-holds : tie.Need-loop-holds Inv-loop μ-loop
 loop-holds c = (omega arith, toggled-start _ _)
 
 mul-both : tie.Need-mul-both Inv-loop μ-loop
-mul-both c = omega (arith, c .before .before .before .before .before .before .before .pre .1 .full)
+mul-both c = omega (arith, start (c .before .before) .pre .1 .full)
 
 shared-slice-read-both : tie.Need-shared-slice-read-both Inv-loop μ-loop
-shared-slice-read-both c = omega (arith, c .before .before .before .before .before .before .before .before .pre .1 .full)
+shared-slice-read-both c = omega (arith, start (c .before .before .before) .pre .1 .full)
 
 both-requires : tie.Need-both-requires Inv-loop μ-loop
-both-requires c κs = let (r, s, l) = c .before .before .before .before .before .before .before .before .pre in
+both-requires c κs = let (r, s, l) = start (c .before .before .before) .pre in
     (limits-small _ (r .limits), ne-of-lt (c .before .before .loop-test .taken), omega arith, l, s .values _ (omega arith), s .values _ l)
 
 toggle-requires : tie.Need-toggle-requires Inv-loop μ-loop
-toggle-requires c κs = let (r, s, l) = c .before .before .before .before .before .before .before .before .before .pre in
+toggle-requires c κs = let (r, s, l) = start (c .before .before .before .before) .pre in
     rw (c .both .ensures) (both-room _ _ _ _ _ _ (room-toggled _ _ _ _ r (c .before .before .before .before .loop .inv .1)) (ne-of-lt
     (c .before .before .before .loop-test .taken)) (s .values _ (omega arith)) (s .values _ l))
 
@@ -62,7 +66,7 @@ same-length c = length-next _ _ _ (c .before .loop .inv .1)
 
 returns : tie.Need-returns Inv-loop μ-loop
 unfolding truePairsOf
-returns c = let e : c .before .loop .i ≡ c .before .before .before .before .before .before .args .j = omega arith in c .before .loop .inv .1 ∙ rw e
+returns c = let e : c .before .loop .i ≡ start (c .before) .args .j = omega arith in c .before .loop .inv .1 ∙ rw e
 
 pub toggle-pairs-of-spec : {M : Type 1} → statement M
 toggle-pairs-of-spec =

@@ -33,10 +33,8 @@ same-length : tie.Need-same-length
 same-length c = search needs
 
 returns : tie.Need-returns
-returns c = let s = c .before .before .before .before .before .before .before .before .before .before in after-put (s .args .p) (s .args .row .now)
-    (s .args .area .now) (c .before .before .before .before .before .before .clear-below .last .0) (c .before .before .copy .last .0)
-    (omega (arith, s .pre, c .before .before .before .before .before .before .clear-below))
-    (c .before .before .copy .ensures) (c .before .before .before .before .before .before .clear-below .ensures)
+returns c = let k = c .before .before .before .before .before .before in let s = k .before .before .before .before in after-put (s .args .p) (s .args .row .now) (s .args .area .now) (k .clear-below .last .0) (c .before .before .copy .last .0)
+    (omega (arith, s .pre, k .clear-below)) (c .before .before .copy .ensures) (k .clear-below .ensures)
 
 pub put-spec : {M : Type 1} → statement M
 put-spec =

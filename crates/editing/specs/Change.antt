@@ -1,5 +1,5 @@
 -- What an edit of a well formed workspace leaves: the same words where it is refused, the words of the changed content where it is done.
-use Prim.Native.Nat.{ℕ, _+_, _-_, _*_, _≤_}
+use Prim.Native.Nat.{ℕ, _+_, _-_, _≤_}
 use mathlib.Core.Path.{_≡_, refl, ap, ap₂, sym, _∙_, subst}
 use mathlib.Core.Logic.{inl, inr, Iff·trans}
 use mathlib.Core.List.{List, _++_}
@@ -9,20 +9,20 @@ use lib.Seq.{drop-drop}
 use Rattle.meaning.specs.Sets.{Set, Slots}
 use Rattle.meaning.specs.Task.{Operator}
 use Rattle.meaning.specs.Feature.{features}
-use Rattle.meaning.specs.Slot.{Reduced, SlotsOf, Stored}
+use Rattle.meaning.specs.Slot.{SlotsOf, Stored}
 use Rattle.meaning.specs.Weight.{Allows}
 use Rattle.meaning.specs.Number.{Reason, Malformed, refusal}
-use Rattle.meaning.specs.Workspace.{has, wordsFor, sizesAt, startAt, goalAt, pairsAt, slotsAt, Content, wordsOf, Proper, WellFormed}
-use Rattle.meaning.specs.Answer.{OperatorRecord, operatorIn, Edit, addOperator, Judged, fine, faulty, editJudged, Changes, EditsIn, Edits, done, refused}
+use Rattle.meaning.specs.Workspace.{has, sizesAt, startAt, goalAt, pairsAt, Content, wordsOf, Proper, WellFormed}
+use Rattle.meaning.specs.Answer.{OperatorRecord, operatorIn, Edit, addOperator, fine, faulty, editJudged, Changes, EditsIn, Edits, done, refused}
 use Rattle.theory.specs.SlotsOf.{slots-of-stored}
 use Rattle.theory.specs.Rows.{rowsOf, allows-rows}
 use Rattle.theory.specs.InsertAll.{insertAll, insertAll-reduced, insertAll-stored}
 use Rattle.theory.specs.Operands.{add-fine}
-use Rattle.theory.specs.Contents.{formed-content, withStart, withGoal, withSlots, start-changed, goal-changed, slots-changed, edit-proper, edit-further}
-use Rattle.pairs.specs.Ready.{Listed, Ready}
+use Rattle.theory.specs.Contents.{formed-content, withStart, withGoal, withSlots, start-changed, goal-changed, edit-proper, edit-further}
+use Rattle.pairs.specs.Ready.{Listed}
 use Rattle.layout.specs.declared.Places.{Places}
 use Rattle.layout.specs.Places.{placesOf}
-use Rattle.layout.specs.Parts.{sizesPart, pairsPart, slotsPart, lent, length-part}
+use Rattle.layout.specs.Parts.{sizesPart, pairsPart, lent, length-part}
 use Rattle.condition.specs.Slotted.{withRows}
 use Rattle.condition.specs.Holds.{Holds, held-rows}
 use Rattle.formed.specs.declared.Formed.the-variants.{Yes, No}
@@ -31,7 +31,7 @@ use Rattle.formed.specs.Formed.{FormedIs, no-formed, yes-formed, yes-content, y
 use Rattle.editing.specs.declared.End.{End}
 use Rattle.editing.specs.declared.End.the-variants.{Start, Goal}
 use Rattle.editing.specs.Answers.{replaced, endAt, placeOf}
-use Rattle.editing.specs.Operand.{valuesAnd, endJudged, values-long}
+use Rattle.editing.specs.Operand.{endJudged, operatorJudged, values-long}
 
 -- Values written over a part that was lent.
 part-written : (ws values new : List ℕ) (at v : ℕ) → new ≡ values
@@ -84,13 +84,17 @@ module _ (ws : List ℕ) (v n : ℕ) (yes : FormedIs ws (Yes v n)) where
   count : length (sizesPart v ws) ≡ v
   count = length-part sizesAt v ws (yes-sized ws v n yes .room)
 
-  -- An end's values are judged by the sizes and the listed pairs.
-  pub end-judged : (end : End) (values : List ℕ) → editJudged (contentParts v n ws) (replaced end values) ≡ endJudged end (sizesPart v ws) (has (pairsPart v n ws)) values
-  end-judged Start values = refl
-  end-judged Goal values = refl
-
   pub parts-listed : Listed (sizesPart v ws) (pairsPart v n ws)
   parts-listed = cut-listed (yes-cut ws v n yes)
+
+  -- What is judged by the sizes and the listed pairs that are lent is what the edit is judged to be.
+  module _ (sizes pairs : List ℕ) (sized : sizes ≡ sizesPart v ws) (paired : pairs ≡ pairsPart v n ws) where
+    pub end-judged : (end : End) (values : List ℕ) → endJudged end sizes (has pairs) values ≡ editJudged (contentParts v n ws) (replaced end values)
+    end-judged Start values = rw (sized, paired)
+    end-judged Goal values = rw sized
+
+    pub operator-judged : (r : OperatorRecord) → operatorJudged sizes (has pairs) r ≡ editJudged (contentParts v n ws) (addOperator r)
+    operator-judged r = rw (sized, paired)
 
   abbrev withEnd : End → List ℕ → Content
   withEnd Start values = withStart (contentParts v n ws) values
@@ -116,8 +120,9 @@ module _ (ws : List ℕ) (v n : ℕ) (yes : FormedIs ws (Yes v n)) where
     pub end-room : at + v ≤ length ws
     end-room = rw here (end-due end)
 
-    pub end-long : (rest : Judged) → valuesAnd rest (sizesPart v ws) values ≡ fine → length (take (at + v - at) (drop at ws)) ≡ length values
-    end-long rest e = ap length (lent at v ws) ∙ length-part at v ws end-room ∙ sym (values-long (sizesPart v ws) values rest e ∙ count)
+    pub end-long : editJudged (contentParts v n ws) (replaced end values) ≡ fine → length (take (at + v - at) (drop at ws)) ≡ length values
+    end-long e = ap length (lent at v ws) ∙ length-part at v ws end-room
+        ∙ sym (values-long (sizesPart v ws) values _ (end-judged (sizesPart v ws) (pairsPart v n ws) refl refl end values ∙ e) ∙ count)
 
     pub end-done : (new : List ℕ) → editJudged (contentParts v n ws) (replaced end values) ≡ fine → new ≡ values
         → Edits ws (replaced end values) (record { answer = done tt; lent = take at ws ++ (new ++ drop (at + v - at) (drop at ws)) })

@@ -1,6 +1,6 @@
 -- An operator that is handed over: judged in file order, then whether the list is closed under it.
 use Prim.Native.Nat.{ℕ, suc}
-use mathlib.Core.Path.{_≡_, refl, sym, ap₂, _∙_}
+use mathlib.Core.Path.{_≡_, ap₂, _∙_}
 use mathlib.Core.Bool.{Bool}
 use mathlib.Core.List.{List, []}
 use lib.ListN.{length}
@@ -9,7 +9,7 @@ use Rattle.meaning.specs.Pair.{closed}
 use Rattle.meaning.specs.Number.{Range, Unclosed}
 use Rattle.meaning.specs.File.{inside}
 use Rattle.meaning.specs.Workspace.{has}
-use Rattle.meaning.specs.Answer.{operatorIn, Judged, fine, faulty, need, entriesJudged}
+use Rattle.meaning.specs.Answer.{operatorIn, Judged, fine, need, entriesJudged}
 use Rattle.theory.specs.Slices.{length-held}
 use Rattle.operator.specs.declared.Operator.{Operator}
 use Rattle.operator.specs.Records.{recordOf}
@@ -27,13 +27,6 @@ pub operator-after : (sizes pairs : List ℕ) (o : Operator) (first : Judged) (i
     → closed sizes (has pairs) (operatorIn (recordOf o)) ≡ is-closed
     → operatorJudged sizes (has pairs) (recordOf o) ≡ unless first (need is-closed Unclosed fine)
 operator-after sizes pairs o first is-closed e h = edit-judged (contentFrom sizes [] [] pairs []) (recordOf o) ∙ ap₂ (λ j b. unless j (need b Unclosed fine)) e h
-
-unless-fine : (first rest : Judged) → unless first rest ≡ fine → first ≡ fine
-unless-fine fine rest e = refl
-unless-fine (faulty reason) rest e = e
-
-pub operator-file : (sizes pairs : List ℕ) (o : Operator) → operatorJudged sizes (has pairs) (recordOf o) ≡ fine → fileJudged sizes o ≡ fine
-operator-file sizes pairs o e = unless-fine (fileJudged sizes o) _ (sym (operator-after sizes pairs o _ _ refl refl) ∙ e)
 
 pub file-known : (sizes : List ℕ) (o : Operator) → fileJudged sizes o ≡ fine → meaning.IsOperator sizes (operatorIn (recordOf o))
 file-known sizes o e = found-fine sizes (o .count) (operatorIn (recordOf o)) e (length-held (o .count) (o .variables) (o .befores) (o .afters))

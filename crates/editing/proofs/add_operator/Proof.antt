@@ -2,18 +2,19 @@
 use mathlib.Core.Path.{_≡_, ap, sym, _∙_, subst}
 use lib.Seq.{length-take-le}
 use borrow.Author.Needs.{needs}
-use Rattle.meaning.specs.Workspace.{has}
-use Rattle.meaning.specs.Answer.{addOperator, fine}
+use Rattle.meaning.specs.Task.{IsOperator}
+use Rattle.meaning.specs.Workspace.{Content}
+use Rattle.meaning.specs.Answer.{operatorIn, Edit, addOperator, fine, editJudged}
+use Rattle.theory.specs.Operands.{add-operator}
 use Rattle.operator.specs.Records.{recordOf, judgementOf}
 use Rattle.operator.specs.Known.{Room}
 use Rattle.pairs.specs.Slices.{Fits, slices-fit, slices-hold, slices-ready}
-use Rattle.layout.specs.Parts.{sizesPart, pairsPart, due-sizes, due-headed}
+use Rattle.layout.specs.Parts.{due-sizes, due-headed}
 use Rattle.condition.specs.Holds.{held-opened}
 use Rattle.formed.specs.declared.Formed.the-variants.{Yes}
+use Rattle.formed.specs.Parts.{contentParts}
 use Rattle.formed.specs.Formed.{FormedIs, yes-due}
-use Rattle.editing.specs.Operand.{operatorJudged}
-use Rattle.editing.specs.Judging.{fileJudged, operator-file, file-known}
-use Rattle.editing.specs.Change.{edit-malformed, edit-refused, parts-listed, held-parts, operator-done}
+use Rattle.editing.specs.Change.{edit-malformed, edit-refused, operator-judged, parts-listed, held-parts, operator-done}
 use Rattle.editing.proofs.add_operator.Statement.{statement}
 use Rattle.editing.proofs.add_operator.Tie as tie
 
@@ -28,26 +29,32 @@ known c = c .before .before .before .before .before .before .before
 yes : (c : tie.After-variables) → FormedIs (begun c .args .workspace .now) (Yes (c .variables .given .0 .0) (c .variables .given .0 .1 .0))
 yes c = subst (FormedIs _) (c .variables .given .1) (c .before .before .well-formed .ensures)
 
--- The operator is judged by the sizes and the listed pairs.
-judged : (c : tie.After-judge-operator) → let k = known (c .before) in let a = begun k .args in
-    judgementOf (c .judge-operator .result)
-    ≡ operatorJudged (sizesPart (k .variables .given .0 .0) (a .workspace .now)) (has (pairsPart (k .variables .given .0 .0) (k .variables .given .0 .1 .0) (a .workspace .now))) (recordOf (a .operator))
-judged c = rw (c .before .before .sizes .ensures, c .before .pairs .ensures) at (c .judge-operator .ensures)
+-- The content and the edit; as what it was judged, and where it was found fine.
+abbrev content : tie.After-variables → Content
+content c = contentParts (c .variables .given .0 .0) (c .variables .given .0 .1 .0) (begun c .args .workspace .now)
 
--- Where the operator was found fine.
+abbrev edit : tie.After-variables → Edit
+edit c = addOperator (recordOf (begun c .args .operator))
+
+judged : (c : tie.After-judge-operator) → let k = known (c .before) in judgementOf (c .judge-operator .result) ≡ editJudged (content k) (edit k)
+judged c = let k = known (c .before) in let a = begun k .args in
+    c .judge-operator .ensures ∙ operator-judged (a .workspace .now) _ _ (yes k) _ _ (c .before .before .sizes .ensures) (c .before .pairs .ensures) (recordOf (a .operator))
+
 abbrev formed-at : tie.After-enum-told → tie.After-variables
 formed-at c = known (c .before .before .before)
 
+found : (c : tie.After-enum-told) → editJudged (content (formed-at c)) (edit (formed-at c)) ≡ fine
+found c = sym (judged (c .before .before)) ∙ ap judgementOf (c .enum-told .given .1)
+
+-- Its slices fit, and make an operator of the workspace.
 room : (c : tie.After-enum-told) → Room (begun (formed-at c) .args .operator)
 room c = record { variables = search needs; befores = search needs; afters = search needs }
 
-file : (c : tie.After-enum-told) → let k = formed-at c in let a = begun k .args in fileJudged (sizesPart (k .variables .given .0 .0) (a .workspace .now)) (a .operator) ≡ fine
-file c = let k = formed-at c in let a = begun k .args in let v = k .variables .given .0 .0 in
-    operator-file (sizesPart v (a .workspace .now)) (pairsPart v (k .variables .given .0 .1 .0) (a .workspace .now)) (a .operator)
-    (sym (judged (c .before .before)) ∙ ap judgementOf (c .enum-told .given .1))
+is : (c : tie.After-enum-told) → let k = formed-at c in IsOperator (content k .sizes) (operatorIn (recordOf (begun k .args .operator)))
+is c = let k = formed-at c in add-operator (content k) (recordOf (begun k .args .operator)) (found c)
 
 fits : (c : tie.After-enum-told) → Fits (begun (formed-at c) .args .operator)
-fits c = slices-fit (room c) (parts-listed _ _ _ (yes (formed-at c))) (file-known _ _ (file c))
+fits c = slices-fit (room c) (parts-listed _ _ _ (yes (formed-at c))) (is c)
 
 well-formed-requires : tie.Need-well-formed-requires
 well-formed-requires c κs = search needs
@@ -88,7 +95,7 @@ slice-aggregate-add-rows-3 c = sym (length-take-le _ _ (fits (c .before .before 
 add-rows-requires : tie.Need-add-rows-requires
 add-rows-requires c κs = let t = c .before .before .before .before in
     let formed = yes (formed-at t) in
-    held-opened _ _ _ _ _ (held-parts _ _ _ formed) _ _ _ (slices-ready (room t) (parts-listed _ _ _ formed) (file-known _ _ (file t)))
+    held-opened _ _ _ _ _ (held-parts _ _ _ formed) _ _ _ (slices-ready (room t) (parts-listed _ _ _ formed) (is t))
 
 enum-known-reason : tie.Need-enum-known-reason
 enum-known-reason c = search needs
@@ -109,15 +116,15 @@ returns : tie.Need-returns
 returns c = let t = c .before .before .before .before .before .before .before in
     let a = begun (formed-at t) .args in
     let formed = yes (formed-at t) in
-    operator-done (a .workspace .now) _ _ formed (recordOf (a .operator)) _ _ (sym (judged (t .before .before)) ∙ ap judgementOf (t .enum-told .given .1))
-    (slices-hold (room t) (parts-listed _ _ _ formed) (file-known _ _ (file t))) (c .before .before .add-rows .ensures)
+    operator-done (a .workspace .now) _ _ formed (recordOf (a .operator)) _ _ (found t)
+    (slices-hold (room t) (parts-listed _ _ _ formed) (is t)) (c .before .before .add-rows .ensures)
 
 same-length-2 : tie.Need-same-length-2
 same-length-2 c = search needs
 
 returns-2 : tie.Need-returns-2
-returns-2 c = let j = c .before .before .before .before in let k = known (j .before) in let a = begun k .args in
-    edit-refused (a .workspace .now) _ _ (yes k) (addOperator (recordOf (a .operator))) _ _ (sym (judged j) ∙ ap judgementOf (c .before .before .reason .given .1)) (c .refusal .ensures)
+returns-2 c = let j = c .before .before .before .before in let k = known (j .before) in
+    edit-refused (begun k .args .workspace .now) _ _ (yes k) (edit k) _ _ (sym (judged j) ∙ ap judgementOf (c .before .before .reason .given .1)) (c .refusal .ensures)
 
 same-length-3 : tie.Need-same-length-3
 same-length-3 c = search needs

@@ -4,13 +4,14 @@ use mathlib.Core.Path.{_≡_, ap, sym, _∙_, subst}
 use native.Mathlib.Omega.{arith}
 use lib.ListN.{length}
 use borrow.Author.Needs.{needs}
-use Rattle.meaning.specs.Workspace.{has}
+use Rattle.meaning.specs.Workspace.{Content}
+use Rattle.meaning.specs.Answer.{Edit, fine, editJudged}
 use Rattle.operator.specs.Records.{judgementOf}
-use Rattle.layout.specs.Parts.{sizesPart, pairsPart, due-sizes, due-headed}
+use Rattle.layout.specs.Parts.{due-sizes, due-headed}
 use Rattle.formed.specs.declared.Formed.the-variants.{Yes}
+use Rattle.formed.specs.Parts.{contentParts}
 use Rattle.formed.specs.Formed.{FormedIs, yes-due}
 use Rattle.editing.specs.Answers.{replaced, endAt}
-use Rattle.editing.specs.Operand.{endJudged}
 use Rattle.editing.specs.Change.{edit-malformed, edit-refused, place-is, parts-listed, end-judged, end-room, end-long, end-done}
 use Rattle.editing.proofs.replace.Statement.{statement}
 use Rattle.editing.proofs.replace.Tie as tie
@@ -26,11 +27,19 @@ known c = c .before .before .before .before
 yes : (c : tie.After-variables) → FormedIs (begun c .args .workspace .now) (Yes (c .variables .given .0 .0) (c .variables .given .0 .1 .0))
 yes c = subst (FormedIs _) (c .variables .given .1) (c .before .before .well-formed .ensures)
 
--- The values are judged by the sizes and the listed pairs.
-judged : (c : tie.After-judge-end) → let k = known (c .before) in let a = begun k .args in
-    judgementOf (c .judge-end .result)
-    ≡ endJudged (a .end) (sizesPart (k .variables .given .0 .0) (a .workspace .now)) (has (pairsPart (k .variables .given .0 .0) (k .variables .given .0 .1 .0) (a .workspace .now))) (a .values .now)
-judged c = rw (c .before .before .sizes .ensures, c .before .pairs .ensures) at (c .judge-end .ensures)
+-- The content and the edit; as what it was judged, and where it was found fine.
+abbrev content : tie.After-variables → Content
+content c = contentParts (c .variables .given .0 .0) (c .variables .given .0 .1 .0) (begun c .args .workspace .now)
+
+abbrev edit : tie.After-variables → Edit
+edit c = replaced (begun c .args .end) (begun c .args .values .now)
+
+judged : (c : tie.After-judge-end) → let k = known (c .before) in judgementOf (c .judge-end .result) ≡ editJudged (content k) (edit k)
+judged c = let k = known (c .before) in let a = begun k .args in
+    c .judge-end .ensures ∙ end-judged (a .workspace .now) _ _ (yes k) _ _ (c .before .before .sizes .ensures) (c .before .pairs .ensures) (a .end) (a .values .now)
+
+found : (c : tie.After-enum-told) → let k = known (c .before .before .before) in editJudged (content k) (edit k) ≡ fine
+found c = sym (judged (c .before .before)) ∙ ap judgementOf (c .enum-told .given .1)
 
 -- The part for the end's values has its place, and is in the workspace.
 abbrev asked : tie.After-place-of → tie.After-judge-end
@@ -84,7 +93,7 @@ part-copy-end c = omega (arith, room c)
 
 copy-requires : tie.Need-copy-requires
 copy-requires c κs = let p = c .before in let k = known (asked p .before) in let a = begun k .args in
-    end-long (a .workspace .now) _ _ (yes k) (a .end) _ (place p) (a .values .now) _ (sym (judged (asked p)) ∙ ap judgementOf (p .before .before .enum-told .given .1))
+    end-long (a .workspace .now) _ _ (yes k) (a .end) _ (place p) (a .values .now) (found (p .before .before))
 
 enum-known-reason : tie.Need-enum-known-reason
 enum-known-reason c = search needs
@@ -103,16 +112,14 @@ same-length c = search needs
 
 returns : tie.Need-returns
 returns c = let p = c .before .before .before .before in let k = known (asked p .before) in let a = begun k .args in
-    end-done (a .workspace .now) _ _ (yes k) (a .end) _ (place p) (a .values .now) _
-    (end-judged _ _ _ (yes k) (a .end) (a .values .now) ∙ sym (judged (asked p)) ∙ ap judgementOf (p .before .before .enum-told .given .1)) (c .before .before .copy .ensures)
+    end-done (a .workspace .now) _ _ (yes k) (a .end) _ (place p) (a .values .now) _ (found (p .before .before)) (c .before .before .copy .ensures)
 
 same-length-2 : tie.Need-same-length-2
 same-length-2 c = search needs
 
 returns-2 : tie.Need-returns-2
-returns-2 c = let j = c .before .before .before .before in let k = known (j .before) in let a = begun k .args in
-    edit-refused (a .workspace .now) _ _ (yes k) (replaced (a .end) (a .values .now)) _ _
-    (end-judged _ _ _ (yes k) (a .end) (a .values .now) ∙ sym (judged j) ∙ ap judgementOf (c .before .before .reason .given .1)) (c .refusal .ensures)
+returns-2 c = let j = c .before .before .before .before in let k = known (j .before) in
+    edit-refused (begun k .args .workspace .now) _ _ (yes k) (edit k) _ _ (sym (judged j) ∙ ap judgementOf (c .before .before .reason .given .1)) (c .refusal .ensures)
 
 same-length-3 : tie.Need-same-length-3
 same-length-3 c = search needs

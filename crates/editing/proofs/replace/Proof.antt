@@ -38,19 +38,19 @@ judged : (c : tie.After-judge-end) → let k = known (c .before) in judgementOf 
 judged c = let k = known (c .before) in let a = begun k .args in
     c .judge-end .ensures ∙ end-judged (a .workspace .now) _ _ (yes k) _ _ (c .before .before .sizes .ensures) (c .before .pairs .ensures) (a .end) (a .values .now)
 
-found : (c : tie.After-enum-told) → let k = known (c .before .before .before) in editJudged (content k) (edit k) ≡ fine
+abbrev formed-at : tie.After-enum-told → tie.After-variables
+formed-at c = known (c .before .before .before)
+
+found : (c : tie.After-enum-told) → editJudged (content (formed-at c)) (edit (formed-at c)) ≡ fine
 found c = sym (judged (c .before .before)) ∙ ap judgementOf (c .enum-told .given .1)
 
 -- The part for the end's values has its place, and is in the workspace.
-abbrev asked : tie.After-place-of → tie.After-judge-end
-asked c = c .before .before .before .before
-
-place : (c : tie.After-place-of) → let k = known (asked c .before) in c .place-of .result ≡ endAt (begun k .args .end) (k .variables .given .0 .0)
-place c = let k = known (asked c .before) in
+place : (c : tie.After-place-of) → let k = formed-at (c .before .before) in c .place-of .result ≡ endAt (begun k .args .end) (k .variables .given .0 .0)
+place c = let k = formed-at (c .before .before) in
     c .place-of .ensures ∙ place-is (begun k .args .end) (k .variables .given .0 .0) (k .variables .given .0 .1 .0) _ (c .before .places-for .ensures)
 
-room : (c : tie.After-place-of) → let k = known (asked c .before) in c .place-of .result + k .variables .given .0 .0 ≤ length (begun k .args .workspace .now)
-room c = let k = known (asked c .before) in let a = begun k .args in end-room (a .workspace .now) _ _ (yes k) (a .end) _ (place c) (a .values .now)
+room : (c : tie.After-place-of) → let k = formed-at (c .before .before) in c .place-of .result + k .variables .given .0 .0 ≤ length (begun k .args .workspace .now)
+room c = let k = formed-at (c .before .before) in let a = begun k .args in end-room (a .workspace .now) _ _ (yes k) (a .end) _ (place c) (a .values .now)
 
 well-formed-requires : tie.Need-well-formed-requires
 well-formed-requires c κs = search needs
@@ -71,7 +71,7 @@ enum-told : tie.Need-enum-told
 enum-told c = search needs
 
 places-for-requires : tie.Need-places-for-requires
-places-for-requires c κs = let due = yes-due _ _ _ (yes (known (c .before .before .before))) in (due .variables, due .features)
+places-for-requires c κs = let due = yes-due _ _ _ (yes (formed-at c)) in (due .variables, due .features)
 
 place-of-requires : tie.Need-place-of-requires
 place-of-requires c κs = search needs
@@ -92,7 +92,7 @@ part-copy-end : tie.Need-part-copy-end
 part-copy-end c = omega (arith, room c)
 
 copy-requires : tie.Need-copy-requires
-copy-requires c κs = let p = c .before in let k = known (asked p .before) in let a = begun k .args in
+copy-requires c κs = let p = c .before in let k = formed-at (p .before .before) in let a = begun k .args in
     end-long (a .workspace .now) _ _ (yes k) (a .end) _ (place p) (a .values .now) (found (p .before .before))
 
 enum-known-reason : tie.Need-enum-known-reason
@@ -111,7 +111,7 @@ same-length : tie.Need-same-length
 same-length c = search needs
 
 returns : tie.Need-returns
-returns c = let p = c .before .before .before .before in let k = known (asked p .before) in let a = begun k .args in
+returns c = let p = c .before .before .before .before in let k = formed-at (p .before .before) in let a = begun k .args in
     end-done (a .workspace .now) _ _ (yes k) (a .end) _ (place p) (a .values .now) _ (found (p .before .before)) (c .before .before .copy .ensures)
 
 same-length-2 : tie.Need-same-length-2

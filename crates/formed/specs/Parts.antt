@@ -148,10 +148,6 @@ pub formed-count : (ws : List ℕ) → WellFormed ws → (leastVariables ≤ get
 formed-count ws f = let s = formed-sized ws f in
     (omega (arith, s .limits .variables, sized-length ws _ _ s), omega (arith, s .limits .variables, sized-length ws _ _ s), s .room)
 
-pub sizes-first : (ws : List ℕ) → sizesPart (getD ws 0 0) ws ≡ sizesIn ws
-unfolding sizesIn
-sizes-first ws = refl
-
 module _ (ws sizes : List ℕ) (q : sizes ≡ sizesIn ws) where
   pub no-sizes : (EachSize sizes (length sizes) → ⊥) → WellFormed ws → ⊥
   no-sizes d f = let s = formed-sized ws f in d (rw q (λ i l. (s .taken i l, s .limits .each i l .1)))

@@ -1,12 +1,13 @@
 -- The parts of a workspace for v variables and n features, each under one name; and that they are what is lent from one place to the next.
 use Prim.Native.Nat.{ℕ, _+_, _-_, _*_, _≤_}
-use mathlib.Core.Path.{_≡_}
+use mathlib.Core.Path.{_≡_, refl}
 use mathlib.Core.List.{List}
 use native.Mathlib.Omega.{arith}
-use lib.ListN.{length, take, drop, length-drop}
+use lib.ListN.{length, getD, take, drop, length-drop}
 use lib.Seq.{length-take-le}
 use Rattle.meaning.specs.Limits.{mostVariables, mostFeatures}
 use Rattle.meaning.specs.Workspace.{wordsFor, sizesAt, startAt, goalAt, pairsAt, slotsAt, wordsDue}
+use Rattle.theory.specs.Contents.{sizesIn}
 use Rattle.layout.specs.declared.Places.{Places}
 use Rattle.layout.specs.Places.{placesOf}
 
@@ -24,6 +25,11 @@ pairsPart v n ws = take (wordsFor n) (drop (pairsAt v) ws)
 
 abbrev pub slotsPart : ℕ → ℕ → List ℕ → List ℕ
 slotsPart v n ws = take (n * wordsFor n) (drop (slotsAt v n) ws)
+
+-- The sizes by the count that words begin with.
+pub sizes-first : (ws : List ℕ) → sizesPart (getD ws 0 0) ws ≡ sizesIn ws
+unfolding sizesIn
+sizes-first ws = refl
 
 -- All words before the slots are there, and few enough to count.
 pub record Headed (v n : ℕ) (ws : List ℕ) : Type 0 where

@@ -3,7 +3,7 @@ ghost use mathlib.Core.Path.{_≡_};
 ghost use Prim.Native.Nat.{_-_, _≤_};
 ghost use lib.ListN.{length, take, drop};
 ghost use Rattle.meaning.specs.Limits.{mostVariables, mostFeatures};
-ghost use Rattle.meaning.specs.Workspace.{wordsFor, startAt};
+ghost use Rattle.meaning.specs.Workspace.{wordsFor, startAt, goalAt};
 ghost use Rattle.layout.specs.Places.{placesOf};
 ghost use Rattle.layout.specs.Parts.{sizesPart, startPart, goalPart, pairsPart, slotsPart, Headed, Due};
 use limits::SIZES_AT;
@@ -35,6 +35,14 @@ pub fn start_at(v: usize) -> usize
     SIZES_AT + v
 }
 
+// Where the goal's values begin, behind the start's.
+pub fn goal_at(v: usize) -> usize
+    requires { ⌜ v ≤ mostVariables ⌝ }
+    ensures { λ r. ⌜ r ≡ goalAt v ⌝ }
+{
+    start_at(v) + v
+}
+
 // The places of a workspace for v variables and n features.
 pub fn places_for(v: usize, n: usize) -> Places
     requires { ⌜ (v ≤ mostVariables) × (n ≤ mostFeatures) ⌝ }
@@ -42,7 +50,7 @@ pub fn places_for(v: usize, n: usize) -> Places
 {
     let words = words_for(n);
     let start = start_at(v);
-    let goal = start + v;
+    let goal = goal_at(v);
     let pairs = goal + v;
     let slots = pairs + words;
     Places {

@@ -64,6 +64,15 @@ module _ {A : Type 0} (read : Read A) (words : A → List ℕ) where
   unfolding ReadsInto
   answer-fault reason place left e = rw e (ap (λ r. Fault r place) (sym (declared-reason reason)))
 
+-- Where the first part is not read, nothing is.
+pub unread : {A B : Type 0} (read : Read A) (rest : A → ℕ → Read B) (reason : meaning.Reason) (place : ℕ) → read ≡ fault reason place → onRead read rest ≡ fault reason place
+unread read rest reason place e = rw e
+
+pub reads-unread : {A B : Type 0} (read : Read A) (words : A → List ℕ) (rest : A → ℕ → Read B) (others : B → List ℕ) (answer : Step) (reason : Reason) (place : ℕ) (left : List ℕ)
+    → ReadsInto read words answer left → answer ≡ Fault reason place → ReadsInto (onRead read rest) others (Fault reason place) left
+reads-unread read words rest others answer reason place left h e =
+    answer-fault (onRead read rest) others reason place left (unread read rest (reasonOf reason) place (reads-fault read words answer reason place left h e))
+
 -- The words are part of others, or are told in another way.
 pub reads-put : {A : Type 0} (read : Read A) (words others : A → List ℕ) (put : List ℕ → List ℕ) (answer : Step) (left : List ℕ)
     → ((a : A) (next : ℕ) → read ≡ got a next → put (words a) ≡ others a) → ReadsInto read words answer left → ReadsInto read others answer (put left)

@@ -14,16 +14,28 @@ use Rattle.reader.specs.declared.Header.{Header}
 use Rattle.reader.specs.declared.Header.the-variants.{Got, Fault}
 use Rattle.reader.specs.Answer.{begun, featureWords}
 
--- Sizes, start and goal.
+-- Sizes and start.
+pub record Started : Type 0 where
+  pub sizes : List ℕ
+  pub start : List ℕ
+
+abbrev pub startedWith : List ℕ → List ℕ → Started
+startedWith sizes start = record { sizes = sizes; start = start }
+
+unfoldable pub startOf : Parser Started
+startOf = then (header leastSize mostSize) (λ sizes. then (valuesOf sizes) (λ start. give (startedWith sizes start)))
+
+-- With the goal.
 pub record States : Type 0 where
   pub sizes : List ℕ
   pub start : List ℕ
   pub goal : List ℕ
 
+abbrev pub statesWith : Started → List ℕ → States
+statesWith started goal = record { sizes = started .sizes; start = started .start; goal = goal }
+
 unfoldable pub statesOf : Parser States
-statesOf =
-    then (header leastSize mostSize)
-    (λ sizes. then (valuesOf sizes) (λ start. then (valuesOf sizes) (λ goal. give (record { sizes = sizes; start = start; goal = goal }))))
+statesOf = then startOf (λ started. then (valuesOf (started .sizes)) (λ goal. give (statesWith started goal)))
 
 -- With the pairs, and how many operators follow.
 pub record Front : Type 0 where
@@ -38,6 +50,9 @@ frontOf =
     (λ pairs. then number (λ count. give (record { states = states; pairs = pairs; count = count }))))
 
 -- ---- the words
+
+unfoldable pub startWords : Started → List ℕ
+startWords started = length (started .sizes) ∷ (started .sizes ++ started .start)
 
 unfoldable pub stateWords : States → List ℕ
 stateWords states = length (states .sizes) ∷ (states .sizes ++ (states .start ++ states .goal))
@@ -59,5 +74,5 @@ taskWith front operators =
 -- A task is read as its front, then as many operators as it says, and nothing follows.
 pub task-front : (bytes : List ℕ) (place : ℕ) → taskOf bytes place
     ≡ then frontOf (λ front. then (operatorsOf (front .states .sizes) (front .count)) (λ operators. then ended (λ _. give (taskWith front operators)))) bytes place
-unfolding taskOf frontOf statesOf
+unfolding taskOf frontOf statesOf startOf
 task-front bytes place = simp on-on

@@ -2,7 +2,7 @@
 use Prim.Native.Nat.{ℕ, suc, _+_, _-_, _<_, _≤_}
 use mathlib.Core.Path.{_≡_, refl, sym, ap, _∙_}
 use mathlib.Core.Bool.{Bool, true, false, cond}
-use mathlib.Core.List.{List, [], _∷_, _++_}
+use mathlib.Core.List.{List, [], _∷_, _++_, append-nil}
 use native.Mathlib.Omega.{arith}
 use native.Mathlib.Numerals.{add-one}
 use lib.ListN.{length, getD, set, take, drop, replicate, length-append, length-drop, length-set, length-replicate}
@@ -16,7 +16,6 @@ use Rattle.meaning.specs.Number.{Limit, Read, got, fault, numbersOn}
 use Rattle.meaning.specs.File.{Parser, inside, item, judge, limited, itemsOf, sizesOf, sizeList, header, featureList, ended, judgedWeights}
 use Rattle.meaning.specs.Workspace.{sizesAt, startAt}
 use Rattle.theory.specs.Parts.{item-said, sizes-said, size-list-said}
-use Rattle.theory.specs.Contents.{sizesIn}
 use Rattle.theory.specs.Flat.{take-replicate}
 use Rattle.number.specs.Answers.{placeOf}
 use Rattle.number.specs.declared.Reason.{Reason}
@@ -24,7 +23,8 @@ use Rattle.number.specs.declared.Reason.the-variants as code
 use Rattle.number.specs.declared.Step.{Step}
 use Rattle.number.specs.declared.Step.the-variants.{Next, Fault}
 use Rattle.numbering.specs.Sizes.{SmallSizes}
-use Rattle.reader.specs.Answer.{written, begun, sizedWords, ReadsInto, reads-next, reads-fault, reads-same, answer-next, answer-fault}
+use Rattle.reader.specs.After.{After, after}
+use Rattle.reader.specs.Answer.{written, begun, sizedWords, ReadsInto, reads-next, reads-unread, reads-same, answer-next, answer-fault}
 
 -- How many variables there are.
 abbrev pub countAt : Parser ℕ
@@ -34,28 +34,9 @@ countAt = item (inside leastVariables (suc mostVariables)) Limit
 abbrev pub featuresJudged : List ℕ → ℕ → ℕ → ℕ → ℕ → Read (Unit {0})
 featuresJudged bytes at v n next = cond (leb n mostFeatures) (got tt next) (fault Limit (numbersOn v bytes at))
 
--- The sizes as a part of words.
-abbrev pub sizesPart : List ℕ → List ℕ
-sizesPart words = take (sizesAt + getD words 0 0 - sizesAt) (drop sizesAt words)
-
-pub part-sizes : (words : List ℕ) → sizesPart words ≡ sizesIn words
-unfolding sizesIn
-part-sizes words = let k : sizesAt + getD words 0 0 - sizesAt ≡ getD words 0 0 = omega arith in rw k
-
--- Words that begin with sizes and their count.
-pub sizes-first : (sizes rest left : List ℕ) → left ≡ sizedWords sizes ++ rest → (getD left 0 0 ≡ length sizes) × (sizesIn left ≡ sizes)
-unfolding sizesIn
-sizes-first sizes rest left e = rw e (refl, take-at sizes rest (length sizes) refl)
-
 -- What is known once v and the sizes were read.
-pub record Sized (bytes : List ℕ) (at least most : ℕ) (old words : List ℕ) (next : ℕ) : Type 0 where
-  pub sizes : List ℕ
-  pub read : sizeList least most bytes at ≡ got sizes next
-  pub are : words ≡ begun old (sizedWords sizes)
-  pub count : getD words 0 0 ≡ length sizes
-  pub same : sizesPart words ≡ sizes
-  pub few : length sizes ≤ mostVariables
-  pub small : most ≤ mostSize → SmallSizes (sizesPart words)
+abbrev pub Sized : List ℕ → ℕ → ℕ → ℕ → List ℕ → List ℕ → ℕ → Type 0
+Sized bytes at least most = After (sizeList least most bytes at) (λ sizes. (length sizes ≤ mostVariables) × (most ≤ mostSize → SmallSizes sizes)) (λ sizes. sizes) sizedWords
 
 -- ---- v and the sizes
 
@@ -126,39 +107,19 @@ module _ (bytes : List ℕ) (at least most : ℕ) where
 
   pub sizes-known : (old : List ℕ) (answer : Step) (words : List ℕ) (next : ℕ) → ReadsInto (sizeList least most bytes at) (λ sizes. begun old (sizedWords sizes)) answer words
       → answer ≡ Next next → Sized bytes at least most old words next
-  sizes-known old answer words next read e = known (reads-next (sizeList least most bytes at) (λ sizes. begun old (sizedWords sizes)) answer next words read e)
-    where
-      known : (sizes : List ℕ) × (sizeList least most bytes at ≡ got sizes next) × (words ≡ begun old (sizedWords sizes)) → Sized bytes at least most old words next
-      known (sizes, r, w) =
-          let (first, part) = sizes-first sizes (drop (length (sizedWords sizes)) old) words w in
-          let said = size-list-said bytes least most .gives at sizes next r .known in
-          let same : sizesPart words ≡ sizes = part-sizes words ∙ part in
-          record {
-            sizes = sizes;
-            read = r;
-            are = w;
-            count = first;
-            same = same;
-            few = said .1;
-            small = λ h. rw same (record { few = said .1; small = λ i l. omega (arith, said .2 i l) });
-          }
+  sizes-known old answer words next = after (sizeList least most bytes at) _ (λ sizes. sizes) sizedWords (λ sizes. ([], sym (append-nil (sizedWords sizes)))) old answer words next
+      (λ sizes r. let said = size-list-said bytes least most .gives at sizes next r .known in
+      (said .1, λ h. record { few = said .1; small = λ i l. omega (arith, said .2 i l) }))
 
-  pub sizes-unread : (reason : meaning.Reason) (place : ℕ) → sizeList least most bytes at ≡ fault reason place → header least most bytes at ≡ fault reason place
-  unfolding header limited
-  sizes-unread reason place e = rw e
-
-  pub sizes-judged : (old words : List ℕ) (next n : ℕ) (answer : Step) → Sized bytes at least most old words next → n ≡ features (sizesPart words)
+  pub sizes-judged : (old words : List ℕ) (next n : ℕ) (answer : Step) (known : Sized bytes at least most old words next) → n ≡ features (known .value)
       → answer ≡ placeOf (featuresJudged bytes at (getD words 0 0) n next) → ReadsInto (header least most bytes at) (λ sizes. begun old (sizedWords sizes)) answer words
   unfolding ReadsInto header limited
-  sizes-judged old words next n answer known total told = rw told (by (leb (features (known .sizes)) mostFeatures) refl)
+  sizes-judged old words next n answer known total told = rw told (by (leb (features (known .value)) mostFeatures) refl)
     where
-      judged : leb n mostFeatures ≡ leb (features (known .sizes)) mostFeatures
-      judged = rw (total, known .same)
-
-      by : (b : Bool) → leb (features (known .sizes)) mostFeatures ≡ b
+      by : (b : Bool) → leb (features (known .value)) mostFeatures ≡ b
           → ReadsInto (header least most bytes at) (λ sizes. begun old (sizedWords sizes)) (placeOf (featuresJudged bytes at (getD words 0 0) n next)) words
-      by true e = rw (judged, known .read, e) (refl, known .are)
-      by false e = rw (judged, known .read, e, known .count) refl
+      by true e = rw (total, known .is, e) (refl, known .are)
+      by false e = rw (total, known .is, e, known .count) refl
 
 -- ---- the end of a weight file
 
@@ -170,7 +131,7 @@ weights-ended n bytes weights next e h = rw (e, le-leb (length bytes) next h)
 module _ (n : ℕ) (bytes : List ℕ) (words : List ℕ → List ℕ) (answer : Step) (left : List ℕ) (read : ReadsInto (featureList 0 n bytes 0) words answer left) where
   pub weights-fault : (reason : Reason) (place : ℕ) → answer ≡ Fault reason place → ReadsInto (judgedWeights n bytes) words (Fault reason place) left
   unfolding judgedWeights
-  weights-fault reason place e = answer-fault (judgedWeights n bytes) words reason place left (rw (reads-fault (featureList 0 n bytes 0) words answer reason place left read e))
+  weights-fault reason place e = reads-unread (featureList 0 n bytes 0) words _ words answer reason place left read e
 
   module _ (next : ℕ) (e : answer ≡ Next next) where
     pub weights-over : next < length bytes → ReadsInto (judgedWeights n bytes) words (Fault code.LeftOver next) left

@@ -1,4 +1,5 @@
 pub mod Answer
+pub mod After
 pub mod Lists
 pub mod Features
 pub mod Header

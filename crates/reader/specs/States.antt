@@ -1,110 +1,86 @@
--- Sizes, start and goal as the code reads them: what is known after each of the three.
+-- Sizes, start and goal as the code reads them: what is known after each of the three, and each state is read behind what was read before it.
 use Prim.Native.Nat.{ℕ}
-use mathlib.Core.Path.{_≡_, sym, ap, _∙_}
-use mathlib.Core.List.{List, _++_, append-assoc}
+use mathlib.Core.Path.{_≡_, refl, sym, ap, _∙_}
+use mathlib.Core.List.{List, [], _++_, append-nil, append-assoc}
 use native.Mathlib.Omega.{arith}
-use lib.ListN.{length, getD, take, drop, length-append}
-use lib.Seq.{take-at, drop-at, drop-drop}
+use lib.ListN.{length, getD, length-append}
 use Rattle.meaning.specs.Limits.{leastSize, mostSize}
-use Rattle.meaning.specs.Number as meaning
-use Rattle.meaning.specs.Number.{got, fault}
-use Rattle.meaning.specs.File.{give, then, header, valuesOf, InLimits}
-use Rattle.meaning.specs.Workspace.{sizesAt, startAt, goalAt}
+use Rattle.meaning.specs.Task.{State}
+use Rattle.meaning.specs.File.{Parser, give, then, header, valuesOf, InLimits}
+use Rattle.meaning.specs.Workspace.{startAt, goalAt, pairsAt}
+use Rattle.theory.specs.Spent.{Gives, gives-then, gives-map}
 use Rattle.theory.specs.Parts.{header-said, values-said}
 use Rattle.theory.specs.Contents.{sizesIn}
 use Rattle.number.specs.declared.Step.{Step}
 use Rattle.number.specs.declared.Step.the-variants.{Next}
-use Rattle.reader.specs.Answer.{written, begun, sizedWords, ReadsInto, reads-next, reads-map}
-use Rattle.reader.specs.Header.{sizes-first}
-use Rattle.reader.specs.Front.{States, statesOf, stateWords}
+use Rattle.reader.specs.Answer.{written, begun, sizedWords, ReadsInto, reads-map}
+use Rattle.reader.specs.After.{After, after, begun-more}
+use Rattle.reader.specs.Front.{startedWith, startOf, startWords, statesWith, statesOf, stateWords}
 
--- ---- words written one part after another
+-- ---- what is read
 
-pub begun-more : (words front values : List ℕ) (at : ℕ) → length front ≡ at → written (begun words front) at values ≡ begun words (front ++ values)
-begun-more words front values at e =
-    rw (take-at front (drop (length front) words) at e, ← drop-drop (length values) at (begun words front), drop-at front (drop (length front) words) at e) (
-    rw (drop-drop (length values) (length front) words, length-append front values) (sym (append-assoc front values _)))
+start-said : (bytes : List ℕ) → Gives bytes startOf (λ started l. InLimits (started .sizes) × State (started .sizes) (started .start))
+unfolding startOf
+start-said bytes = gives-then _ _ (header-said bytes) (λ sizes l h. gives-map (startedWith sizes) _ (values-said bytes sizes) (λ start m g. (h .0, g .0)))
+
+pub states-said : (bytes : List ℕ)
+    → Gives bytes statesOf (λ states l. InLimits (states .sizes) × State (states .sizes) (states .start) × State (states .sizes) (states .goal))
+unfolding statesOf
+states-said bytes = gives-then _ _ (start-said bytes) (λ started l h. gives-map (statesWith started) _ (values-said bytes (started .sizes)) (λ goal m g. (h .0, h .1, g .0)))
+
+-- ---- a state behind what was read before it
+
+-- Sizes within the limits, and words that end where the next part begins.
+abbrev pub Ends : {A : Type 0} → (A → List ℕ) → (A → List ℕ) → (ℕ → ℕ) → A → Type 0
+Ends sizes words at a = InLimits (sizes a) × (length (words a) ≡ at (length (sizes a)))
+
+module _ {A B : Type 0} (first : Parser A) (sizes words : A → List ℕ) (at : ℕ → ℕ) (made : A → List ℕ → B) (others : B → List ℕ)
+    (are : (a : A) (state : List ℕ) → words a ++ state ≡ others (made a state)) where
+  state-behind : (bytes : List ℕ) (from : ℕ) (old new : List ℕ) (next : ℕ) → After (first bytes from) (Ends sizes words at) sizes words old new next
+      → (answer : Step) (left : List ℕ) → ReadsInto (valuesOf (sizesIn new) bytes next) (written new (at (getD new 0 0))) answer left
+      → ReadsInto (then first (λ a. then (valuesOf (sizes a)) (λ state. give (made a state))) bytes from) (λ b. begun old (others b)) answer left
+  state-behind bytes from old new next known answer left read =
+      rw (known .is) (
+      reads-map (valuesOf (sizes (known .value)) bytes next) (written new (at (getD new 0 0))) (made (known .value)) (λ b. begun old (others b)) answer left
+      (λ state after r. rw (known .count, known .are) (begun-more old (words (known .value)) state _ (known .known .1)) ∙ ap (begun old) (are (known .value) state))
+      (rw (known .same) at read))
 
 -- ---- after each part
 
-abbrev pub statesWith : List ℕ → List ℕ → List ℕ → States
-statesWith sizes start goal = record { sizes = sizes; start = start; goal = goal }
+module _ (bytes : List ℕ) (from : ℕ) (old : List ℕ) where
+  abbrev pub AfterSizes : List ℕ → ℕ → Type 0
+  AfterSizes = After (header leastSize mostSize bytes from) (Ends (λ sizes. sizes) sizedWords startAt) (λ sizes. sizes) sizedWords old
 
--- After the sizes; `left` are the words then.
-pub record AfterSizes (bytes : List ℕ) (at : ℕ) (words left : List ℕ) (next : ℕ) : Type 0 where
-  pub sizes : List ℕ
-  pub limits : InLimits sizes
-  pub are : left ≡ begun words (sizedWords sizes)
-  pub count : getD left 0 0 ≡ length sizes
-  pub same : sizesIn left ≡ sizes
-  pub rest : statesOf bytes at ≡ then (valuesOf sizes) (λ start. then (valuesOf sizes) (λ goal. give (statesWith sizes start goal))) bytes next
+  abbrev pub AfterStart : List ℕ → ℕ → Type 0
+  AfterStart = After (startOf bytes from) (Ends (λ started. started .sizes) startWords goalAt) (λ started. started .sizes) startWords old
 
--- After the start, of v variables.
-pub record AfterStart (bytes : List ℕ) (at : ℕ) (words left : List ℕ) (v next : ℕ) : Type 0 where
-  pub sizes : List ℕ
-  pub start : List ℕ
-  pub limits : InLimits sizes
-  pub full : length start ≡ length sizes
-  pub are : left ≡ begun words (sizedWords sizes ++ start)
-  pub many : length sizes ≡ v
-  pub count : getD left 0 0 ≡ v
-  pub same : sizesIn left ≡ sizes
-  pub rest : statesOf bytes at ≡ then (valuesOf sizes) (λ goal. give (statesWith sizes start goal)) bytes next
+  abbrev pub AfterGoal : List ℕ → ℕ → Type 0
+  AfterGoal = After (statesOf bytes from) (Ends (λ states. states .sizes) stateWords pairsAt) (λ states. states .sizes) stateWords old
 
-module _ (bytes : List ℕ) (at : ℕ) (words : List ℕ) where
-  pub header-unread : (reason : meaning.Reason) (place : ℕ) → header leastSize mostSize bytes at ≡ fault reason place → statesOf bytes at ≡ fault reason place
-  unfolding statesOf
-  header-unread reason place e = rw e
+  module _ (answer : Step) (left : List ℕ) (next : ℕ) where
+    pub after-header : ReadsInto (header leastSize mostSize bytes from) (λ sizes. begun old (sizedWords sizes)) answer left → answer ≡ Next next → AfterSizes left next
+    after-header = after _ _ _ sizedWords (λ sizes. ([], sym (append-nil (sizedWords sizes)))) old answer left next
+        (λ sizes r. (header-said bytes .gives from sizes next r .known .0, omega arith))
 
-  pub after-sizes : (answer : Step) (left : List ℕ) (next : ℕ) → ReadsInto (header leastSize mostSize bytes at) (λ sizes. begun words (sizedWords sizes)) answer left
-      → answer ≡ Next next
-      → AfterSizes bytes at words left next
-  unfolding statesOf
-  after-sizes answer left next read e = known (reads-next (header leastSize mostSize bytes at) (λ sizes. begun words (sizedWords sizes)) answer next left read e)
-    where
-      known : (sizes : List ℕ) × (header leastSize mostSize bytes at ≡ got sizes next) × (left ≡ begun words (sizedWords sizes)) → AfterSizes bytes at words left next
-      known (sizes, r, w) =
-          let first = sizes-first sizes (drop (length (sizedWords sizes)) words) left w in
-          record { sizes = sizes; limits = header-said bytes .gives at sizes next r .known .0; are = w; count = first .0; same = first .1; rest = rw r }
+    pub after-start : ReadsInto (startOf bytes from) (λ started. begun old (startWords started)) answer left → answer ≡ Next next → AfterStart left next
+    unfolding startWords
+    after-start = after _ _ _ startWords (λ started. (started .start, refl)) old answer left next
+        (λ started r. let said = start-said bytes .gives from started next r .known in (said .0, omega (arith, length-append (started .sizes) (started .start), said .1 .full)))
 
-  module _ (old : List ℕ) (next : ℕ) (known : AfterSizes bytes at words old next) where
-    pub start-unread : (reason : meaning.Reason) (place : ℕ) → valuesOf (sizesIn old) bytes next ≡ fault reason place → statesOf bytes at ≡ fault reason place
-    start-unread reason place e = known .rest ∙ rw (rw (known .same) at e)
+    pub after-goal : ReadsInto (statesOf bytes from) (λ states. begun old (stateWords states)) answer left → answer ≡ Next next → AfterGoal left next
+    unfolding stateWords
+    after-goal = after _ _ _ stateWords (λ states. (states .start ++ states .goal, refl)) old answer left next
+        (λ states r. let said = states-said bytes .gives from states next r .known in
+        (said .0, omega (arith, length-append (states .sizes) (states .start ++ states .goal), length-append (states .start) (states .goal), said .1 .full, said .2 .full)))
 
-    pub after-start : (answer : Step) (left : List ℕ) (after : ℕ) → ReadsInto (valuesOf (sizesIn old) bytes next) (written old (startAt (getD old 0 0))) answer left
-        → answer ≡ Next after → AfterStart bytes at words left (getD old 0 0) after
-    after-start answer left after read e =
-        begin (reads-next (valuesOf (sizesIn old) bytes next) (written old (startAt (getD old 0 0))) answer after left read e)
-      where
-        begin : (start : List ℕ) × (valuesOf (sizesIn old) bytes next ≡ got start after) × (left ≡ written old (startAt (getD old 0 0)) start)
-            → AfterStart bytes at words left (getD old 0 0) after
-        begin (start, r, w) =
-            let read : valuesOf (known .sizes) bytes next ≡ got start after = rw (known .same) at r in
-            let are : left ≡ begun words (sizedWords (known .sizes) ++ start)
-            = w ∙ rw (known .count, known .are) (begun-more words (sizedWords (known .sizes)) start (startAt (length (known .sizes))) (omega arith)) in
-            let first = sizes-first (known .sizes) _ left (are ∙ append-assoc (sizedWords (known .sizes)) start _) in
-            record {
-              sizes = known .sizes;
-              start = start;
-              limits = known .limits;
-              full = values-said bytes (known .sizes) .gives next start after read .known .0 .full;
-              are = are;
-              many = sym (known .count);
-              count = first .0 ∙ sym (known .count);
-              same = first .1;
-              rest = known .rest ∙ rw read;
-            }
+  module _ (new : List ℕ) (next : ℕ) where
+    pub start-behind : AfterSizes new next → (answer : Step) (left : List ℕ) → ReadsInto (valuesOf (sizesIn new) bytes next) (written new (startAt (getD new 0 0))) answer left
+        → ReadsInto (startOf bytes from) (λ started. begun old (startWords started)) answer left
+    unfolding startOf startWords
+    start-behind = state-behind (header leastSize mostSize) (λ sizes. sizes) sizedWords startAt startedWith startWords (λ sizes start. refl) bytes from old new next
 
-  pub after-goal : (old : List ℕ) (v next : ℕ) (answer : Step) (left : List ℕ) → AfterStart bytes at words old v next
-      → ReadsInto (valuesOf (take v (drop sizesAt old)) bytes next) (written old (goalAt v)) answer left
-      → ReadsInto (statesOf bytes at) (λ states. begun words (stateWords states)) answer left
-  unfolding stateWords sizesIn
-  after-goal old v next answer left known read =
-      let sizes = known .sizes in
-      let start = known .start in
-      let same : take v (drop sizesAt old) ≡ sizes = ap (λ k. take k (drop sizesAt old)) (sym (known .count)) ∙ known .same in
-      let front : length (sizedWords sizes ++ start) ≡ goalAt v = omega (arith, length-append (sizedWords sizes) start, known .full, known .many) in
-      rw (known .rest) (
-      reads-map (valuesOf sizes bytes next) (written old (goalAt v)) (statesWith sizes start) (λ states. begun words (stateWords states)) answer left
-      (λ goal after r. rw (known .are) (begun-more words (sizedWords sizes ++ start) goal (goalAt v) front) ∙ ap (begun words) (append-assoc (sizedWords sizes) start goal))
-      (rw same at read))
+    pub goal-behind : AfterStart new next → (answer : Step) (left : List ℕ) → ReadsInto (valuesOf (sizesIn new) bytes next) (written new (goalAt (getD new 0 0))) answer left
+        → ReadsInto (statesOf bytes from) (λ states. begun old (stateWords states)) answer left
+    unfolding statesOf startWords stateWords
+    goal-behind = state-behind startOf (λ started. started .sizes) startWords goalAt statesWith stateWords
+        (λ started goal. append-assoc (sizedWords (started .sizes)) (started .start) goal) bytes from old new next

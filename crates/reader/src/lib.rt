@@ -4,7 +4,7 @@ ghost use Prim.Native.Nat.{_+_, _*_, _≤_};
 ghost use lib.ListN.{length, getD, take, drop, replicate};
 ghost use Rattle.meaning.specs.Limits.{wordBits, mostVariables, mostSize, mostFeatures};
 ghost use Rattle.meaning.specs.File.{header as headerOf, itemsOf, sizeList, featuresOf, featureList, judgedWeights};
-ghost use Rattle.meaning.specs.Workspace.{startAt, pairsAt, slotsAt, wordsFor};
+ghost use Rattle.meaning.specs.Workspace.{startAt, goalAt, pairsAt, slotsAt, wordsFor};
 ghost use Rattle.meaning.specs.Feature.{atoms};
 ghost use Rattle.theory.specs.Contents.{sizesIn};
 ghost use Rattle.number.specs.Answers.{reasonOf, placeOf};
@@ -12,7 +12,7 @@ ghost use Rattle.reader.specs.Lists.{Apart};
 ghost use Rattle.reader.specs.Header.{featuresJudged};
 ghost use Rattle.reader.specs.Answer.{written, featureWords, begun, sizedWords, ReadsInto};
 ghost use Rattle.words.specs.Toggled.{toggledAll};
-ghost use Rattle.reader.specs.Front.{statesOf, stateWords, frontOf, HeaderInto};
+ghost use Rattle.reader.specs.Front.{startOf, statesOf, startWords, stateWords, frontOf, HeaderInto};
 ghost use Rattle.reader.specs.Pairs.{Cleared};
 use limits::LEAST_SIZE;
 use limits::LEAST_VARIABLES;
@@ -23,7 +23,6 @@ use limits::SIZES_AT;
 use number::Number;
 use number::Reason;
 use number::Step;
-use words::WORD_BITS;
 
 // What stands before the operators of a task file: how many variables, features and operators there are, and the place after it; or the
 // first fault.
@@ -119,8 +118,23 @@ fn read_limited(bytes: &[u8], at: usize, header: &mut [u64], least: usize, most:
     match read_sizes(bytes, at, &mut *header, least, most) {
         Step::Next(next) => {
             let v = header[0] as usize;
-            let n = numbering::features(&header[SIZES_AT..SIZES_AT + v]);
+            let n = numbering::features(layout::sizes(header, v));
             judge_features(bytes, at, v, n, next)
+        }
+        Step::Fault(reason, place) => Step::Fault(reason, place),
+    }
+}
+
+// Reads sizes and start.
+fn read_start(bytes: &[u8], at: usize, header: &mut [u64]) -> Step
+    requires { ⌜ goalAt mostVariables ≤ length (now header) ⌝ }
+    ensures { λ r. ⌜ ReadsInto (startOf (now (bytes .entry)) at) (λ started. begun (now (header .entry)) (startWords started)) r (now (header .exit)) ⌝ }
+{
+    match read_limited(bytes, at, &mut *header, LEAST_SIZE, MOST_SIZE) {
+        Step::Next(next) => {
+            let v = header[0] as usize;
+            let to = layout::start_at(v);
+            items_at(bytes, next, header, SIZES_AT, to, v, 0, Reason::Range)
         }
         Step::Fault(reason, place) => Step::Fault(reason, place),
     }
@@ -131,31 +145,11 @@ fn read_states(bytes: &[u8], at: usize, header: &mut [u64]) -> Step
     requires { ⌜ pairsAt mostVariables ≤ length (now header) ⌝ }
     ensures { λ r. ⌜ ReadsInto (statesOf (now (bytes .entry)) at) (λ states. begun (now (header .entry)) (stateWords states)) r (now (header .exit)) ⌝ }
 {
-    match read_limited(bytes, at, &mut *header, LEAST_SIZE, MOST_SIZE) {
+    match read_start(bytes, at, &mut *header) {
         Step::Next(next) => {
             let v = header[0] as usize;
-            match items_at(
-                bytes,
-                next,
-                &mut *header,
-                SIZES_AT,
-                SIZES_AT + v,
-                v,
-                0,
-                Reason::Range,
-            ) {
-                Step::Next(after) => items_at(
-                    bytes,
-                    after,
-                    &mut *header,
-                    SIZES_AT,
-                    SIZES_AT + v + v,
-                    v,
-                    0,
-                    Reason::Range,
-                ),
-                Step::Fault(reason, place) => Step::Fault(reason, place),
-            }
+            let to = layout::goal_at(v);
+            items_at(bytes, next, header, SIZES_AT, to, v, 0, Reason::Range)
         }
         Step::Fault(reason, place) => Step::Fault(reason, place),
     }
@@ -209,10 +203,11 @@ fn read_pairs(bytes: &[u8], at: usize, header: &mut [u64], n: usize) -> Step
     ensures { λ r. ⌜ ReadsInto (featureList (atoms (sizesIn (now (header .entry)))) n (now (bytes .entry)) at) (λ pairs. written (now (header .entry)) (pairsAt (getD (now (header .entry)) 0 0)) (featureWords n pairs)) r (now (header .exit)) ⌝ }
 {
     let v = header[0] as usize;
-    let low = numbering::atoms(&header[SIZES_AT..SIZES_AT + v]);
-    let start = SIZES_AT + v + v + v;
-    let end = start + (n + (WORD_BITS - 1)) / WORD_BITS;
-    read_features(bytes, at, low, n, &mut header[start..end])
+    let low = numbering::atoms(layout::sizes(header, v));
+    let places = layout::places_for(v, n);
+    let pairs = places.pairs;
+    let slots = places.slots;
+    read_features(bytes, at, low, n, &mut header[pairs..slots])
 }
 
 // Reads a whole weight file of a task with n features into words that hold none yet.
@@ -239,7 +234,7 @@ pub fn read_header(bytes: &[u8], at: usize, header: &mut [u64]) -> Header
     match read_states(bytes, at, &mut *header) {
         Step::Next(next) => {
             let v = header[0] as usize;
-            let n = numbering::features(&header[SIZES_AT..SIZES_AT + v]);
+            let n = numbering::features(layout::sizes(header, v));
             match read_pairs(bytes, next, &mut *header, n) {
                 Step::Next(after) => match number::number_at(bytes, after) {
                     Number::Got(operators, last) => Header::Got {

@@ -18,12 +18,12 @@ use Rattle.theory.specs.Run.{run-in}
 use Rattle.theory.specs.Truth.{on, off, test}
 use Rattle.theory.specs.Words.{length-packed, packed-holds}
 use Rattle.theory.specs.Spent.{Gives, gives-then, gives-map}
-use Rattle.theory.specs.Parts.{header-said, values-said, feature-list-said, number-said}
+use Rattle.theory.specs.Parts.{feature-list-said, number-said}
 use Rattle.layout.specs.Parts as layout
 use Rattle.layout.specs.Parts.{sizesPart, startPart, goalPart, pairsPart}
 use Rattle.reader.specs.Answer.{begun, featureWords}
-use Rattle.reader.specs.Front.{Front, statesOf, frontOf, stateWords, frontWords, taskWith}
-use Rattle.reader.specs.States.{statesWith}
+use Rattle.reader.specs.Front.{Front, frontOf, stateWords, frontWords, taskWith}
+use Rattle.reader.specs.States.{states-said}
 use Rattle.pairs.specs.Ready.{Listed}
 
 -- "v; v sizes; v start values; v goal values; W words of listed pairs".
@@ -109,10 +109,8 @@ module _ (T : Task) (known : Headed T) where
 -- ---- a front that was read
 
 front-said : (bytes : List ℕ) → Gives bytes frontOf (λ front l. Headed (taskWith front []))
-unfolding frontOf statesOf
-front-said bytes = gives-then _ _
-    (gives-then _ (λ states l. InLimits (states .sizes) × State (states .sizes) (states .start) × State (states .sizes) (states .goal)) (header-said bytes) (λ sizes l h.
-    gives-then _ _ (values-said bytes sizes) (λ start m g. gives-map (statesWith sizes start) _ (values-said bytes sizes) (λ goal k r. (h .0, g .0, r .0)))))
+unfolding frontOf
+front-said bytes = gives-then _ _ (states-said bytes)
     (λ states l s. gives-then _ _ (feature-list-said bytes (atoms (states .sizes)) (features (states .sizes)) (atoms-room (states .sizes))) (λ pairs m p.
     gives-map (λ count. record { states = states; pairs = pairs; count = count }) _ (number-said bytes) (λ count k c. record { limits = s .0; start = s .1; goal = s .2; pairs = p .0 })))
 

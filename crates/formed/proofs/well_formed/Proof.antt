@@ -5,7 +5,8 @@ use borrow.Author.Needs.{needs}
 use borrow.Author.Tests.{not-true, not-false}
 use Rattle.theory.specs.Tells.{tells-no}
 use Rattle.theory.specs.Contents.{sizesIn}
-use Rattle.formed.specs.Parts.{formed-count, sizes-first, no-sizes, no-total, sizes-small, sizes-sized}
+use Rattle.layout.specs.Parts.{sizes-first}
+use Rattle.formed.specs.Parts.{formed-count, no-sizes, no-total, sizes-small, sizes-sized}
 use Rattle.formed.specs.Formed.{formed-no, formed-yes}
 use Rattle.formed.proofs.well_formed.Statement.{statement}
 use Rattle.formed.proofs.well_formed.Tie as tie

@@ -37,11 +37,7 @@ toggle-requires c κs = omega (
 )
 
 add-least : tie.Need-add-least Inv-loop μ-loop
-add-least c = omega (
-  arith,
-  feature-below _ _ _ _ _ _ _ (sym (c .before .before .before .before .before .before .before .rising-at .ensures) ∙ ap numberOf
-      (c .before .before .before .before .before .feature .given .1)),
-)
+add-least c = let t = c .before .before .before .before .before in omega (arith, feature-below _ _ _ _ _ _ _ (sym (t .before .before .rising-at .ensures) ∙ ap numberOf (t .feature .given .1)))
 
 enum-known-reason : tie.Need-enum-known-reason Inv-loop μ-loop
 enum-known-reason c = search needs
@@ -60,13 +56,11 @@ loop-less : tie.Need-loop-less Inv-loop μ-loop
 loop-less c = omega arith
 
 loop-again : tie.Need-loop-again Inv-loop μ-loop
-loop-again c = (
+loop-again c = let t = c .before .before .before .before .before in (
   omega arith,
   omega arith,
   rw (c .before .before .toggle .ensures)
-      (c .before .before .before .before .before .before .before .before .before .loop .inv .2 ∙ features-more _ _ _ _ _ _ _ _ _ _
-      (c .before .before .before .before .before .before .before .before .loop-test .taken)
-      (sym (c .before .before .before .before .before .before .before .rising-at .ensures) ∙ ap numberOf (c .before .before .before .before .before .feature .given .1))),
+      (t .before .before .before .before .loop .inv .2 ∙ features-more _ _ _ _ _ _ _ _ _ _ (t .before .before .before .loop-test .taken) (sym (t .before .before .rising-at .ensures) ∙ ap numberOf (t .feature .given .1))),
 )
 
 same-length-2 : tie.Need-same-length-2 Inv-loop μ-loop

@@ -11,6 +11,10 @@ use borrow.Author.Needs.{needs}
 use Rattle.reader.proofs.read_features.Statement.{statement}
 use Rattle.reader.proofs.read_features.Tie as tie
 
+-- What the call began with, from the count that was read.
+abbrev start : tie.After-count → tie.Start
+start c = c .before .before .before .before .before
+
 number-at-requires : tie.Need-number-at-requires
 number-at-requires c κs = search needs
 
@@ -18,12 +22,7 @@ enum-known-count : tie.Need-enum-known-count
 enum-known-count c = search needs
 
 features-at-requires : tie.Need-features-at-requires
-features-at-requires c κs = omega (
-  arith,
-  ap length (c .before .before .before .before .before .before .before .pre .1),
-  length-replicate {A = ℕ}
-      (wordsFor (c .before .before .before .before .before .before .before .args .high)) 0,
-)
+features-at-requires c κs = let s = start (c .before .before) in omega (arith, ap length (s .pre .1), length-replicate {A = ℕ} (wordsFor (s .args .high)) 0)
 
 enum-known-reason : tie.Need-enum-known-reason
 enum-known-reason c = search needs
@@ -32,10 +31,8 @@ same-length : tie.Need-same-length
 same-length c = search needs
 
 returns : tie.Need-returns
-returns c = list-read _ _ _ _ _ _ _ _ _ (c .before .before .before .before .before .before .before .before .before .before .pre .0)
-    (c .before .before .before .before .before .before .before .before .before .before .pre .1)
-    (sym (c .before .before .before .before .before .before .before .number-at .ensures) ∙ ap numberOf (c .before .before .before .before .before .count .given .1))
-    (c .before .before .features-at .ensures)
+returns c = let t = c .before .before .before .before .before in
+    list-read _ _ _ _ _ _ _ _ _ (start t .pre .0) (start t .pre .1) (sym (t .before .before .number-at .ensures) ∙ ap numberOf (t .count .given .1)) (c .before .before .features-at .ensures)
 
 returns-2 : tie.Need-returns-2
 returns-2 c = answer-fault _ _ _ _ _ (list-fault _ _ _ _ _ _ (sym (c .before .before .before .number-at .ensures) ∙ ap numberOf (c .before .reason .given .1)))

@@ -1,10 +1,15 @@
 -- `read_limited` meets its contract: what is known after the sizes, and then N is judged.
 use Prim.Native.Nat.{_≤_}
+use mathlib.Core.Path.{sym, ap, subst, _∙_}
 use native.Mathlib.Omega.{arith}
 use lib.ListN.{getD}
 use Rattle.meaning.specs.Limits.{mostVariables}
-use Rattle.reader.specs.Answer.{answer-fault, reads-fault}
-use Rattle.reader.specs.Header.{Sized, sizes-known, sizes-unread, sizes-judged}
+use Rattle.meaning.specs.Feature.{features}
+use Rattle.meaning.specs.File.{header, limited}
+use Rattle.numbering.specs.Sizes.{SmallSizes}
+use Rattle.reader.specs.Answer.{reads-unread}
+use Rattle.reader.specs.After.{after-sizes}
+use Rattle.reader.specs.Header.{Sized, sizes-known, sizes-judged}
 use borrow.Author.Needs.{needs}
 use Rattle.reader.proofs.read_limited.Statement.{statement}
 use Rattle.reader.proofs.read_limited.Tie as tie
@@ -19,7 +24,7 @@ sized : (c : tie.After-next) → let a = start c .args in
 sized c = sizes-known _ _ _ _ _ _ _ _ (c .before .before .before .before .read-sizes .ensures) (c .next .given .1)
 
 few : (c : tie.After-next) → getD (c .before .before .before .before .read-sizes .last .1 .1 .0) 0 0 ≤ mostVariables
-few c = omega (arith, sized c .count, sized c .few)
+few c = omega (arith, sized c .count, sized c .known .0)
 
 read-sizes-requires : tie.Need-read-sizes-requires
 read-sizes-requires c κs = search needs
@@ -30,20 +35,11 @@ enum-known-next c = search needs
 slice-read-v : tie.Need-slice-read-v
 slice-read-v c = search needs
 
-add-features : tie.Need-add-features
-add-features c = omega (arith, few (c .before .before))
-
-sub-features : tie.Need-sub-features
-sub-features c = search needs
-
-part-features-start : tie.Need-part-features-start
-part-features-start c = search needs
-
-part-features-end : tie.Need-part-features-end
-part-features-end c = omega (arith, few (c .before .before .before))
+sizes-requires : tie.Need-sizes-requires
+sizes-requires c κs = let k = few (c .before .before .before) in (k, omega (arith, k))
 
 features-requires : tie.Need-features-requires
-features-requires c κs = sized (c .before .before .before .before) .small (start (c .before .before .before .before) .pre .1)
+features-requires c κs = let s = c .before .before .before .before in subst SmallSizes (sym (after-sizes (sized s) (c .sizes .ensures))) (sized s .known .1 (start s .pre .1))
 
 judge-features-requires : tie.Need-judge-features-requires
 judge-features-requires c κs = search needs
@@ -56,13 +52,14 @@ same-length c = search needs
 
 returns : tie.Need-returns
 returns c = let s = c .before .before .before .before .before .before in
-    sizes-judged _ _ _ _ _ _ _ _ _ (sized s) (c .before .features .ensures) (c .judge-features .ensures)
+    sizes-judged _ _ _ _ _ _ _ _ _ (sized s) (c .before .features .ensures ∙ ap features (after-sizes (sized s) (c .before .before .sizes .ensures))) (c .judge-features .ensures)
 
 same-length-2 : tie.Need-same-length-2
 same-length-2 c = search needs
 
 returns-2 : tie.Need-returns-2
-returns-2 c = answer-fault _ _ _ _ _ (sizes-unread _ _ _ _ _ _ (reads-fault _ _ _ _ _ _ (c .before .before .before .before .before .read-sizes .ensures) (c .before .reason .given .1)))
+unfolding header limited
+returns-2 c = reads-unread _ _ _ _ _ _ _ _ (c .before .before .before .before .before .read-sizes .ensures) (c .before .reason .given .1)
 
 pub read-limited-spec : {M : Type 1} → statement M
 read-limited-spec =
@@ -71,10 +68,7 @@ read-limited-spec =
     read-sizes-requires
     enum-known-next
     slice-read-v
-    add-features
-    sub-features
-    part-features-start
-    part-features-end
+    sizes-requires
     features-requires
     judge-features-requires
     enum-known-reason

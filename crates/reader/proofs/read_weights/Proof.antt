@@ -14,7 +14,7 @@ same-length : tie.Need-same-length
 same-length c = search needs
 
 returns : tie.Need-returns
-returns c = weights-over _ _ _ _ _ (c .before .before .before .before .before .before .read-features .ensures) _ (c .before .before .next .given .1) (c .if1 .taken)
+returns c = let t = c .before .before in weights-over _ _ _ _ _ (t .before .before .before .before .read-features .ensures) _ (t .next .given .1) (c .if1 .taken)
 
 enum-known-reason : tie.Need-enum-known-reason
 enum-known-reason c = search needs
@@ -23,7 +23,7 @@ same-length-2 : tie.Need-same-length-2
 same-length-2 c = search needs
 
 returns-2 : tie.Need-returns-2
-returns-2 c = weights-read _ _ _ _ _ (c .before .before .before .before .before .before .read-features .ensures) _ (c .before .before .next .given .1) (c .if1 .left)
+returns-2 c = let t = c .before .before in weights-read _ _ _ _ _ (t .before .before .before .before .read-features .ensures) _ (t .next .given .1) (c .if1 .left)
 
 same-length-3 : tie.Need-same-length-3
 same-length-3 c = search needs

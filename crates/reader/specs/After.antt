@@ -1,7 +1,8 @@
 -- What is known once a value was read into the beginning of words, where the value's words begin with sizes and their count.
-use Prim.Native.Nat.{ℕ}
+use Prim.Native.Nat.{ℕ, zero, suc, _<_}
 use mathlib.Core.Path.{_≡_, refl, sym, ap, _∙_}
-use mathlib.Core.List.{List, _++_, append-assoc}
+use mathlib.Core.List.{List, [], _∷_, _++_, append-assoc}
+use native.Mathlib.Omega.{arith}
 use lib.ListN.{length, getD, drop, length-append}
 use lib.Seq.{take-at, drop-at, drop-drop}
 use Rattle.meaning.specs.Number.{Read, got}
@@ -20,6 +21,13 @@ begun-more words front values at e =
 sizes-begin : (sizes rest left : List ℕ) → left ≡ sizedWords sizes ++ rest → (getD left 0 0 ≡ length sizes) × (sizesIn left ≡ sizes)
 unfolding sizesIn
 sizes-begin sizes rest left e = rw e (refl, take-at sizes rest (length sizes) refl)
+
+-- What is written behind the count leaves it.
+pub count-left : (read : Read (List ℕ)) (old : List ℕ) (at : ℕ) (answer : Step) (left : List ℕ) (next : ℕ) → 0 < at → 0 < length old
+    → ReadsInto read (written old at) answer left → answer ≡ Next next → getD left 0 0 ≡ getD old 0 0
+count-left read [] at answer left next h k reads e = absurd (omega arith)
+count-left read (x ∷ old) zero answer left next h k reads e = absurd (omega arith)
+count-left read (x ∷ old) (suc at) answer left next h k reads e = ap (λ l. getD l 0 0) (reads-next read (written (x ∷ old) (suc at)) answer next left reads e .2)
 
 -- After a value was read; `left` are the words then.
 pub record After {A : Type 0} (read : Read A) (Known : A → Type 0) (sizes words : A → List ℕ) (old left : List ℕ) (next : ℕ) : Type 0 where

@@ -11,6 +11,7 @@ use Rattle.meaning.specs.Workspace.{startAt, goalAt, pairsAt}
 use Rattle.theory.specs.Spent.{Gives, gives-then, gives-map}
 use Rattle.theory.specs.Parts.{header-said, values-said}
 use Rattle.theory.specs.Contents.{sizesIn}
+use Rattle.layout.specs.Parts.{sizesPart}
 use Rattle.number.specs.declared.Step.{Step}
 use Rattle.number.specs.declared.Step.the-variants.{Next}
 use Rattle.reader.specs.Answer.{written, begun, sizedWords, ReadsInto, reads-map}
@@ -79,8 +80,8 @@ module _ (bytes : List ℕ) (from : ℕ) (old : List ℕ) where
     unfolding startOf startWords
     start-behind = state-behind (header leastSize mostSize) (λ sizes. sizes) sizedWords startAt startedWith startWords (λ sizes start. refl) bytes from old new next
 
-    pub goal-behind : AfterStart new next → (answer : Step) (left : List ℕ) → ReadsInto (valuesOf (sizesIn new) bytes next) (written new (goalAt (getD new 0 0))) answer left
-        → ReadsInto (statesOf bytes from) (λ states. begun old (stateWords states)) answer left
-    unfolding statesOf startWords stateWords
-    goal-behind = state-behind startOf (λ started. started .sizes) startWords goalAt statesWith stateWords
-        (λ started goal. append-assoc (sizedWords (started .sizes)) (started .start) goal) bytes from old new next
+    pub goal-behind : AfterStart new next → (v : ℕ) → v ≡ getD new 0 0 → (answer : Step) (left : List ℕ)
+        → ReadsInto (valuesOf (sizesPart v new) bytes next) (written new (goalAt v)) answer left → ReadsInto (statesOf bytes from) (λ states. begun old (stateWords states)) answer left
+    unfolding statesOf startWords stateWords sizesIn
+    goal-behind known v e answer left read = state-behind startOf (λ started. started .sizes) startWords goalAt statesWith stateWords
+        (λ started goal. append-assoc (sizedWords (started .sizes)) (started .start) goal) bytes from old new next known answer left (rw e at read)

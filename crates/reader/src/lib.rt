@@ -4,7 +4,7 @@ ghost use Prim.Native.Nat.{_+_, _*_, _≤_};
 ghost use lib.ListN.{length, getD, take, drop, replicate};
 ghost use Rattle.meaning.specs.Limits.{wordBits, mostVariables, mostSize, mostFeatures};
 ghost use Rattle.meaning.specs.File.{header as headerOf, itemsOf, sizeList, featuresOf, featureList, judgedWeights};
-ghost use Rattle.meaning.specs.Workspace.{startAt, goalAt, pairsAt, slotsAt, wordsFor};
+ghost use Rattle.meaning.specs.Workspace.{startAt, pairsAt, slotsAt, wordsFor};
 ghost use Rattle.meaning.specs.Feature.{atoms};
 ghost use Rattle.theory.specs.Contents.{sizesIn};
 ghost use Rattle.number.specs.Answers.{reasonOf, placeOf};
@@ -12,7 +12,7 @@ ghost use Rattle.reader.specs.Lists.{Apart};
 ghost use Rattle.reader.specs.Header.{featuresJudged};
 ghost use Rattle.reader.specs.Answer.{written, featureWords, begun, sizedWords, ReadsInto};
 ghost use Rattle.words.specs.Toggled.{toggledAll};
-ghost use Rattle.reader.specs.Front.{startOf, statesOf, startWords, stateWords, frontOf, HeaderInto};
+ghost use Rattle.reader.specs.Front.{statesOf, stateWords, frontOf, HeaderInto};
 ghost use Rattle.reader.specs.Pairs.{Cleared};
 use limits::LEAST_SIZE;
 use limits::LEAST_VARIABLES;
@@ -125,31 +125,38 @@ fn read_limited(bytes: &[u8], at: usize, header: &mut [u64], least: usize, most:
     }
 }
 
-// Reads sizes and start.
-fn read_start(bytes: &[u8], at: usize, header: &mut [u64]) -> Step
-    requires { ⌜ goalAt mostVariables ≤ length (now header) ⌝ }
-    ensures { λ r. ⌜ ReadsInto (startOf (now (bytes .entry)) at) (λ started. begun (now (header .entry)) (startWords started)) r (now (header .exit)) ⌝ }
-{
-    match read_limited(bytes, at, &mut *header, LEAST_SIZE, MOST_SIZE) {
-        Step::Next(next) => {
-            let v = header[0] as usize;
-            let to = layout::start_at(v);
-            items_at(bytes, next, header, SIZES_AT, to, v, 0, Reason::Range)
-        }
-        Step::Fault(reason, place) => Step::Fault(reason, place),
-    }
-}
-
 // Reads sizes, start and goal.
 fn read_states(bytes: &[u8], at: usize, header: &mut [u64]) -> Step
     requires { ⌜ pairsAt mostVariables ≤ length (now header) ⌝ }
     ensures { λ r. ⌜ ReadsInto (statesOf (now (bytes .entry)) at) (λ states. begun (now (header .entry)) (stateWords states)) r (now (header .exit)) ⌝ }
 {
-    match read_start(bytes, at, &mut *header) {
+    match read_limited(bytes, at, &mut *header, LEAST_SIZE, MOST_SIZE) {
         Step::Next(next) => {
             let v = header[0] as usize;
-            let to = layout::goal_at(v);
-            items_at(bytes, next, header, SIZES_AT, to, v, 0, Reason::Range)
+            let start = layout::start_at(v);
+            let goal = layout::goal_at(v);
+            match items_at(
+                bytes,
+                next,
+                &mut *header,
+                SIZES_AT,
+                start,
+                v,
+                0,
+                Reason::Range,
+            ) {
+                Step::Next(after) => items_at(
+                    bytes,
+                    after,
+                    &mut *header,
+                    SIZES_AT,
+                    goal,
+                    v,
+                    0,
+                    Reason::Range,
+                ),
+                Step::Fault(reason, place) => Step::Fault(reason, place),
+            }
         }
         Step::Fault(reason, place) => Step::Fault(reason, place),
     }

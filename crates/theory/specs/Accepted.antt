@@ -45,7 +45,7 @@ module _ (bytes : List ℕ) where
       ends-then (featureList (atoms sizes) (features sizes)) _ (λ pairs. ends-then number _ (λ k. ends-then (operatorsOf sizes k) _ (λ os. ends-ended _))))))
 
   -- What is known of a whole file that was read.
-  pub whole-said : {A : Type 0} (parser : Parser A) (P : A → List ℕ → Type 0) (a : A) (next : ℕ) → Gives bytes parser P → Ends bytes parser
+  whole-said : {A : Type 0} (parser : Parser A) (P : A → List ℕ → Type 0) (a : A) (next : ℕ) → Gives bytes parser P → Ends bytes parser
       → parser bytes 0 ≡ got a next → (next ≡ length bytes) × P a bytes
   whole-said parser P a next h k e = spent-all bytes next (P a) (h .gives 0 a next e) (k .ends 0 a next e)
 
@@ -71,20 +71,17 @@ module _ (bytes : List ℕ) where
     accepted-bytes = accepted-all .2
 
   module _ (n : ℕ) (weights : List ℕ) (next : ℕ) (e : judgedWeights n bytes ≡ got weights next) where
-    weights-all : (next ≡ length bytes) × (Run 0 weights n × Exact bytes weightBytes weights bytes)
+    weights-all : Run 0 weights n × Exact bytes weightBytes weights bytes
     unfolding judgedWeights
     weights-all = whole-said _ (λ ws l. Run 0 ws n × Exact bytes weightBytes ws l) weights next
-        (gives-ended (λ ws. ws) _ (feature-list-said bytes 0 n (omega arith)) (λ ws l h. h)) (ends-then (featureList 0 n) _ (λ ws. ends-ended ws)) e
+        (gives-ended (λ ws. ws) _ (feature-list-said bytes 0 n (omega arith)) (λ ws l h. h)) (ends-then (featureList 0 n) _ (λ ws. ends-ended ws)) e .1
 
     pub weights-accepted : Run 0 weights n
-    weights-accepted = weights-all .1 .0
-
-    pub weights-end : next ≡ length bytes
-    weights-end = weights-all .0
+    weights-accepted = weights-all .0
 
     -- An accepted weight file is the file that is written for its list.
     pub weights-bytes : Bytes bytes → bytes ≡ weightBytes weights
-    weights-bytes = weights-all .1 .1
+    weights-bytes = weights-all .1
 
 -- ---- writing and reading are inverse
 

@@ -16,7 +16,7 @@ use Rattle.meaning.specs.Task.{Operator, State, IsOperator, names, value, size}
 use Rattle.meaning.specs.Feature.{sumOf, pairsOf, atoms, features}
 use Rattle.meaning.specs.Pair.{paired, possible, idle, clashingAfter, uncovered, closed, holds}
 use Rattle.meaning.specs.Number.{Reason, Limit, Mislabelled, Small, refusal, got, numbersOn}
-use Rattle.meaning.specs.File.{give, then, judgedTask, taskBytes, inside, limited, valuesOf, InLimits, Writable}
+use Rattle.meaning.specs.File.{give, then, judgedTask, taskBytes, inside, limited, InLimits, Writable}
 use Rattle.meaning.specs.Weight.{Unsolvable}
 use Rattle.meaning.specs.Answer.{done, refused, refuses, writes, delivered}
 use Rattle.meaning.specs.Bay.{Move, Step, SameLabels, Bay, slotCount, side, sidesOf, bayOf, eachOnce, judgedBay, neighbours, bayTask, baySizes, occurrences, exchange, slide, bayOperators, bayPairs, taskFor, Builds}
@@ -24,10 +24,9 @@ use Rattle.theory.specs.Truth.{on, off, test, less, same, more, order}
 use Rattle.theory.specs.Search.{and-left, and-right, every-at, and-none-right, or-right, or-none-left, or-none-right, some-not, any-not}
 use Rattle.theory.specs.Flat.{in-two, flat-few}
 use Rattle.theory.specs.Tells.{tells-every, tells-and, tells-le, tells-lt}
-use Rattle.theory.specs.Reading.{got-value, got-next, on-got, by-got, test-passed}
-use Rattle.theory.specs.Spent.{Gives, Ends, gives-known, gives-then, gives-map, gives-tested, gives-ended, ends-then, ends-ended}
+use Rattle.theory.specs.Reading.{got-value, on-got, by-got, test-passed}
+use Rattle.theory.specs.Spent.{Gives, gives-known, gives-then, gives-map, gives-tested, gives-ended}
 use Rattle.theory.specs.Parts.{item-said, values-said}
-use Rattle.theory.specs.Accepted.{whole-said}
 use Rattle.theory.specs.ReadBack.{read-back}
 use Rattle.theory.specs.BayMoves.{same-moves, Moves, moves-plan, plan-moves, neighbours-apart, bay-size, bay-below, bay-length, bay-value, one-only, Slide, operator-slide}
 use Rattle.theory.specs.BayPairs.{pairs-run, paired-bay}
@@ -209,35 +208,20 @@ bay-said bytes =
       goal-state = g .0;
     })))
 
-bay-ends : (bytes : List ℕ) → Ends bytes bayOf
-unfolding bayOf
-bay-ends bytes = ends-then sidesOf _ (λ sides.
-    ends-then (valuesOf (baySizes (sides .0 * sides .1))) _ (λ start. ends-then (valuesOf (baySizes (sides .0 * sides .1))) _ (λ goal. ends-ended _)))
-
 module _ (bytes : List ℕ) (b : Bay) (next : ℕ) (e : judgedBay bytes ≡ got b next) where
-  bay-all : (next ≡ length bytes) × AcceptedBay b
+  pub accepted-bay : AcceptedBay b
   unfolding judgedBay eachOnce
-  bay-all =
+  accepted-bay =
       let (c, middle, p, q) = on-got (bayOf bytes 0) _ b next e in
       let (t, z) = test-passed (eachOnce (slotCount c) (c .start) && eachOnce (slotCount c) (c .goal)) _ Mislabelled 0 b next q in
-      let (end, readable) = whole-said bytes bayOf (λ d l. ReadableBay d) c middle (bay-said bytes) (bay-ends bytes) p in (
-        sym (got-next z) ∙ end,
-        subst AcceptedBay (got-value z) (record {
-          readable = readable;
-          start-once = once (slotCount c) (c .start) (and-left _ (eachOnce (slotCount c) (c .goal)) t);
-          goal-once = once (slotCount c) (c .goal) (and-right (eachOnce (slotCount c) (c .start)) _ t);
-        }),
-      )
+      subst AcceptedBay (got-value z) (record {
+        readable = bay-said bytes .gives 0 c middle p .known;
+        start-once = once (slotCount c) (c .start) (and-left _ (eachOnce (slotCount c) (c .goal)) t);
+        goal-once = once (slotCount c) (c .goal) (and-right (eachOnce (slotCount c) (c .start)) _ t);
+      })
     where
       once : (n : ℕ) (labels : List ℕ) → eachOnce n labels ≡ true → (label : ℕ) → label < n → occurrences label labels ≡ 1
       once n labels t label l = eqb-true (occurrences label labels) 1 (every-at n _ t label l)
-
-  pub accepted-bay : AcceptedBay b
-  accepted-bay = bay-all .1
-
-  -- No byte is left over.
-  pub bay-end : next ≡ length bytes
-  bay-end = bay-all .0
 
   -- The task of an accepted bay file can be written.
   pub bay-accepted : Writable (bayTask b)

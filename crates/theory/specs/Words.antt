@@ -123,12 +123,6 @@ pub packed-cong : (n : ℕ) (a b : Set) → ((f : ℕ) → f < n → a f ≡ b f
 packed-cong n a b h = packed-is n a (packed n b) (length-packed n b) (packed-words n b)
     (λ f. has-packed n b f ∙ elim (test (ltb f n)) [ on t ↦ rw (t, h f (ltb-true f n t)) | off t ↦ rw t ])
 
-pub packed-same : (n : ℕ) (a b : Set) → packed n a ≡ packed n b → (f : ℕ) → f < n → a f ≡ b f
-packed-same n a b e f l = member a ∙ ap (λ l. has l f) e ∙ sym (member b)
-  where
-    member : (c : Set) → c f ≡ has (packed n c) f
-    member c = sym (has-packed n c f ∙ rw (lt-ltb f n l))
-
 -- The words of a set, whatever follows them, have the set's members below n.
 pub packed-front : (n : ℕ) (a : Set) (r : List ℕ) (f : ℕ) → f < n → has (packed n a ++ r) f ≡ a f
 unfolding has

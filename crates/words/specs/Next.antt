@@ -16,7 +16,7 @@ use Rattle.meaning.specs.Sets.{Set}
 use Rattle.meaning.specs.Limits.{wordBits}
 use Rattle.meaning.specs.Workspace.{bit, has}
 use Rattle.meaning.specs.Slot.{LeastMember}
-use Rattle.theory.specs.Truth.{on, off, test, less, same, more, order, clash}
+use Rattle.theory.specs.Truth.{on, off, test, clash}
 use Rattle.theory.specs.Words.{bit-past, has-at}
 use Rattle.theory.specs.Slots.{lead, lead-none, lead-least}
 use Rattle.words.specs.Bits.{bit-none, bit-shift, trailing-below, trailing-at, trailing-within}
@@ -32,14 +32,6 @@ pub record Next (a : Set) (n start r : ℕ) : Type 0 where
   pub within : r ≤ n
   pub clear : Clear a start r
   pub member : r < n → a r ≡ true
-
--- There is one such number.
-pub next-only : (a : Set) (n start r s : ℕ) → Next a n start r → Next a n start s → r ≡ s
-next-only a n start r s h k = elim (order r s) [
-  | less l ↦ absurd (clash (h .member (omega (arith, k .within))) (k .clear r (h .above) l))
-  | same q ↦ q
-  | more l ↦ absurd (clash (k .member (omega (arith, h .within))) (h .clear s (k .above) l))
-]
 
 -- From 0 on it is the least member of all.
 pub next-least : (a : Set) (n r : ℕ) → Next a n 0 r → r < n → LeastMember r a

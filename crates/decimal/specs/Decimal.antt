@@ -10,7 +10,7 @@ use borrow.Author.Tests.{lt-ltb, le-ltb, ltb-true, ltb-false}
 use Rattle.meaning.specs.Task.{Run}
 use Rattle.meaning.specs.Line.{digits, word, wordsIn}
 use Rattle.theory.specs.Truth.{on, off, test}
-use Rattle.theory.specs.Run.{run-first, run-rest, run-length}
+use Rattle.theory.specs.Run.{run-rest, run-length}
 
 -- A blank and so many digits.
 abbrev pub wordWidth : ℕ → ℕ

@@ -1,5 +1,4 @@
 -- `judge`: the front that was read, whose parts are lent from the words; then what is judged behind it.
-use native.Mathlib.Omega.{arith}
 use borrow.Author.Needs.{needs}
 use Rattle.meaning.specs.File.{judgedTask}
 use Rattle.layout.specs.Parts.{headed-sizes}

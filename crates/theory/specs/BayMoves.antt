@@ -1,15 +1,13 @@
 -- Bays over any neighbour relation: counts of labels, what a move leaves as it was, and that operators lead where moves lead.
-use Prim.Native.Nat.{ℕ, zero, suc, _+_, _-_, _*_, _/_, _%_, _<_, _≤_}
+use Prim.Native.Nat.{ℕ, zero, suc, _+_, _-_, _/_, _%_, _<_, _≤_}
 use mathlib.Core.Path.{_≡_, refl, sym, ap, _∙_, subst}
 use mathlib.Core.Logic.{_≢_, _↔_, inl, inr}
 use mathlib.Core.Bool.{Bool, true, false, _&&_, cond}
 use mathlib.Core.List.{List, [], _∷_, List·Memᴰ as In, List·Memᴰ·head as here, List·Memᴰ·tail as there, List·Memᴰ·eq-of-singleton as eq-of-singleton}
 use mathlib.Core.List.{List·Memᴰ·not-nil as not-nil, List·Memᴰ·cases-cons as cases-cons}
 use native.Mathlib.Omega.{arith}
-use native.Mathlib.Nat.{div-add-mod', suc-mul}
 use lib.ListN.{length, set, length-set, length-replicate, getD-replicate}
 use lib.Seq.{getD-set-other, set-comm}
-use lib.Arith.{digits-div, digits-mod}
 use lib.Dec.{eqb, ltb}
 use borrow.Author.Tests.{eqb-true, eq-eqb, ne-eqb}
 use Rattle.meaning.specs.Sets.{allOf}
@@ -17,7 +15,7 @@ use Rattle.meaning.specs.Task.{Operator, State, applies, applied, value, size}
 use Rattle.meaning.specs.Weight.{Leads}
 use Rattle.meaning.specs.Bay.{baySizes, occurrences, oneApart, neighbours, Move, Step, SameLabels, exchange, slide, bayOperators}
 use Rattle.theory.specs.Truth.{on, off, test, clash}
-use Rattle.theory.specs.Search.{or-neither, and-none-left, and-none-right}
+use Rattle.theory.specs.Search.{or-neither, and-none-right}
 use Rattle.theory.specs.Tells.{Tells, tells-agree, tells-map, tells-and, tells-eq, tells-true}
 use Rattle.theory.specs.Flat.{in-flat, flat-in, in-when, when-in}
 
@@ -242,20 +240,3 @@ neighbours-self columns p =
 
 pub neighbours-apart : (columns p q : ℕ) → neighbours columns p q ≡ true → p ≢ q
 neighbours-apart columns p q e z = clash e (rw z (neighbours-self columns q))
-
--- The last slot of a row and the first of the next are no neighbours.
-pub row-end : (columns p : ℕ) → 2 ≤ columns → p % columns ≡ columns - 1 → neighbours columns p (suc p) ≡ false
-unfolding neighbours
-row-end columns p h e =
-    or-neither (eqb (p / columns) (suc p / columns) && oneApart (p % columns) (suc p % columns)) (eqb (p % columns) (suc p % columns) && oneApart (p / columns) (suc p / columns))
-    (and-none-left (eqb (p / columns) (suc p / columns)) _ (ne-eqb (p / columns) (suc p / columns) (omega (arith, row))))
-    (and-none-left (eqb (p % columns) (suc p % columns)) _ (ne-eqb (p % columns) (suc p % columns) (omega (arith, e, column))))
-  where
-    next : suc p ≡ suc (p / columns) * columns + 0
-    next = rw (suc-mul (p / columns) columns) (omega (arith, e, div-add-mod' p columns))
-
-    row : suc p / columns ≡ suc (p / columns)
-    row = ap (λ x. x / columns) next ∙ digits-div (suc (p / columns)) (omega arith)
-
-    column : suc p % columns ≡ 0
-    column = ap (λ x. x % columns) next ∙ digits-mod (suc (p / columns)) (omega arith)

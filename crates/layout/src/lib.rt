@@ -9,14 +9,13 @@ ghost use Rattle.layout.specs.Parts.{sizesPart, startPart, goalPart, pai
 use limits::SIZES_AT;
 use words::WORD_BITS;
 
-// Where each part of a workspace begins behind its sizes, and where the last part ends; and how many words a set of its features takes.
+// Where each part of a workspace begins behind its sizes, and where the last part ends.
 pub struct Places {
     pub start: usize,
     pub goal: usize,
     pub pairs: usize,
     pub slots: usize,
     pub end: usize,
-    pub words: usize,
 }
 
 // How many words a set of n features takes.
@@ -59,7 +58,6 @@ pub fn places_for(v: usize, n: usize) -> Places
         pairs: pairs,
         slots: slots,
         end: slots + n * words,
-        words: words,
     }
 }
 

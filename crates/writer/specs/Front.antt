@@ -34,7 +34,7 @@ module _ (sizes start goal pairs : List ℕ) where
         length-append (bytesOf numberBytes goal) (counted numberBytes pairs),
       )
 
--- "v; v sizes; v start values; v goal values; pairs; operators": the operators follow.
+-- "operator count; each operator" follow it in a task file.
 pub task-front : (T : Task) → taskBytes T ≡ frontBytes (T .sizes) (T .start) (T .goal) (T .pairs) ++ counted operatorBytes (T .operators)
 unfolding taskBytes frontBytes weightBytes
 task-front T =

@@ -7,11 +7,15 @@ use borrow.Author.Needs.{needs}
 use Rattle.florumeja.proofs.florumeja_add_operator.Statement.{statement}
 use Rattle.florumeja.proofs.florumeja_add_operator.Tie as tie
 
+-- What the call began with.
+abbrev begun : tie.After-add-operator → tie.Start
+begun c = c .before .before .before .before .before .before .before .before .before
+
 -- The operator that was handed over is added: the record has its places, as far as they count.
-added : (c : tie.After-add-operator) → let start = c .before .before .before .before .before .before .before .before .before .args in
+added : (c : tie.After-add-operator) → let start = begun c .args in
     Edits (start .workspace .now) (addOperator (handed (start .count) (start .variables .now) (start .befores .now) (start .afters .now)))
     (record { answer = editedOf (c .add-operator .result); lent = c .add-operator .last .0 })
-added c = let start = c .before .before .before .before .before .before .before .before .before .args in
+added c = let start = begun c .args in
     edits-same (start .count) _ _ _ (start .variables .now) (start .befores .now) (start .afters .now)
     (c .before .before .before .before .places .ensures) (c .before .before .before .places2 .ensures) (c .before .before .places3 .ensures)
     (start .workspace .now) _ (c .add-operator .ensures)
@@ -29,7 +33,7 @@ add-operator-requires : tie.Need-add-operator-requires
 add-operator-requires c κs = search needs
 
 edited-number-requires : tie.Need-edited-number-requires
-edited-number-requires c κs = let start = c .before .before .before .before .before .before .before .before .before .before .before .args in
+edited-number-requires c κs = let start = begun (c .before .before) .args in
     edits-fit (start .workspace .now) (addOperator (handed (start .count) (start .variables .now) (start .befores .now) (start .afters .now)))
     (record { answer = editedOf (c .before .before .add-operator .result); lent = _ }) (added (c .before .before))
 

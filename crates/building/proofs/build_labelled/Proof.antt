@@ -49,7 +49,7 @@ enum-known-next c = search needs
 
 items-at-requires-2 : tie.Need-items-at-requires-2
 items-at-requires-2 c κs =
-    let start = c .before .before .before .before .before .before .before .before .before .before .before .before in
+    let start = begin (c .before .before) in
     (omega (arith, as-many start), omega (arith, as-many start), apart-same 0 _)
 
 enum-known-end : tie.Need-enum-known-end

@@ -64,21 +64,25 @@ Judges T weights accepted = Separates T weights
 Judges T weights endsAlike = parity (T .sizes) weights (T .start) ≡ parity (T .sizes) weights (T .goal)
 Judges T weights (breaks j) = Breaks T weights j
 
--- check(task, weights): "Weights are read after a fully accepted task."
-abbrev pub Checks : List ℕ → List ℕ → Answer Verdict → Type 0
-Checks task weights answer =
-    byRead (judgedTask task)
+-- "Weights are read after a fully accepted task."
+abbrev pub ChecksAs : Read Task → List ℕ → Answer Verdict → Type 0
+ChecksAs judged weights answer =
+    byRead judged
     (λ T. byRead (judgedWeights (features (T .sizes)) weights)
     (λ ws. (v : Verdict) × (answer ≡ done v) × Judges T (listed ws) v)
     (λ reason. answer ≡ refused (refusal reason)))
     (λ reason. answer ≡ refused (refusal reason))
 
+-- check(task, weights)
+abbrev pub Checks : List ℕ → List ℕ → Answer Verdict → Type 0
+Checks task = ChecksAs (judgedTask task)
+
 -- ---- opening
 
--- open(task, room): the number of words due is the result; "room is too small when it is shorter than .. the whole workspace".
-abbrev pub Opens : List ℕ → List ℕ → Outcome ℕ → Type 0
-Opens task room outcome =
-    byRead (judgedTask task)
+-- The number of words due is the result; "room is too small when it is shorter than .. the whole workspace".
+abbrev pub OpensAs : Read Task → List ℕ → Outcome ℕ → Type 0
+OpensAs judged room outcome =
+    byRead judged
     (λ T. let due = wordsDue (length (T .sizes)) (features (T .sizes)) in
     cond (ltb (length room) due)
     (outcome ≡ refuses Small room)
@@ -86,6 +90,10 @@ Opens task room outcome =
     × SlotsOf (features (T .sizes)) (Meets (T .sizes) (listed (T .pairs)) (T .operators)) slots
     × (outcome ≡ writes due (wordsOf (contentOf T slots)) room)))
     (λ reason. outcome ≡ refuses reason room)
+
+-- open(task, room)
+abbrev pub Opens : List ℕ → List ℕ → Outcome ℕ → Type 0
+Opens task = OpensAs (judgedTask task)
 
 -- ---- finding
 

@@ -115,12 +115,14 @@ taskOf =
     (λ _. give (record { sizes = sizes; start = start; goal = goal; pairs = pairs; operators = operators }))))))))
 
 -- "Then come 5, 6, 7 by operator": a start that holds a pair, an operator under which the pairs are not closed. Neither has a place.
-abbrev pub judgedFrom : Parser Task
-judgedFrom bytes place =
-    onRead (taskOf bytes place)
-    (λ T next. cond (holds (T .sizes) (listed (T .pairs)) (T .start))
+abbrev pub judgedPairs : Task → ℕ → Read Task
+judgedPairs T next =
+    cond (holds (T .sizes) (listed (T .pairs)) (T .start))
     (fault Held 0)
-    (cond (allOf (closed (T .sizes) (listed (T .pairs))) (T .operators)) (got T next) (fault Unclosed 0)))
+    (cond (allOf (closed (T .sizes) (listed (T .pairs))) (T .operators)) (got T next) (fault Unclosed 0))
+
+abbrev pub judgedFrom : Parser Task
+judgedFrom bytes place = onRead (taskOf bytes place) judgedPairs
 
 -- A task file is judged from its first byte on.
 unfoldable pub judgedTask : List ℕ → Read Task

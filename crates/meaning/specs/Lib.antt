@@ -11,6 +11,7 @@ pub mod File
 pub mod Workspace
 pub mod Answer
 pub mod Bay
+pub mod Partial
 pub mod Line
 pub mod History
 pub mod Facts

@@ -1,4 +1,4 @@
--- Every limit of document 01, each under one name.
+-- Every limit of the documents, each under one name.
 use Prim.Native.Nat.{ℕ, _*_, _^_}
 
 -- "v 1 to 64"
@@ -14,6 +14,13 @@ leastSize = 1
 
 abbrev pub mostSize : ℕ
 mostSize = 64
+
+-- A partial task file: "Its sizes, 1 to 63, are the old ones".
+abbrev pub leastPartialSize : ℕ
+leastPartialSize = 1
+
+abbrev pub mostPartialSize : ℕ
+mostPartialSize = 63
 
 -- "N at most 4,096"
 abbrev pub mostFeatures : ℕ

@@ -45,7 +45,7 @@ module _ (bytes : List ℕ) where
       ends-then (featureList (atoms sizes) (features sizes)) _ (λ pairs. ends-then number _ (λ k. ends-then (operatorsOf sizes k) _ (λ os. ends-ended _))))))
 
   -- What is known of a whole file that was read.
-  whole-said : {A : Type 0} (parser : Parser A) (P : A → List ℕ → Type 0) (a : A) (next : ℕ) → Gives bytes parser P → Ends bytes parser
+  pub whole-said : {A : Type 0} (parser : Parser A) (P : A → List ℕ → Type 0) (a : A) (next : ℕ) → Gives bytes parser P → Ends bytes parser
       → parser bytes 0 ≡ got a next → (next ≡ length bytes) × P a bytes
   whole-said parser P a next h k e = spent-all bytes next (P a) (h .gives 0 a next e) (k .ends 0 a next e)
 

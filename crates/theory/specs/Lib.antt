@@ -45,3 +45,10 @@ pub mod BayMoves
 pub mod BayPairs
 pub mod BayTask
 pub mod Demands
+pub mod PartialPairs
+pub mod PartialTask
+pub mod PartialPlans
+pub mod PartialFile
+pub mod PartialParts
+pub mod PartialDemands
+pub mod Silence

@@ -47,7 +47,7 @@ exact-entry bytes e es l m n p a b c d small =
     ap₂ _++_ (a small) (ap₂ _++_ (b small) (ap₂ _++_ (c small) (d small))) ∙ sym (entry-apart e (bytesOf entryBytes es))
 
 -- What holds at the first index and at each later one.
-each-more : (P : ℕ → Type 0) (n : ℕ) → P 0 → ((i : ℕ) → i < n → P (suc i)) → (i : ℕ) → i < suc n → P i
+pub each-more : (P : ℕ → Type 0) (n : ℕ) → P 0 → ((i : ℕ) → i < n → P (suc i)) → (i : ℕ) → i < suc n → P i
 each-more P n h k zero l = h
 each-more P n h k (suc i) l = k i (omega arith)
 

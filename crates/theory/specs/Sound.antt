@@ -99,15 +99,23 @@ module _ (sizes : List ℕ) (pairs : Set) where
           ]
         ])))
 
-  -- Operators under which the pairs are closed, and weights that meet their conditions.
-  module _ (operators : List Operator) (fine : (o : Operator) → In o operators → Entries sizes 0 o)
-      (covered : (o : Operator) → In o operators → closed sizes pairs o ≡ true) (w : Set) (meets : Meets sizes pairs operators w) where
-    pub same-parity : (plan : List Operator) → ((o : Operator) → In o plan → In o operators) → (s end : List ℕ) → State sizes s → holds sizes pairs s ≡ false → Leads plan s end
-        → parity sizes w end ≡ parity sizes w s
-    same-parity [] from s end t clean leads = ap (parity sizes w) (sym leads)
-    same-parity (o ∷ plan) from s end t clean leads = let m = from o (here refl) in
-        same-parity plan (λ x k. from x (there k)) (applied o s) end (state-applied sizes 0 o s (fine o m) t) (still-clean s t clean o (fine o m) (leads .0) (covered o m)) (leads .1)
-        ∙ meets o m (not-idle s t clean o (fine o m) (leads .0)) s (considered s t clean o (fine o m) (leads .0))
+  -- Operators under which the pairs are closed.
+  module _ (operators : List Operator) (fine : (o : Operator) → In o operators → Entries sizes 0 o) (covered : (o : Operator) → In o operators → closed sizes pairs o ≡ true) where
+    -- What each operator keeps in a clean state that it applies in, a plan keeps; and it leads to clean states.
+    pub kept-along : (Kept : List ℕ → Type 0)
+        → ((o : Operator) (s : List ℕ) → In o operators → State sizes s → holds sizes pairs s ≡ false → applies o s ≡ true → Kept s → Kept (applied o s))
+        → (plan : List Operator) → ((o : Operator) → In o plan → In o operators) → (s end : List ℕ) → State sizes s → holds sizes pairs s ≡ false → Kept s → Leads plan s end
+        → State sizes end × (holds sizes pairs end ≡ false) × Kept end
+    kept-along Kept step [] from s end t clean k leads = rw (← leads) (t, clean, k)
+    kept-along Kept step (o ∷ plan) from s end t clean k leads = let m = from o (here refl) in
+        kept-along Kept step plan (λ x q. from x (there q)) (applied o s) end (state-applied sizes 0 o s (fine o m) t) (still-clean s t clean o (fine o m) (leads .0) (covered o m))
+        (step o s m t clean (leads .0) k) (leads .1)
+
+    -- Weights that meet their conditions.
+    pub same-parity : (w : Set) → Meets sizes pairs operators w → (plan : List Operator) → ((o : Operator) → In o plan → In o operators) → (s end : List ℕ) → State sizes s
+        → holds sizes pairs s ≡ false → Leads plan s end → parity sizes w end ≡ parity sizes w s
+    same-parity w meets plan from s end t clean leads = kept-along (λ u. parity sizes w u ≡ parity sizes w s)
+        (λ o u m is free a e. meets o m (not-idle u is free o (fine o m) a) u (considered u is free o (fine o m) a) ∙ e) plan from s end t clean refl leads .2
 
 pub sound : (T : Task) (w : Set) → Acceptable T → Separates T w → Unsolvable T
 sound T w ok good plan from leads = good .ends (sym (same-parity (T .sizes) (listed (T .pairs)) (T .operators) (λ o m. ok .operators o m .entries) (ok .closed-under) w (good .keeps)

@@ -1,0 +1,184 @@
+-- Partial files: what is read is in order; what is in order is written and read back; the built task can be written; its bytes in parts.
+use Prim.Native.Nat.{ℕ, zero, suc, _+_, _*_, _<_, _≤_}
+use mathlib.Core.Path.{_≡_, refl, ap, ap₂, sym, _∙_, subst}
+use mathlib.Core.Logic.{_≢_, _⊎_, _↔_, inl, inr}
+use mathlib.Core.Bool.{Bool, true, false, not, _&&_, _||_, cond}
+use mathlib.Core.List.{List, [], _∷_, _++_, map, append-assoc, append-nil, List·Memᴰ as In, Memᴰ·append-left as append-left}
+use native.Mathlib.Omega.{arith}
+use lib.Dec.{eqb, leb, ltb}
+use lib.ListN.{length, replicate, length-replicate, length-append}
+use borrow.Author.Tests.{eqb-true, eqb-false, eq-eqb, leb-true, ltb-true, ltb-false, lt-ltb, le-ltb, le-leb}
+use Rattle.meaning.specs.Sets.{Set, flat, listed, allOf}
+use Rattle.meaning.specs.Limits.{leastVariables, mostVariables, leastPartialSize, mostPartialSize, mostFeatures, numberEnd}
+use Rattle.meaning.specs.Task.{Entry, Operator, Task, State, Entries, IsOperator, value, size, Run}
+use Rattle.meaning.specs.Feature.{atoms, features}
+use Rattle.meaning.specs.Pair.{closed, holds}
+use Rattle.meaning.specs.Number.{Reason, Limit, Range, Outgrown, Held, Unclosed, got, numberBytes, number, numbersOn}
+use Rattle.meaning.specs.File.{Parser, give, then, inside, item, limited, rising, valuesOf, featureList, entriesOf, operatorOf, operatorsOf, Writable, bytesOf, counted, operatorBytes, weightBytes, taskBytes}
+use Rattle.meaning.specs.Weight.{Separates}
+use Rattle.meaning.specs.Partial.{Partial, Ordered, Reaches, Met, builtSizes, builtPairs, forgetting, forgettings, builtTask, partialHeader, marksOf, goalOf, partialOf, judgedPartial, marksIn, namedIn, partialBytes}
+use Rattle.theory.specs.Truth.{on, off, test, clash}
+use Rattle.theory.specs.Search.{and-left, and-right, and-both, all-at, all-each}
+use Rattle.theory.specs.Numbering.{atoms-room}
+use Rattle.theory.specs.Reading.{on-got, test-passed, test-failed, got-value, got-next}
+use Rattle.theory.specs.Spent.{Bytes, Gives, Ends, gives-known, gives-then, gives-map, gives-give, gives-tested, gives-ended, ends-then, ends-ended}
+use Rattle.theory.specs.Parts.{Exact, exact-counted, each-more, number-said, item-said, size-list-said, values-said, feature-list-said, operators-said}
+use Rattle.theory.specs.Accepted.{whole-said}
+use Rattle.theory.specs.PartialPairs.{built-length, built-size}
+use Rattle.theory.specs.PartialTask.{built-acceptable, forgettings-in, forgetting-closed}
+use Rattle.theory.specs.PartialPlans.{Permitted, reached-exactly, order-unmet}
+
+-- ---- the file's operators, read again with sizes that are no smaller
+
+-- What one reader gets in some bytes, another gets.
+pub record Follows {A : Type 0} (bytes : List ℕ) (first second : Parser A) : Type 0 where
+  pub follows : (place : ℕ) (a : A) (next : ℕ) → first bytes place ≡ got a next → second bytes place ≡ got a next
+
+module _ {bytes : List ℕ} where
+  pub follows-same : {A : Type 0} (p : Parser A) → Follows bytes p p
+  follows-same p = record { follows = λ place a next e. e }
+
+  pub follows-then : {A B : Type 0} {p q : Parser A} (r s : A → Parser B) → Follows bytes p q → ((a : A) → Follows bytes (r a) (s a)) → Follows bytes (then p r) (then q s)
+  follows-then {p = p} r s h k = record {
+    follows = λ place b next e. let (a, middle, first, rest) = on-got (p bytes place) _ b next e in rw (h .follows place a middle first) (k a .follows middle b next rest);
+  }
+
+  pub follows-item : (low high high' : ℕ) (reason : Reason) → high ≤ high' → Follows bytes (item (inside low high) reason) (item (inside low high') reason)
+  unfolding item
+  follows-item low high high' reason w = record {
+    follows = λ place a next e.
+        let (n, middle, p, q) = on-got (number bytes place) _ a next e in
+        let (t, z) = test-passed (inside low high n) (got n middle) reason place a next q in
+        let wide : inside low high' n ≡ true = and-both (leb low n) (ltb n high') (and-left (leb low n) (ltb n high) t)
+        (lt-ltb n high' (omega (arith, ltb-true n high (and-right (leb low n) (ltb n high) t)))) in
+        rw (p, wide) z;
+  }
+
+  module _ (sizes wider : List ℕ) (long : length wider ≡ length sizes) (room : (i : ℕ) → size sizes i ≤ size wider i) where
+    pub entries-again : (k least : ℕ) → Follows bytes (entriesOf sizes k least) (entriesOf wider k least)
+    unfolding entriesOf
+    entries-again zero least = follows-same (give [])
+    entries-again (suc k) least = rw long (follows-then _ _ (follows-same (rising 0 (length sizes) least)) (λ i.
+        follows-then _ _ (follows-item 0 (size sizes i) (size wider i) Range (room i)) (λ x.
+        follows-then _ _ (follows-item 0 (size sizes i) (size wider i) Range (room i)) (λ y.
+        follows-then _ _ (entries-again k (suc i)) (λ es. follows-same (give (record { variable = i; before = x; after = y } ∷ es)))))))
+
+    pub operator-again : Follows bytes (operatorOf sizes) (operatorOf wider)
+    unfolding operatorOf
+    operator-again = rw long (follows-then _ _ (follows-same (item (inside 1 (suc (length sizes))) Range)) (λ k. entries-again k 0))
+
+    pub operators-again : (k : ℕ) → Follows bytes (operatorsOf sizes k) (operatorsOf wider k)
+    unfolding operatorsOf
+    operators-again zero = follows-same (give [])
+    operators-again (suc k) = follows-then _ _ operator-again (λ o. follows-then _ _ (operators-again k) (λ os. follows-same (give (o ∷ os))))
+
+pub built-room : (sizes : List ℕ) (i : ℕ) → size sizes i ≤ size (builtSizes sizes) i
+built-room [] i = omega arith
+built-room (d ∷ ds) zero = omega arith
+built-room (d ∷ ds) (suc i) = built-room ds i
+
+pub operators-built : (bytes sizes : List ℕ) (k : ℕ) → Follows bytes (operatorsOf sizes k) (operatorsOf (builtSizes sizes) k)
+operators-built bytes sizes k = operators-again sizes (builtSizes sizes) (built-length sizes) (built-room sizes) k
+
+-- ---- what is read is in order
+
+pub bytes-join : {A : Type 0} (write : A → List ℕ) (l m : List A) → bytesOf write (l ++ m) ≡ bytesOf write l ++ bytesOf write m
+unfolding bytesOf
+bytes-join write [] m = refl
+bytes-join write (x ∷ l) m = ap (_++_ (write x)) (bytes-join write l m) ∙ sym (append-assoc (write x) (bytesOf write l) (bytesOf write m))
+
+module _ (bytes : List ℕ) where
+  partial-header-said : Gives bytes partialHeader (λ sizes l. ((leastVariables ≤ length sizes) × (length sizes ≤ mostVariables))
+      × ((i : ℕ) → i < length sizes → (leastPartialSize ≤ size sizes i) × (size sizes i ≤ mostPartialSize)) × (features (builtSizes sizes) ≤ mostFeatures)
+      × Exact bytes (counted numberBytes) sizes l)
+  unfolding partialHeader limited
+  partial-header-said =
+      gives-known _ (gives-tested (λ ds. leb (features (builtSizes ds)) mostFeatures) Limit (λ ds. numbersOn (length ds)) (size-list-said bytes leastPartialSize mostPartialSize)) (λ sizes l g.
+      let (total, (low, high, each, exact)) = g in ((low, high), each, leb-true (features (builtSizes sizes)) mostFeatures total, exact))
+
+  -- A goal value, by its mark.
+  abbrev Goal : ℕ → ℕ → ℕ → List ℕ → Type 0
+  Goal d m x l = (x < suc d) × (cond (ltb x d) 1 0 ≡ m) × (Bytes bytes → l ≡ bytesOf numberBytes (cond (ltb x d) (x ∷ []) []))
+
+  goal-value-said : (d m : ℕ) → m < 2 → Gives bytes (cond (eqb m 1) (item (inside 0 d) Range) (give d)) (Goal d m)
+  unfolding bytesOf
+  goal-value-said d m h = elim (test (eqb m 1)) [
+    | on e ↦ rw e (gives-known _ (item-said bytes 0 d Range) (λ x l g. rw (lt-ltb x d (g .1)) (omega arith, sym (eqb-true m 1 e), λ small. g .2 .1 small ∙ sym (append-nil (numberBytes x)))))
+    | off e ↦ rw e (gives-give _ (rw (le-ltb d d (omega arith)) (omega arith, omega (arith, eqb-false m 1 e), λ small. refl)))
+  ]
+
+  goal-said : (sizes marks : List ℕ) → State (replicate (length sizes) 2) marks → Gives bytes (goalOf sizes marks) (λ goal l. State (builtSizes sizes) goal × (marksIn sizes goal ≡ marks)
+      × (Bytes bytes → l ≡ bytesOf numberBytes (namedIn sizes goal)))
+  unfolding goalOf marksIn namedIn bytesOf
+  goal-said [] [] t = gives-give _ (record { full = refl; values = λ i l. absurd (omega arith) }, refl, λ small. refl)
+  goal-said [] (m ∷ ms) t = absurd (omega (arith, t .full))
+  goal-said (d ∷ ds) [] t = absurd (omega (arith, t .full))
+  goal-said (d ∷ ds) (m ∷ ms) t =
+      gives-then _ _ (goal-value-said d m (t .values 0 (omega arith))) (λ x l h.
+      gives-map (_∷_ x) _ (goal-said ds ms (record { full = omega (arith, t .full); values = λ i k. t .values (suc i) (omega arith) })) (λ xs n g. (
+        record { full = ap suc (g .0 .full); values = each-more (λ i. value (x ∷ xs) i < size (builtSizes (d ∷ ds)) i) (length (builtSizes ds)) (h .0) (g .0 .values) },
+        ap₂ _∷_ (h .1) (g .1),
+        λ small. ap₂ _++_ (h .2 small) (g .2 small) ∙ sym (bytes-join numberBytes (cond (ltb x d) (x ∷ []) []) (namedIn ds xs)),
+      )))
+
+  pub partial-said : Gives bytes partialOf (λ P l. Ordered P × Exact bytes partialBytes P l)
+  unfolding partialOf partialBytes
+  partial-said =
+      gives-then _ _ partial-header-said (λ sizes l a.
+      gives-then _ _ (values-said bytes (replicate (length sizes) 2)) (λ marks m c.
+      gives-then _ _ (values-said bytes sizes) (λ start n d.
+      gives-then _ _ (goal-said sizes marks (c .0)) (λ goal p e.
+      gives-then _ _ (feature-list-said bytes (atoms sizes) (features sizes) (atoms-room sizes)) (λ pairs q f.
+      gives-then _ _ (number-said bytes) (λ k r g.
+      gives-ended (λ os. record { sizes = sizes; start = start; goal = goal; pairs = pairs; operators = os }) _ (operators-said bytes sizes k) (λ os s h. (
+        record { variables = a .0; each = a .1; total = a .2; start = d .0; goal = e .0; pairs = f .0; operators = h .1 },
+        λ small. ap₂ _++_ (a .3 small) (ap₂ _++_ (c .1 small ∙ ap (bytesOf numberBytes) (sym (e .1))) (ap₂ _++_ (d .1 small) (ap₂ _++_ (e .2 small)
+            (ap₂ _++_ (f .1 small) (exact-counted bytes _ k os r s (h .0) (g .1) (h .2) small))))),
+      ))))))))
+
+  pub partial-ends : Ends bytes partialOf
+  unfolding partialOf
+  partial-ends = ends-then partialHeader _ (λ sizes. ends-then (marksOf (length sizes)) _ (λ marks. ends-then (valuesOf sizes) _ (λ start. ends-then (goalOf sizes marks) _ (λ goal.
+      ends-then (featureList (atoms sizes) (features sizes)) _ (λ pairs. ends-then number _ (λ k. ends-then (operatorsOf sizes k) _ (λ os. ends-ended _)))))))
+
+  -- ---- an accepted partial file
+
+  pub record AcceptedPartial (out : Partial → ℕ → ℕ → Bool) (T : Task) (next : ℕ) : Type 0 where
+    pub partial : Partial
+    pub read : partialOf bytes 0 ≡ got partial next
+    pub ordered : Ordered partial
+    pub task : T ≡ builtTask partial (out partial)
+    pub writable : Writable T
+    pub end : next ≡ length bytes
+    pub exact : Exact bytes partialBytes partial bytes
+    -- "Such a goal is reached exactly when the partial goal is"; leaving out what is permitted loses no plan.
+    pub reached : Permitted partial (out partial) → Reaches (T .operators) (T .start) (T .goal) ↔ Met partial
+
+  pub accepted-partial : (out : Partial → ℕ → ℕ → Bool) (T : Task) (next : ℕ) → judgedPartial out bytes ≡ got T next → AcceptedPartial out T next
+  unfolding judgedPartial builtTask
+  accepted-partial out T next e =
+      let (P, middle, p, q) = on-got (partialOf bytes 0) _ T next e in
+      let U = builtTask P (out P) in
+      let (few, r) = test-passed (ltb (length (U .operators)) numberEnd) _ Outgrown 0 T next q in
+      let (free, s) = test-failed (holds (U .sizes) (listed (U .pairs)) (U .start)) _ Held 0 T next r in
+      let (shut, z) = test-passed (allOf (closed (U .sizes) (listed (U .pairs))) (U .operators)) (got U middle) Unclosed 0 T next s in
+      let (end, (ok, exact)) = whole-said bytes partialOf _ P middle partial-said partial-ends p in
+      whole P U middle (got-value z) (got-next z) p ok end exact (ltb-true _ _ few) free shut
+    where
+      whole : (P : Partial) (U : Task) (middle : ℕ) → builtTask P (out P) ≡ T → middle ≡ next → partialOf bytes 0 ≡ got P middle → Ordered P → middle ≡ length bytes → Exact bytes partialBytes P bytes
+          → length (P .operators ++ forgettings (P .sizes) (out P)) < numberEnd → holds (builtSizes (P .sizes)) (listed (builtPairs (P .sizes) (listed (P .pairs)))) (P .start) ≡ false
+          → allOf (closed (builtSizes (P .sizes)) (listed (builtPairs (P .sizes) (listed (P .pairs))))) (P .operators ++ forgettings (P .sizes) (out P)) ≡ true → AcceptedPartial out T next
+      whole P U middle same place p ok end exact few free shut = rw (← same, ← place) (record {
+        partial = P;
+        read = p;
+        ordered = ok;
+        task = refl;
+        writable = record { acceptable = built-acceptable P ok (out P) free (file-closed P shut); countable = few };
+        end = end;
+        exact = exact;
+        reached = reached-exactly P ok free (file-closed P shut) (out P);
+      })
+        where
+          file-closed : (P : Partial) → allOf (closed (builtSizes (P .sizes)) (listed (builtPairs (P .sizes) (listed (P .pairs))))) (P .operators ++ forgettings (P .sizes) (out P)) ≡ true
+              → allOf (closed (builtSizes (P .sizes)) (listed (builtPairs (P .sizes) (listed (P .pairs))))) (P .operators) ≡ true
+          file-closed P shut = all-each _ (P .operators) (λ o m. all-at _ _ shut o (append-left _ m))

@@ -43,19 +43,23 @@ JudgedInto (fault reason place) bytes words answer left = answer ≡ Refused (de
 
 -- ---- what an answer tells
 
--- What is known of an accepted file, by the counts and the place of the answer.
-pub record Known (bytes words left : List ℕ) (v n count at : ℕ) : Type 0 where
+-- What is known of a task that was accepted, by the counts of the answer: its header is left in the words.
+pub record KnownAs (judging : Read Task) (words left : List ℕ) (v n : ℕ) : Type 0 where
   pub task : Task
   pub next : ℕ
-  pub judged : judgedTask bytes ≡ got task next
+  pub judged : judging ≡ got task next
   pub writable : Writable task
   pub variables : v ≡ length (task .sizes)
   pub total : n ≡ features (task .sizes)
-  pub many : count ≡ length (task .operators)
-  pub operators : operatorsOf (task .sizes) count bytes at ≡ got (task .operators) next
   pub header : left ≡ begun words (headerWords task)
 
-module _ {bytes words left : List ℕ} {v n count at : ℕ} (known : Known bytes words left v n count at) where
+-- Of an accepted task file also where its operators are read.
+pub record Known (bytes words left : List ℕ) (v n count at : ℕ) : Type 0 where
+  pub accepted : KnownAs (judgedTask bytes) words left v n
+  pub many : count ≡ length (accepted .task .operators)
+  pub operators : operatorsOf (accepted .task .sizes) count bytes at ≡ got (accepted .task .operators) (accepted .next)
+
+module _ {judging : Read Task} {words left : List ℕ} {v n : ℕ} (known : KnownAs judging words left v n) where
   pub known-headed : Headed (known .task)
   known-headed = let a = known .writable .acceptable in record { limits = a .limits; start = a .start; goal = a .goal; pairs = a .pairs }
 
@@ -87,15 +91,9 @@ module _ (bytes words : List ℕ) (answer : Judged) (left : List ℕ) where
           let third : count ≡ length (T .operators) = cc in
           let fourth : k .at ≡ at = cc in
           record {
-            task = T;
-            next = next;
-            judged = q;
-            writable = accepted bytes T next q;
-            variables = first;
-            total = second;
+            accepted = record { task = T; next = next; judged = q; writable = accepted bytes T next q; variables = first; total = second; header = k .header };
             many = third;
             operators = rw (third, ← fourth) (k .operators);
-            header = k .header;
           }
       by (fault reason place) q k = absurd (let same : Refused (declaredOf reason) place ≡ Accepted v n count at = sym k ∙ e in let z : _≡_ {A = ℕ} 0 1 = cc in omega arith)
 

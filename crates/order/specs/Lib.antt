@@ -1,0 +1,2 @@
+-- What the judge of a partial task file answers.
+pub mod Answer

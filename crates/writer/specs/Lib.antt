@@ -2,6 +2,7 @@ pub mod Answer
 pub mod Parts
 pub mod Weights
 pub mod Widths
+pub mod Longest
 pub mod Front
 pub mod Remains
 pub mod Judging

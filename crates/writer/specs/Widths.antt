@@ -1,7 +1,7 @@
 -- The parts of a file, one after another, and how many bytes they have.
 use Prim.Native.Nat.{ℕ, _+_, _*_, _<_, _≤_}
-use mathlib.Core.Path.{_≡_, sym, ap, _∙_}
-use mathlib.Core.List.{List, [], _∷_, _++_}
+use mathlib.Core.Path.{_≡_, refl, sym, ap, _∙_}
+use mathlib.Core.List.{List, [], _∷_, _++_, List·Memᴰ as In, List·Memᴰ·head as here, List·Memᴰ·tail as there}
 use native.Mathlib.Omega.{arith}
 use native.Mathlib.Nat.{mul-suc}
 use native.Mathlib.Numerals.{add-one}
@@ -34,17 +34,17 @@ module _ {A : Type 0} (write : A → List ℕ) where
   bytes-none l i h = ap (bytesOf write) (drop-of-length-le l h)
 
   -- Things of at most k bytes each.
-  pub bytes-few : (k : ℕ) → ((a : A) → length (write a) ≤ k) → (l : List A) → length (bytesOf write l) ≤ k * length l
+  pub bytes-few : (k : ℕ) (l : List A) → ((a : A) → In a l → length (write a) ≤ k) → length (bytesOf write l) ≤ k * length l
   unfolding bytesOf
-  bytes-few k h [] = omega arith
-  bytes-few k h (a ∷ l) = omega (arith, length-append (write a) (bytesOf write l), h a, bytes-few k h l, mul-suc k (length l))
+  bytes-few k [] h = omega arith
+  bytes-few k (a ∷ l) h = omega (arith, length-append (write a) (bytesOf write l), h a (here refl), bytes-few k l (λ b m. h b (there m)), mul-suc k (length l))
 
   pub counted-length : (l : List A) → length (counted write l) ≡ length (numberBytes (length l)) + length (bytesOf write l)
   unfolding counted
   counted-length l = length-append (numberBytes (length l)) (bytesOf write l)
 
 pub numbers-few : (l : List ℕ) → length (bytesOf numberBytes l) ≤ mostGroups * length l
-numbers-few = bytes-few numberBytes mostGroups (λ n. number-bytes-length n .1)
+numbers-few l = bytes-few numberBytes mostGroups l (λ n _. number-bytes-length n .1)
 
 pub list-few : (l : List ℕ) → length (counted numberBytes l) ≤ mostGroups + mostGroups * length l
 list-few l = omega (arith, counted-length numberBytes l, number-bytes-length (length l) .1, numbers-few l)
@@ -56,7 +56,7 @@ entry-length e =
     omega (arith, length-append (numberBytes (e .variable)) values, length-append (numberBytes (e .before)) (numberBytes (e .after)))
 
 pub entries-few : (o : List Entry) → length (bytesOf entryBytes o) ≤ 3 * mostGroups * length o
-entries-few = bytes-few entryBytes (3 * mostGroups) few
+entries-few o = bytes-few entryBytes (3 * mostGroups) o (λ e _. few e)
   where
     few : (e : Entry) → length (entryBytes e) ≤ 3 * mostGroups
     few e = omega (arith, entry-length e, number-bytes-length (e .variable), number-bytes-length (e .before), number-bytes-length (e .after))

@@ -2,10 +2,8 @@
 use Prim.Native.Nat.{ℕ, _+_, _-_, _<_}
 use mathlib.Core.Path.{_≡_, refl, sym, ap, _∙_}
 use mathlib.Core.List.{List, [], _∷_, _++_, flatMap, foldl}
-use lib.ListN.{length}
 use Rattle.meaning.specs.Task.{Operator}
-use Rattle.meaning.specs.Number.{got}
-use Rattle.meaning.specs.File.{operatorOf, operatorsOf}
+use Rattle.meaning.specs.File.{operatorOf}
 use Rattle.meaning.specs.Workspace.{Content, wordsOf}
 use Rattle.theory.specs.Contents.{withSlots}
 use Rattle.theory.specs.InsertAll.{insertAll, insertAll-join}
@@ -14,7 +12,7 @@ use Rattle.number.specs.Answers.{placeOf}
 use Rattle.number.specs.declared.Step.{Step}
 use Rattle.number.specs.declared.Step.the-variants.{Next}
 use Rattle.layout.specs.Parts.{sizesPart}
-use Rattle.operator.specs.Fold.{walked, walk-keeps, walk-all, turn-more}
+use Rattle.operator.specs.Fold.{walked, walk-keeps, turn-more}
 use Rattle.condition.specs.Slotted.{withRows}
 use Rattle.condition.specs.Holds.{Holds, held-sizes, held-rows}
 
@@ -43,14 +41,10 @@ module _ (v n : ℕ) (bytes : List ℕ) where
     added-more next e = turn-more (withRows v n) (sizesPart v ws) bytes count k at ws answer left more place rows next e
         ∙ ap (λ sizes. walked (withRows v n) sizes (count - (k + 1)) bytes next left) (sym (ap (sizesPart v) rows ∙ added-keeps 1 at ws workable .1))
 
-  fold-rows : (os : List Operator) (c : Content) (further ws : List ℕ) → Holds v n c further ws
-      → foldl (withRows v n) ws os ≡ wordsOf (withSlots c (insertAll n (c .slots) (rowsAll (c .sizes) (c .pairs) os))) ++ further
-  unfolding rowsAll flatMap insertAll
-  fold-rows [] c further ws h = h .words
-  fold-rows (o ∷ os) c further ws h = fold-rows os _ further (withRows v n ws o) (held-rows v n c further ws h o)
-      ∙ ap (λ slots. wordsOf (withSlots c slots) ++ further) (sym (insertAll-join n (c .slots) (rowsOf (c .sizes) (c .pairs) o) (rowsAll (c .sizes) (c .pairs) os)))
-
-  -- Where the operators were read, the rows of all of them are inserted.
-  pub added-all : (os : List Operator) (at next : ℕ) (c : Content) (further ws : List ℕ) → Holds v n c further ws → operatorsOf (c .sizes) (length os) bytes at ≡ got os next
-      → addedFrom v n (length os) bytes at ws ≡ wordsOf (withSlots c (insertAll n (c .slots) (rowsAll (c .sizes) (c .pairs) os))) ++ further
-  added-all os at next c further ws h e = walk-all (withRows v n) (sizesPart v ws) bytes (length os) at os next ws (rw (held-sizes v n c further ws h) e) ∙ fold-rows os c further ws h
+-- Where a content is held, the rows of operators one after another are inserted into its slots.
+pub fold-rows : (v n : ℕ) (os : List Operator) (c : Content) (further ws : List ℕ) → Holds v n c further ws
+    → foldl (withRows v n) ws os ≡ wordsOf (withSlots c (insertAll n (c .slots) (rowsAll (c .sizes) (c .pairs) os))) ++ further
+unfolding rowsAll flatMap insertAll
+fold-rows v n [] c further ws h = h .words
+fold-rows v n (o ∷ os) c further ws h = fold-rows v n os _ further (withRows v n ws o) (held-rows v n c further ws h o)
+    ∙ ap (λ slots. wordsOf (withSlots c slots) ++ further) (sym (insertAll-join n (c .slots) (rowsOf (c .sizes) (c .pairs) o) (rowsAll (c .sizes) (c .pairs) os)))

@@ -3,21 +3,21 @@ use Prim.Native.Nat.{ℕ, zero, suc, _+_, _-_, _*_, _<_, _≤_}
 use mathlib.Core.Path.{_≡_, refl, sym, ap, ap₂, _∙_}
 use mathlib.Core.Logic.{Iff·symm}
 use mathlib.Core.Bool.{false}
-use mathlib.Core.List.{List, _++_, append-assoc}
+use mathlib.Core.List.{List, _++_, append-assoc, foldl}
 use native.Mathlib.Omega.{arith}
 use lib.Dec.{ltb}
 use lib.ListN.{length, take, drop, replicate, length-drop, length-replicate, replicate-append-replicate}
 use lib.Seq.{take-at, drop-at, drop-drop, length-take-le}
 use borrow.Author.Tests.{lt-ltb, le-ltb}
 use Rattle.meaning.specs.Sets.{Slots, flat, listed}
-use Rattle.meaning.specs.Task.{Task}
+use Rattle.meaning.specs.Task.{Operator, Task}
 use Rattle.meaning.specs.Feature.{features}
-use Rattle.meaning.specs.Number.{fault, Reason, refusal, Small}
-use Rattle.meaning.specs.File.{judgedTask, operatorsOf}
+use Rattle.meaning.specs.Number.{Read, got, fault, Reason, refusal, Small}
+use Rattle.meaning.specs.File.{operatorsOf}
 use Rattle.meaning.specs.Slot.{SlotsOf}
 use Rattle.meaning.specs.Weight.{Meets}
 use Rattle.meaning.specs.Workspace.{wordsFor, slotsAt, wordsDue, packed, wordsOf, contentOf}
-use Rattle.meaning.specs.Answer.{Outcome, done, refused, Opens}
+use Rattle.meaning.specs.Answer.{Outcome, done, refused, OpensAs}
 use Rattle.theory.specs.Search.{and-none-right}
 use Rattle.theory.specs.Words.{packed-is}
 use Rattle.theory.specs.Contents.{slotWords, length-words, opened-proper}
@@ -26,9 +26,12 @@ use Rattle.theory.specs.Rows.{rowsAll, meets-rows}
 use Rattle.theory.specs.SlotsOf.{slots-along}
 use Rattle.words.specs.Part.{has-none, words-none}
 use Rattle.task.specs.Header.{headerWords, header-content, header-length}
-use Rattle.task.specs.Answer.{Known, known-headed, known-header}
-use Rattle.condition.specs.Holds.{Holds}
-use Rattle.opening.specs.Adding.{Workable, addedFrom, added-all}
+use Rattle.layout.specs.Parts.{sizesPart}
+use Rattle.operator.specs.Fold.{walk-all}
+use Rattle.task.specs.Answer.{KnownAs, known-headed, known-header}
+use Rattle.condition.specs.Slotted.{withRows}
+use Rattle.condition.specs.Holds.{Holds, held-sizes}
+use Rattle.opening.specs.Adding.{Workable, addedFrom, fold-rows}
 
 -- ---- two parts written one after the other
 
@@ -66,12 +69,16 @@ zeros-slots n = sym (zeros-flat n (wordsFor n) (λ i. packed n (bare i)) (zeros-
 abbrev refusedWith : List ℕ → ℕ → Outcome ℕ
 refusedWith room number = record { answer = refused number; lent = room }
 
-module _ (bytes words left room : List ℕ) (v n count at : ℕ) (known : Known bytes words left v n count at) where
+module _ (judging : Read Task) (words left room : List ℕ) (v n : ℕ) (known : KnownAs judging words left v n) where
   abbrev task : Task
   task = known .task
 
   header-long : length (headerWords task) ≡ slotsAt v n
   header-long = header-length task (known-headed known) ∙ sym (ap₂ slotsAt (known .variables) (known .total))
+
+  -- The slots of its operators.
+  abbrev operatorSlots : Slots
+  operatorSlots = insertAll (features (task .sizes)) bare (rowsAll (task .sizes) (listed (task .pairs)) (task .operators))
 
   -- A workspace that has the header in front, and empty slots behind it.
   module _ (due slots : ℕ) (ws : List ℕ) (due-is : due ≡ wordsDue v n) (slots-is : slots ≡ slotsAt v n)
@@ -100,15 +107,15 @@ module _ (bytes words left room : List ℕ) (v n count at : ℕ) (known : Known 
     pub begun-workable : Workable v n ws
     begun-workable = (contentOf task bare, drop due room, holds)
 
-    pub begun-added : (exit : List ℕ) → exit ≡ addedFrom v n count bytes at ws → exit
-        ≡ wordsOf (contentOf task (insertAll (features (task .sizes)) bare (rowsAll (task .sizes) (listed (task .pairs)) (task .operators)))) ++ drop due room
-    begun-added exit e = e ∙ ap (λ k. addedFrom v n k bytes at ws) (known .many)
-        ∙ added-all v n bytes (task .operators) at (known .next) (contentOf task bare) (drop due room) ws holds (ap (λ k. operatorsOf (task .sizes) k bytes at) (sym (known .many)) ∙ known .operators)
-        ∙ ap (λ m. wordsOf (contentOf task (insertAll m bare (rowsAll (task .sizes) (listed (task .pairs)) (task .operators)))) ++ drop due room) (known .total)
+    -- The rows of operators that are read by its sizes.
+    pub begun-added : (bytes : List ℕ) (count at next : ℕ) (os : List Operator) → operatorsOf (task .sizes) count bytes at ≡ got os next
+        → (exit : List ℕ) → exit ≡ addedFrom v n count bytes at ws → exit ≡ foldl (withRows v n) ws os
+    begun-added bytes count at next os e exit q = q ∙ walk-all (withRows v n) (sizesPart v ws) bytes count at os next ws (rw (held-sizes v n (contentOf task bare) (drop due room) ws holds) e)
 
-  -- The slots of its operators.
-  abbrev operatorSlots : Slots
-  operatorSlots = insertAll (features (task .sizes)) bare (rowsAll (task .sizes) (listed (task .pairs)) (task .operators))
+    -- With the rows of all its operators it is the task's workspace.
+    pub begun-rows : (exit : List ℕ) → exit ≡ foldl (withRows v n) ws (task .operators) → exit ≡ wordsOf (contentOf task operatorSlots) ++ drop due room
+    begun-rows exit e = e ∙ fold-rows v n (task .operators) (contentOf task bare) (drop due room) ws holds
+        ∙ ap (λ m. wordsOf (contentOf task (insertAll m bare (rowsAll (task .sizes) (listed (task .pairs)) (task .operators)))) ++ drop due room) (known .total)
 
   are-slots : SlotsOf (features (task .sizes)) (Meets (task .sizes) (listed (task .pairs)) (task .operators)) operatorSlots
   are-slots = slots-along _ _ _ _ (λ w. Iff·symm (meets-rows (task .sizes) (listed (task .pairs)) (task .operators) (λ o i. known .writable .acceptable .operators o i .entries) w))
@@ -121,16 +128,16 @@ module _ (bytes words left room : List ℕ) (v n count at : ℕ) (known : Known 
   due-for = ap₂ wordsDue (known .variables) (known .total)
 
   -- Too little room.
-  pub opens-small : (due number : ℕ) → due ≡ wordsDue v n → length room < due → number ≡ refusal Small → Opens bytes room (record { answer = refused number; lent = room })
+  pub opens-small : (due number : ℕ) → due ≡ wordsDue v n → length room < due → number ≡ refusal Small → OpensAs judging room (record { answer = refused number; lent = room })
   opens-small due number e h q = rw (known .judged, lt-ltb (length room) (wordsDue (length (task .sizes)) (features (task .sizes))) (omega (arith, e, due-for))) (ap (refusedWith room) q)
 
   -- Enough of it.
   pub opens-done : (due : ℕ) (exit : List ℕ) → due ≡ wordsDue v n → due ≤ length room → exit ≡ wordsOf (contentOf task operatorSlots) ++ drop due room
-      → Opens bytes room (record { answer = done due; lent = exit })
+      → OpensAs judging room (record { answer = done due; lent = exit })
   opens-done due exit e h x = rw (known .judged, le-ltb (length room) (wordsDue (length (task .sizes)) (features (task .sizes))) (omega (arith, e, due-for)))
       (operatorSlots, are-slots, ap₂ (λ d l. record { answer = done d; lent = l }) (e ∙ due-for) (x ∙ ap (λ k. wordsOf (contentOf task operatorSlots) ++ drop k room) (e ∙ sym long)))
 
 -- A task that was refused.
-pub opens-refused : (bytes room : List ℕ) (reason : Reason) (place number : ℕ) → judgedTask bytes ≡ fault reason place → number ≡ refusal reason
-    → Opens bytes room (record { answer = refused number; lent = room })
-opens-refused bytes room reason place number e q = rw e (ap (refusedWith room) q)
+pub opens-refused : (judging : Read Task) (room : List ℕ) (reason : Reason) (place number : ℕ) → judging ≡ fault reason place → number ≡ refusal reason
+    → OpensAs judging room (record { answer = refused number; lent = room })
+opens-refused judging room reason place number e q = rw e (ap (refusedWith room) q)

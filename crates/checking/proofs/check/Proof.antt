@@ -30,19 +30,19 @@ enum-known-variables : tie.Need-enum-known-variables
 enum-known-variables c = search needs
 
 words-for-requires : tie.Need-words-for-requires
-words-for-requires c κs = known-room (known (c .before)) .features
+words-for-requires c κs = known-room (known (c .before) .accepted) .features
 
 slice-aggregate-weigh : tie.Need-slice-aggregate-weigh
 slice-aggregate-weigh c = search needs
 
 array-borrow-prefix-words : tie.Need-array-borrow-prefix-words
-array-borrow-prefix-words c = let counted = c .before in omega (arith, counted .words-for .ensures, known-room (known (task counted)) .features)
+array-borrow-prefix-words c = let counted = c .before in omega (arith, counted .words-for .ensures, known-room (known (task counted) .accepted) .features)
 
 slice-aggregate-weigh-2 : tie.Need-slice-aggregate-weigh-2
-slice-aggregate-weigh-2 c = let counted = c .before .before in simp length-take (omega (arith, counted .words-for .ensures, known-room (known (task counted)) .features))
+slice-aggregate-weigh-2 c = let counted = c .before .before in simp length-take (omega (arith, counted .words-for .ensures, known-room (known (task counted) .accepted) .features))
 
 weigh-requires : tie.Need-weigh-requires
-weigh-requires c κs = let counted = c .before .before in let accepted = known (task counted) in ((_, accepted), room-zeros _ _ (known-room accepted .features) (counted .words-for .ensures))
+weigh-requires c κs = let counted = c .before .before in let told = known (task counted) in ((_, told), room-zeros _ _ (known-room (told .accepted) .features) (counted .words-for .ensures))
 
 enum-known-reason : tie.Need-enum-known-reason
 enum-known-reason c = search needs

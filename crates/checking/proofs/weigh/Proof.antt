@@ -29,21 +29,20 @@ enum-told : tie.Need-enum-told
 enum-told c = search needs
 
 sizes-requires : tie.Need-sizes-requires
-sizes-requires c κs = headed-sizes (known-room (start c .pre .0 .1))
+sizes-requires c κs = headed-sizes (known-room (start c .pre .0 .1 .accepted))
 
 start-requires : tie.Need-start-requires
-start-requires c κs = known-room (start (c .before) .pre .0 .1)
+start-requires c κs = known-room (start (c .before) .pre .0 .1 .accepted)
 
 goal-requires : tie.Need-goal-requires
-goal-requires c κs = known-room (start (c .before .before) .pre .0 .1)
+goal-requires c κs = known-room (start (c .before .before) .pre .0 .1 .accepted)
 
 pairs-requires : tie.Need-pairs-requires
-pairs-requires c κs = known-room (start (c .before .before .before) .pre .0 .1)
+pairs-requires c κs = known-room (start (c .before .before .before) .pre .0 .1 .accepted)
 
 judge-weights-requires : tie.Need-judge-weights-requires
 judge-weights-requires c κs = let lent = c .before in let (ws, said, held) = weights (read lent) in
-    lent-ready _ _ _ _ _ _ _ (start (read lent) .pre .0 .1) _ _ _ _ _ (lent .before .before .before .sizes .ensures) (lent .before .before .start .ensures) (lent .before .goal .ensures) (lent .pairs .ensures)
-    ws _ _ said held
+    lent-ready _ _ _ _ _ (start (read lent) .pre .0 .1 .accepted) _ ws _ _ said held _ _ _ _ (lent .before .before .before .sizes .ensures) (lent .before .before .start .ensures) (lent .before .goal .ensures) (lent .pairs .ensures)
 
 enum-known-reason : tie.Need-enum-known-reason
 enum-known-reason c = search needs
@@ -56,14 +55,14 @@ same-length c = search needs
 
 returns : tie.Need-returns
 returns c = let lent = c .before .before in let (ws, said, held) = weights (read lent) in
-    lent-checks _ _ _ _ _ _ _ (start (read lent) .pre .0 .1) _ _ _ _ _ (lent .before .before .before .sizes .ensures) (lent .before .before .start .ensures) (lent .before .goal .ensures) (lent .pairs .ensures)
-    ws _ _ said held _ (c .judge-weights .ensures)
+    lent-checks _ _ _ _ _ _ _ (start (read lent) .pre .0 .1) _ ws _ _ said held _ _ _ _ (lent .before .before .before .sizes .ensures) (lent .before .before .start .ensures) (lent .before .goal .ensures) (lent .pairs .ensures)
+    _ (c .judge-weights .ensures)
 
 same-length-2 : tie.Need-same-length-2
 same-length-2 c = search needs
 
 returns-2 : tie.Need-returns-2
-returns-2 c = weights-refused _ _ _ _ _ _ _ (c .before .before .before .before .before .before .before .before .before .before .before .before .pre .0 .1) _ _ _
+returns-2 c = weights-refused _ _ _ _ _ (c .before .before .before .before .before .before .before .before .before .before .before .before .pre .0 .1 .accepted) _ _ _
     (reads-fault _ _ _ _ _ _ (c .before .before .before .before .before .before .read-weights .ensures) (c .before .before .reason .given .1)) _ (c .refusal .ensures)
 
 pub weigh-spec : {M : Type 1} → statement M

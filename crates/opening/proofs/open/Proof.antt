@@ -10,7 +10,7 @@ use Rattle.meaning.specs.Limits.{mostVariables, mostFeatures}
 use Rattle.meaning.specs.Workspace.{slotsAt, wordsDue}
 use Rattle.layout.specs.Places.{places-are}
 use Rattle.task.specs.Answer.{Known, judged-accepted, judged-refused, known-room}
-use Rattle.opening.specs.Begin.{begun-workable, begun-added, opens-small, opens-done, opens-refused}
+use Rattle.opening.specs.Begin.{begun-workable, begun-added, begun-rows, opens-small, opens-done, opens-refused}
 use Rattle.opening.proofs.open.Statement.{statement}
 use Rattle.opening.proofs.open.Tie as tie
 
@@ -43,25 +43,25 @@ enum-known-variables : tie.Need-enum-known-variables
 enum-known-variables c = search needs
 
 places-for-requires : tie.Need-places-for-requires
-places-for-requires c κs = let room = known-room (known (c .before)) in (room .variables, room .features)
+places-for-requires c κs = let room = known-room (known (c .before) .accepted) in (room .variables, room .features)
 
 refusal-requires : tie.Need-refusal-requires
 refusal-requires c κs = search needs
 
 returns : tie.Need-returns
-returns c = let p = c .before .before .before in opens-small _ _ _ (lent p) _ _ _ _ (known (task p)) _ _ (due p) (c .before .if1 .taken) (c .refusal .ensures)
+returns c = let p = c .before .before .before in opens-small _ _ _ (lent p) _ _ (known (task p) .accepted) _ _ (due p) (c .before .if1 .taken) (c .refusal .ensures)
 
 array-share-prefix-header : tie.Need-array-share-prefix-header
-array-share-prefix-header c = let p = c .before .before .before in let room = known-room (known (task p)) in omega (arith, slots p, room .variables, room .features)
+array-share-prefix-header c = let p = c .before .before .before in let room = known-room (known (task p) .accepted) in omega (arith, slots p, room .variables, room .features)
 
 slice-aggregate-begin : tie.Need-slice-aggregate-begin
-slice-aggregate-begin c = let p = c .before .before .before .before in let room = known-room (known (task p)) in sym (length-take-le _ _ (omega (arith, slots p, room .variables, room .features)))
+slice-aggregate-begin c = let p = c .before .before .before .before in let room = known-room (known (task p) .accepted) in sym (length-take-le _ _ (omega (arith, slots p, room .variables, room .features)))
 
 begin-requires : tie.Need-begin-requires
 begin-requires c κs = let p = c .before .before .before .before in (simp length-take (omega (arith, due p, slots p)), c .before .before .if1 .left)
 
 add-operators-requires : tie.Need-add-operators-requires
-add-operators-requires c κs = let p = c .before .before .before .before .before .before .before .before in begun-workable _ _ _ (lent p) _ _ _ _ (known (task p)) _ _ _ (due p) (slots p) (c .before .before .before .begin .ensures)
+add-operators-requires c κs = let p = c .before .before .before .before .before .before .before .before in begun-workable _ _ _ (lent p) _ _ (known (task p) .accepted) _ _ _ (due p) (slots p) (c .before .before .before .begin .ensures)
 
 enum-known-reason : tie.Need-enum-known-reason
 enum-known-reason c = search needs
@@ -73,8 +73,13 @@ same-length : tie.Need-same-length
 same-length c = search needs
 
 returns-2 : tie.Need-returns-2
-returns-2 c = let p = c .before .before .before .before .before .before .before .before .before .before .before in opens-done _ _ _ (lent p) _ _ _ _ (known (task p)) _ _ (due p) (c .before .before .before .before .before .before .before .before .before .if1 .left)
-    (begun-added _ _ _ (lent p) _ _ _ _ (known (task p)) _ _ _ (due p) (slots p) (c .before .before .before .before .before .before .begin .ensures) _ (c .before .before .add-operators .ensures))
+returns-2 c =
+    let p = c .before .before .before .before .before .before .before .before .before .before .before in
+    let accepted = known (task p) .accepted in
+    let begun = c .before .before .before .before .before .before .begin .ensures in
+    opens-done _ _ _ (lent p) _ _ accepted _ _ (due p) (c .before .before .before .before .before .before .before .before .before .if1 .left)
+    (begun-rows _ _ _ (lent p) _ _ accepted _ _ _ (due p) (slots p) begun _
+    (begun-added _ _ _ (lent p) _ _ accepted _ _ _ (due p) (slots p) begun _ _ _ _ _ (known (task p) .operators) _ (c .before .before .add-operators .ensures)))
 
 returns-3 : tie.Need-returns-3
 returns-3 c = opens-refused _ (c .before .before .before .before .before .before .before .before .before .args .room .now) _ _ _ (judged-refused _ _ _ _ _ _ (c .before .before .before .before .before .judge .ensures) (c .before .before .reason .given .1)) (c .refusal2 .ensures)

@@ -1,14 +1,34 @@
--- The forgetting operators that are kept, in the order in which they are found.
-use Prim.Native.Nat.{ℕ, _+_, _-_, _*_, _<_, _≤_}
-use mathlib.Core.Path.{_≡_}
-use mathlib.Core.Bool.{Bool, false, cond}
-use mathlib.Core.List.{List, [], _∷_, _++_}
-use lib.ListN.{length}
-use Rattle.meaning.specs.Sets.{Set, flat}
+-- The forgetting operators that are kept, in the order in which they are found: laws for a walk over them.
+use Prim.Native.Nat.{ℕ, zero, suc, _+_, _-_, _*_, _<_, _≤_}
+use mathlib.Core.Path.{_≡_, refl, sym, ap, ap₂, _∙_}
+use mathlib.Core.Bool.{Bool, true, false, cond}
+use mathlib.Core.List.{List, [], _∷_, _++_, append-assoc, append-nil, List·Memᴰ as In, List·Memᴰ·not-nil as not-nil, List·Memᴰ·eq-of-singleton as eq-of-singleton}
+use native.Mathlib.Omega.{arith}
+use native.Mathlib.Numerals.{add-one}
+use lib.ListN.{length, length-append}
+use Rattle.meaning.specs.Sets.{Set, flat, table, listed}
 use Rattle.meaning.specs.Limits.{mostSize}
-use Rattle.meaning.specs.Task.{Operator, size}
+use Rattle.meaning.specs.Task.{Operator, IsOperator, size}
+use Rattle.meaning.specs.Answer.{operatorIn}
+use Rattle.meaning.specs.Partial.{Partial, Ordered, forgettings, builtSizes, builtPairs}
+use Rattle.theory.specs.Truth.{less, same, more, order}
+use Rattle.theory.specs.Flat.{flat-in, flat-cong}
+use Rattle.theory.specs.Slices.{entryOf, entriesIn}
+use Rattle.theory.specs.PartialPairs.{built-length, built-size}
+use Rattle.theory.specs.PartialParts.{outFor}
+use Rattle.pairs.specs.Ready.{Listed, Ready}
 use Rattle.forgetting.specs.declared.Kept.{Kept}
-use Rattle.forgetting.specs.Out.{outBy}
+use Rattle.forgetting.specs.Out.{outBy, out-by}
+
+-- What is made for the numbers before one is the beginning of all.
+flat-split : {A : Type 0} (n : ℕ) (g : ℕ → List A) (i : ℕ) → i < n → (rest : List A) × (flat n g ≡ flat i g ++ (g i ++ rest))
+unfolding flat
+flat-split zero g i l = absurd (omega arith)
+flat-split (suc n) g i l = elim (order i n) [
+  | less k ↦ let (rest, e) = flat-split n g i k in (rest ++ g n, rw e (append-assoc (flat i g) (g i ++ rest) (g n) ∙ ap (_++_ (flat i g)) (append-assoc (g i) rest (g n))))
+  | same q ↦ ([], rw q (ap (_++_ (flat n g)) (sym (append-nil (g n)))))
+  | more k ↦ absurd (omega arith)
+]
 
 module _ (sizes : List ℕ) where
   -- How many values a variable has without "unknown", which is the number of "unknown" itself.
@@ -41,6 +61,101 @@ module _ (sizes : List ℕ) where
       pub there : r .variable < length sizes → (r .value < unknownOf (r .variable)) × (out (r .variable) (r .value) ≡ false)
       pub after : i * mostSize + x ≤ r .variable * mostSize + r .value
 
+    -- ---- a walk from one to the next
+
+    pub kept-none : keptBefore 0 0 ≡ []
+    unfolding keptBefore flat
+    kept-none = refl
+
+    one-kept : (i x : ℕ) → out i x ≡ false → keptOne i x ≡ forgottenBy i x ∷ []
+    unfolding keptOne
+    one-kept i x e = rw e refl
+
+    -- One that is left out, one that is kept, and the end of a variable's values.
+    pub kept-skip : (i x : ℕ) → out i x ≡ true → keptBefore i (x + 1) ≡ keptBefore i x
+    unfolding keptBefore flat keptOne
+    kept-skip i x e = rw (add-one, e) (ap (_++_ (flat i keptRow)) (append-nil (flat x (keptOne i))))
+
+    pub kept-more : (i x : ℕ) → out i x ≡ false → keptBefore i (x + 1) ≡ keptBefore i x ++ (forgottenBy i x ∷ [])
+    unfolding keptBefore flat keptOne
+    kept-more i x e = rw (add-one, e) (sym (append-assoc (flat i keptRow) (flat x (keptOne i)) _))
+
+    pub kept-turn : (i : ℕ) → keptBefore i (unknownOf i) ≡ keptBefore (i + 1) 0
+    unfolding keptBefore flat keptRow
+    kept-turn i = rw add-one (sym (append-nil _))
+
+    pub kept-last : keptBefore (length sizes) 0 ≡ keptAll
+    unfolding keptBefore keptAll flat
+    kept-last = append-nil _
+
+    -- What is before a place that is kept is the beginning of all.
+    pub kept-split : (i x : ℕ) → i < length sizes → x < unknownOf i → out i x ≡ false → (rest : List Operator) × (keptAll ≡ keptBefore i x ++ (forgottenBy i x ∷ rest))
+    unfolding keptBefore keptAll keptRow
+    kept-split i x l h e =
+        let (later, p) = flat-split (length sizes) keptRow i l in
+        let (behind, q) = flat-split (unknownOf i) (keptOne i) x h in
+        (behind ++ later, p ∙ ap (λ row. flat i keptRow ++ (row ++ later)) (q ∙ ap (λ one. flat x (keptOne i) ++ (one ++ behind)) (one-kept i x e)) ∙ sym (simp append-assoc))
+
+    -- Every one of them.
+    pub kept-in : (o : Operator) → In o keptAll → (i : ℕ) × (x : ℕ) × (i < length sizes) × (x < unknownOf i) × (out i x ≡ false) × (o ≡ forgottenBy i x)
+    unfolding keptAll keptRow keptOne
+    kept-in o m =
+        let (i, l, k) = flat-in (length sizes) keptRow o m in
+        let (x, h, n) = flat-in (unknownOf i) (keptOne i) o k in
+        let (e, q) = kept (out i x) (forgottenBy i x) n in
+        (i, x, l, h, e, q)
+      where
+        kept : (t : Bool) (p : Operator) → In o (cond t [] (p ∷ [])) → (t ≡ false) × (o ≡ p)
+        kept true p m = absurd (not-nil m)
+        kept false p m = (refl, eq-of-singleton m)
+
+    -- ---- what was found
+
+    module _ (i x : ℕ) (r : Kept) (found : Found i x r) where
+      -- It is found again from its own place on.
+      pub found-stands : Found (r .variable) (r .value) r
+      found-stands = record { same = refl; within = found .within; end = found .end; there = found .there; after = omega arith }
+
+      pub found-more : r .variable < length sizes → keptBefore (r .variable) (r .value + 1) ≡ keptBefore i x ++ (forgottenBy (r .variable) (r .value) ∷ [])
+      found-more l = kept-more (r .variable) (r .value) (found .there l .1) ∙ ap (λ os. os ++ (forgottenBy (r .variable) (r .value) ∷ [])) (found .same)
+
+      pub found-split : r .variable < length sizes → (rest : List Operator) × (keptAll ≡ keptBefore i x ++ (forgottenBy (r .variable) (r .value) ∷ rest))
+      found-split l =
+          let (rest, e) = kept-split (r .variable) (r .value) l (found .there l .0) (found .there l .1) in
+          (rest, e ∙ ap (λ os. os ++ (forgottenBy (r .variable) (r .value) ∷ rest)) (found .same))
+
+      pub found-end : length sizes ≤ r .variable → keptBefore i x ≡ keptAll
+      found-end l = let last : r .variable ≡ length sizes = omega (arith, found .within) in sym (found .same) ∙ ap₂ keptBefore last (found .end l) ∙ kept-last
+
+      -- As a count: the next one, one that is there, the end.
+      pub found-next : r .variable < length sizes → length (keptBefore (r .variable) (r .value + 1)) ≡ length (keptBefore i x) + 1
+      found-next l = ap length (found-more l) ∙ length-append (keptBefore i x) _
+
+      pub found-below : r .variable < length sizes → length (keptBefore i x) < length keptAll
+      found-below l = let (rest, e) = found-split l in omega (arith, ap length e ∙ length-append (keptBefore i x) (forgottenBy (r .variable) (r .value) ∷ rest))
+
+  -- ---- as operators
+
+  module _ (i x : ℕ) (l : i < length sizes) (h : x < unknownOf i) where
+    pub kept-operator : IsOperator sizes (forgottenBy i x)
+    kept-operator = record { filled = omega arith; entries = (omega arith, l, omega arith, omega arith, tt) }
+
+    -- In three slices of one element.
+    pub kept-entries : entriesIn (i ∷ []) (x ∷ []) (unknownOf i ∷ []) ≡ forgottenBy i x
+    unfolding operatorIn table
+    kept-entries = refl
+
+    pub kept-ready : (pairs : List ℕ) → Listed sizes pairs → Ready sizes pairs (i ∷ []) (x ∷ []) (unknownOf i ∷ [])
+    kept-ready pairs ready = record { limits = ready .limits; due = ready .due; befores-equal = refl; afters-equal = refl; entries = rw kept-entries (kept-operator .entries) }
+
 -- Those that a header keeps.
 abbrev pub keptIn : List ℕ → Set → List ℕ → Bool → List Operator
 keptIn sizes pairs goal lean = keptAll sizes (outBy sizes pairs goal lean)
+
+-- On the built task's header they are the request's.
+pub kept-forgettings : (P : Partial) (ok : Ordered P) (lean : Bool)
+    → keptIn (builtSizes (P .sizes)) (listed (builtPairs (P .sizes) (listed (P .pairs)))) (P .goal) lean ≡ forgettings (P .sizes) (outFor lean P)
+unfolding keptAll keptRow keptOne forgettings
+kept-forgettings P ok lean = rw (built-length (P .sizes)) (flat-cong (length (P .sizes)) _ _ (λ i l.
+    let d : size (builtSizes (P .sizes)) i - 1 ≡ size (P .sizes) i = omega (arith, built-size (P .sizes) i l) in
+    rw d (flat-cong (size (P .sizes) i) _ _ (λ x h. rw (out-by P ok lean i x l h) (ap (λ u. cond (outFor lean P i x) [] ((entryOf i x u ∷ []) ∷ [])) d)))))

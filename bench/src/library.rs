@@ -16,6 +16,26 @@ extern "C" {
     ) -> u64;
     fn florumeja_build(bay: *const u8, bay_length: usize, room: *mut u8, room_length: usize)
         -> u64;
+    fn florumeja_silence(
+        task: *const u8,
+        task_length: usize,
+        marks: *const u8,
+        marks_length: usize,
+        room: *mut u8,
+        room_length: usize,
+    ) -> u64;
+    fn florumeja_build_partial(
+        partial: *const u8,
+        partial_length: usize,
+        room: *mut u8,
+        room_length: usize,
+    ) -> u64;
+    fn florumeja_open_partial(
+        partial: *const u8,
+        partial_length: usize,
+        room: *mut u64,
+        room_length: usize,
+    ) -> u64;
 }
 
 pub fn open(task: &[u8], room: &mut [u64]) -> u64 {
@@ -38,4 +58,42 @@ pub fn find(workspace: &[u64], room: &mut [u64]) -> u64 {
 pub fn build(bay: &[u8], room: &mut [u8]) -> u64 {
     // SAFETY: both slices are alive and apart; only the room is lent for writing.
     unsafe { florumeja_build(bay.as_ptr(), bay.len(), room.as_mut_ptr(), room.len()) }
+}
+
+pub fn silence(task: &[u8], marks: &[u8], room: &mut [u8]) -> u64 {
+    // SAFETY: the three slices are alive and apart; only the room is lent for writing.
+    unsafe {
+        florumeja_silence(
+            task.as_ptr(),
+            task.len(),
+            marks.as_ptr(),
+            marks.len(),
+            room.as_mut_ptr(),
+            room.len(),
+        )
+    }
+}
+
+pub fn build_partial(partial: &[u8], room: &mut [u8]) -> u64 {
+    // SAFETY: both slices are alive and apart; only the room is lent for writing.
+    unsafe {
+        florumeja_build_partial(
+            partial.as_ptr(),
+            partial.len(),
+            room.as_mut_ptr(),
+            room.len(),
+        )
+    }
+}
+
+pub fn open_partial(partial: &[u8], room: &mut [u64]) -> u64 {
+    // SAFETY: both slices are alive and apart; only the room is lent for writing.
+    unsafe {
+        florumeja_open_partial(
+            partial.as_ptr(),
+            partial.len(),
+            room.as_mut_ptr(),
+            room.len(),
+        )
+    }
 }

@@ -8,6 +8,7 @@ mod library;
 #[cfg_attr(not(feature = "m4ri"), path = "no_m4ri.rs")]
 mod m4ri;
 mod measure;
+mod orders;
 mod plain;
 mod table;
 mod tasks;
@@ -82,19 +83,26 @@ fn measure(case: &Case) -> Result<[Line; 2], String> {
 /// Measures each case, or those whose names contain the first argument.
 fn main() -> ExitCode {
     let wanted = std::env::args().nth(1).unwrap_or_default();
-    let mut lines = Vec::new();
-    for case in tasks::cases() {
-        if !case.name.contains(&wanted) {
-            continue;
-        }
-        match measure(&case) {
-            Ok(measured) => lines.extend(measured),
-            Err(difference) => {
-                eprintln!("{}: {difference}", case.name);
-                return ExitCode::FAILURE;
-            }
+    match run(&wanted) {
+        Ok(()) => ExitCode::SUCCESS,
+        Err(difference) => {
+            eprintln!("{difference}");
+            ExitCode::FAILURE
         }
     }
+}
+
+fn run(wanted: &str) -> Result<(), String> {
+    let mut lines = Vec::new();
+    for case in tasks::cases() {
+        if case.name.contains(wanted) {
+            lines.extend(measure(&case).map_err(|fault| format!("{}: {fault}", case.name))?);
+        }
+    }
+    let order = orders::measure(wanted)?;
     table::print(&lines);
-    ExitCode::SUCCESS
+    if let Some(order) = &order {
+        orders::print(order);
+    }
+    Ok(())
 }

@@ -81,7 +81,7 @@ fn size(checked: &Checked) -> String {
 }
 
 /// A time in the unit that suits it.
-fn shown(seconds: f64) -> String {
+pub fn shown(seconds: f64) -> String {
     if seconds < 1e-3 {
         format!("{:.1} µs", seconds * 1e6)
     } else {
@@ -126,7 +126,7 @@ fn print_line(line: &Line) {
     );
 }
 
-fn verdict(is_met: bool) -> &'static str {
+pub fn verdict(is_met: bool) -> &'static str {
     if is_met {
         "met"
     } else {

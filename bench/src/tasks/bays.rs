@@ -3,15 +3,19 @@
 use super::Case;
 use crate::{answer, library};
 
-/// More than the largest bay's task file takes.
-const ROOM: usize = 4096;
+/// More than a task file takes of the largest bay, or of an order for it.
+const ROOM: usize = 8192;
 
 pub fn case(rows: u8, columns: u8, is_large_bay: bool) -> Case {
     Case {
         name: format!("bay {rows} by {columns}"),
-        file: build(&bay_file(rows, columns)),
+        file: task_file(rows, columns),
         is_large_bay,
     }
+}
+
+pub fn task_file(rows: u8, columns: u8) -> Vec<u8> {
+    written(|room| library::build(&bay_file(rows, columns), room))
 }
 
 fn bay_file(rows: u8, columns: u8) -> Vec<u8> {
@@ -21,10 +25,10 @@ fn bay_file(rows: u8, columns: u8) -> Vec<u8> {
     [vec![rows, columns], start, goal].concat()
 }
 
-fn build(bay: &[u8]) -> Vec<u8> {
+/// The file that a call of the library writes.
+pub fn written(call: impl Fn(&mut [u8]) -> u64) -> Vec<u8> {
     let mut room = vec![0; ROOM];
-    let answer = library::build(bay, &mut room);
-    let length = answer::value(answer).expect("the library builds a bay in its limits");
+    let length = answer::value(call(&mut room)).expect("the library writes a file within its limits");
     room.truncate(length);
     room
 }

@@ -1,6 +1,6 @@
 //! The task files that are measured.
 
-mod bays;
+pub mod bays;
 mod dense;
 mod random;
 mod write;

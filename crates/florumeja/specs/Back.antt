@@ -1,8 +1,10 @@
 -- What a caller reads in the number of each call of the face is the call's answer, and each call leaves one number and one memory.
 use Prim.Native.Nat.{ℕ}
+use mathlib.Core.Bool.{Bool}
 use mathlib.Core.List.{List}
 use Rattle.meaning.specs.Answer.{Checks, Opens, Finds, Edit, Edits}
 use Rattle.meaning.specs.Bay.{Builds}
+use Rattle.meaning.specs.Partial.{Partial, judgedPartial, leftOut, OpensPartial, ChecksPartial, BuildsBy, Silences}
 use Rattle.theory.specs.Determined.{AtMostOne, is-only, checks-only, opens-only, finds-only, edits-only, builds-only}
 use Rattle.line.specs.Answer.{Lines, lines-only}
 use Rattle.words.specs.Members.{membersIn}
@@ -10,7 +12,7 @@ use Rattle.writer.specs.Weights.{weightsWritten, Writes}
 use Rattle.verdicts.specs.Answer.{VerdictLines, verdict-lines-only}
 use Rattle.codes.specs.Code.{verdictCode, lengthCode, findingCode, editCode, Coded, Left, Leaves}
 use Rattle.codes.specs.Back.{answerIn, read-allowed, outcomeIn, outcome-allowed, verdict-table, length-table, finding-table, edit-table, coded-only, leaves-only}
-use Rattle.florumeja.specs.Fits.{checks-fit, opens-fit, finds-fit, edits-fit, builds-fit, lines-fit, verdict-lines-fit, writes-fit}
+use Rattle.florumeja.specs.Fits.{checks-fit, checks-partial-fit, opens-fit, opens-partial-fit, finds-fit, edits-fit, builds-fit, builds-partial-fit, silences-fit, lines-fit, verdict-lines-fit, writes-fit}
 
 -- ---- the answer that is read in a call's number is the call's answer
 
@@ -28,6 +30,20 @@ edit-read workspace edit = outcome-allowed edit-table (Edits workspace edit) (ed
 
 pub build-read : (bay room : List ℕ) (left : Left) → Leaves lengthCode (Builds bay room) left → Builds bay room (outcomeIn length-table left)
 build-read bay room = outcome-allowed length-table (Builds bay room) (builds-fit bay room)
+
+pub check-partial-read : (file weights : List ℕ) (number : ℕ) → Coded verdictCode (ChecksPartial file weights) number → ChecksPartial file weights (answerIn verdict-table number)
+check-partial-read file weights = read-allowed verdict-table (ChecksPartial file weights) (checks-partial-fit file weights)
+
+pub open-partial-read : (file room : List ℕ) (left : Left) → Leaves lengthCode (OpensPartial file room) left → OpensPartial file room (outcomeIn length-table left)
+open-partial-read file room = outcome-allowed length-table (OpensPartial file room) (opens-partial-fit file room)
+
+-- By the letter, and lean.
+pub build-partial-read : (out : Partial → ℕ → ℕ → Bool) (file room : List ℕ) (left : Left) → Leaves lengthCode (BuildsBy out file room) left
+    → BuildsBy out file room (outcomeIn length-table left)
+build-partial-read out file room = outcome-allowed length-table (BuildsBy out file room) (builds-partial-fit out file room)
+
+pub silence-read : (task marks room : List ℕ) (left : Left) → Leaves lengthCode (Silences task marks room) left → Silences task marks room (outcomeIn length-table left)
+silence-read task marks room = outcome-allowed length-table (Silences task marks room) (silences-fit task marks room)
 
 pub line-read : (input room : List ℕ) (left : Left) → Leaves lengthCode (Lines input room) left → Lines input room (outcomeIn length-table left)
 line-read input room = outcome-allowed length-table (Lines input room) (lines-fit input room)
@@ -56,6 +72,18 @@ edit-only workspace edit = leaves-only editCode (Edits workspace edit) (edits-on
 
 pub build-only : (bay room : List ℕ) → AtMostOne (Leaves lengthCode (Builds bay room))
 build-only bay room = leaves-only lengthCode (Builds bay room) (builds-only bay room)
+
+pub check-partial-only : (file weights : List ℕ) → AtMostOne (Coded verdictCode (ChecksPartial file weights))
+check-partial-only file weights = coded-only verdictCode (ChecksPartial file weights) (checks-as-only (judgedPartial leftOut file) weights)
+
+pub open-partial-only : (file room : List ℕ) → AtMostOne (Leaves lengthCode (OpensPartial file room))
+open-partial-only file room = leaves-only lengthCode (OpensPartial file room) (opens-as-only (judgedPartial leftOut file) room)
+
+pub build-partial-only : (out : Partial → ℕ → ℕ → Bool) (file room : List ℕ) → AtMostOne (Leaves lengthCode (BuildsBy out file room))
+build-partial-only out file room = leaves-only lengthCode (BuildsBy out file room) (builds-partial-only out file room)
+
+pub silence-only : (task marks room : List ℕ) → AtMostOne (Leaves lengthCode (Silences task marks room))
+silence-only task marks room = leaves-only lengthCode (Silences task marks room) (silences-only task marks room)
 
 pub line-only : (input room : List ℕ) → AtMostOne (Leaves lengthCode (Lines input room))
 line-only input room = leaves-only lengthCode (Lines input room) (lines-only input room)

@@ -2,34 +2,36 @@
 use Prim.Native.Nat.{ℕ, _*_, _<_, _≤_}
 use mathlib.Core.Path.{_≡_, refl}
 use mathlib.Core.Logic.{_⊎_, inl, inr}
+use mathlib.Core.Bool.{Bool}
 use mathlib.Core.List.{List, []}
 use native.Mathlib.Omega.{arith}
 use native.Mathlib.Nat.{mul-le-mul}
 use lib.Dec.{ltb}
-use lib.ListN.{length, replicate, length-replicate}
+use lib.ListN.{length}
 use Rattle.meaning.specs.Limits.{mostFeatures}
+use Rattle.meaning.specs.Task.{Task}
 use Rattle.meaning.specs.Feature.{features}
-use Rattle.meaning.specs.Number.{Reason, Small, Malformed, refusal}
-use Rattle.meaning.specs.File.{judgedTask, taskBytes, weightBytes, InLimits}
+use Rattle.meaning.specs.Number.{Reason, Small, Malformed, refusal, Read, got}
+use Rattle.meaning.specs.File.{judgedTask, taskBytes, weightBytes, InLimits, Writable}
 use Rattle.meaning.specs.Workspace.{packed, wordsFor, wordsDue, Content, wordsOf, WellFormed}
-use Rattle.meaning.specs.Answer.{Answer, done, refused, Outcome, refuses, writes, delivered, Verdict, accepted, endsAlike, breaks, Checks, Opens}
+use Rattle.meaning.specs.Answer.{Answer, done, refused, Outcome, refuses, writes, delivered, byRead, Verdict, accepted, endsAlike, breaks, ChecksAs, Checks, OpensAs, Opens}
 use Rattle.meaning.specs.Answer.{Finding, none, separated, FindsIn, FindsBy, Finds, Edit, Judged, fine, faulty, editJudged, EditsIn, Edits}
-use Rattle.meaning.specs.Bay.{Bay, baySizes, bayPairs, judgedBay, bayTask, Builds}
+use Rattle.meaning.specs.Bay.{judgedBay, bayTask, Builds}
+use Rattle.meaning.specs.Partial.{Partial, judgedPartial, leftOut, partialBytes, OpensPartial, ChecksPartial, BuildsBy, silenced, marksJudged, silencesBy, Silences}
 use Rattle.meaning.specs.Line.{line, verdictLine}
 use Rattle.theory.specs.Accepted.{accepted as task-accepted}
-use Rattle.theory.specs.BayTask.{ReadableBay, accepted-bay}
+use Rattle.theory.specs.BayTask.{bay-accepted}
+use Rattle.theory.specs.PartialFile.{accepted-partial}
+use Rattle.theory.specs.Silence.{marks-ordered}
 use Rattle.theory.specs.Truth.{on, off, test}
-use Rattle.building.specs.Answers.{Sides}
-use Rattle.building.specs.Parts.{TaskParts}
-use Rattle.building.specs.Files.{pairs-held, task-few}
 use Rattle.line.specs.Answer.{Lines}
 use Rattle.line.specs.Fits.{line-short}
 use Rattle.text.specs.Allowed.{is-good, if-good, read-good}
 use Rattle.text.specs.Parts.{refusal-short}
 use Rattle.verdicts.specs.Answer.{VerdictLines}
-use Rattle.verdicts.specs.Fits.{Short, checks-short, verdict-few}
-use Rattle.words.specs.Toggled.{toggledAll, length-all}
+use Rattle.verdicts.specs.Fits.{Short, checks-as-short, checks-short, verdict-few}
 use Rattle.writer.specs.Weights.{weightsJudged, weightsWritten, Writes}
+use Rattle.writer.specs.Longest.{task-few, partial-few}
 use Rattle.writer.specs.Judging.{fine-few, weights-refused, weights-delivered}
 use Rattle.codes.specs.Code.{valueEnd, verdictCode, lengthCode, findingCode, editCode, Fits, FitsIn}
 
@@ -43,16 +45,32 @@ module _ {A : Type 0} (Good : A → Type 0) where
   formed-good workspace P bad good refusal a (inl h) = is-good Good bad refusal a (h .1)
   formed-good workspace P bad good refusal a (inr h) = good (h .0 .content) a (h .1)
 
+-- What is accepted can be written.
+abbrev Means : Read Task → Type 0
+Means judging = (T : Task) (next : ℕ) → judging ≡ got T next → Writable T
+
+task-means : (task : List ℕ) → Means (judgedTask task)
+task-means = task-accepted
+
+partial-means : (out : Partial → ℕ → ℕ → Bool) (file : List ℕ) → Means (judgedPartial out file)
+partial-means out file T next e = accepted-partial file out T next e .writable
+
 -- ---- the checker: a number that has few digits
 
-pub checks-fit : (task weights : List ℕ) (answer : Answer Verdict) → Checks task weights answer → Fits verdictCode answer
-checks-fit task weights answer checks = by answer (checks-short task weights answer checks)
+checks-as-fit : (judging : Read Task) → Means judging → (weights : List ℕ) (answer : Answer Verdict) → ChecksAs judging weights answer → Fits verdictCode answer
+checks-as-fit judging means weights answer checks = by answer (checks-as-short judging means weights answer checks)
   where
     by : (answer : Answer Verdict) → Short answer → Fits verdictCode answer
     by (done accepted) short = omega arith
     by (done endsAlike) short = omega arith
     by (done (breaks j)) short = omega arith
     by (refused number) short = omega arith
+
+pub checks-fit : (task weights : List ℕ) (answer : Answer Verdict) → Checks task weights answer → Fits verdictCode answer
+checks-fit task = checks-as-fit (judgedTask task) (task-means task)
+
+pub checks-partial-fit : (file weights : List ℕ) (answer : Answer Verdict) → ChecksPartial file weights answer → Fits verdictCode answer
+checks-partial-fit file = checks-as-fit (judgedPartial leftOut file) (partial-means leftOut file)
 
 -- ---- opening: the words due for a task within its limits
 
@@ -61,13 +79,19 @@ words-fit sizes limits =
     let few : wordsFor (features sizes) ≤ wordsFor mostFeatures = omega (arith, limits .total) in
     omega (arith, limits .variables .1, limits .total, mul-le-mul (limits .total) few)
 
-pub opens-fit : (task room : List ℕ) (outcome : Outcome ℕ) → Opens task room outcome → FitsIn lengthCode outcome
-opens-fit task room =
-    read-good (FitsIn lengthCode) (judgedTask task) _ (λ reason. refuses reason room)
+opens-as-fit : (judging : Read Task) → Means judging → (room : List ℕ) (outcome : Outcome ℕ) → OpensAs judging room outcome → FitsIn lengthCode outcome
+opens-as-fit judging means room =
+    read-good (FitsIn lengthCode) judging _ (λ reason. refuses reason room)
     (λ T next e. if-good (FitsIn lengthCode) (ltb (length room) (wordsDue (length (T .sizes)) (features (T .sizes)))) _ _
     (is-good (FitsIn lengthCode) (refuses Small room) (refusal-fits Small))
-    (λ o h. is-good (FitsIn lengthCode) _ (words-fit (T .sizes) (task-accepted task T next e .acceptable .limits)) o (h .2)))
+    (λ o h. is-good (FitsIn lengthCode) _ (words-fit (T .sizes) (means T next e .acceptable .limits)) o (h .2)))
     refusal-fits
+
+pub opens-fit : (task room : List ℕ) (outcome : Outcome ℕ) → Opens task room outcome → FitsIn lengthCode outcome
+opens-fit task = opens-as-fit (judgedTask task) (task-means task)
+
+pub opens-partial-fit : (file room : List ℕ) (outcome : Outcome ℕ) → OpensPartial file room outcome → FitsIn lengthCode outcome
+opens-partial-fit file = opens-as-fit (judgedPartial leftOut file) (partial-means leftOut file)
 
 -- ---- finding and edits: no value but that of a refusal
 
@@ -92,35 +116,35 @@ edits-fit workspace edit =
     formed-good (FitsIn editCode) workspace _ (refuses Malformed workspace) (λ c. edited-fits (editJudged c edit) workspace c edit)
     (refusal-fits Malformed)
 
--- ---- building: a bay's task file is short
+-- ---- building and silencing: a task file is not longer than its limits allow, and a partial one neither
 
 delivered-fits : (file room : List ℕ) → length file < valueEnd → FitsIn lengthCode (delivered file room)
 delivered-fits file room h = elim (test (ltb (length room) (length file))) [ on s ↦ rw s (refusal-fits Small) | off s ↦ rw s h ]
 
+-- A call that writes the task file of what was read.
+file-fits : {A : Type 0} (read : Read A) (task : A → Task) → ((a : A) (next : ℕ) → read ≡ got a next → Writable (task a)) → (room : List ℕ) (outcome : Outcome ℕ)
+    → byRead read (λ a. outcome ≡ delivered (taskBytes (task a)) room) (λ reason. outcome ≡ refuses reason room) → FitsIn lengthCode outcome
+file-fits read task writable room =
+    read-good (FitsIn lengthCode) read _ (λ reason. refuses reason room)
+    (λ a next e. is-good (FitsIn lengthCode) _ (delivered-fits (taskBytes (task a)) room (omega (arith, task-few (task a) (writable a next e)))))
+    refusal-fits
+
 pub builds-fit : (bay room : List ℕ) (outcome : Outcome ℕ) → Builds bay room outcome → FitsIn lengthCode outcome
-builds-fit bay room =
-    read-good (FitsIn lengthCode) (judgedBay bay) _ (λ reason. refuses reason room)
-    (λ b next e. is-good (FitsIn lengthCode) _ (delivered-fits (taskBytes (bayTask b)) room (file-fits b (accepted-bay bay b next e .readable))))
+builds-fit bay = file-fits (judgedBay bay) bayTask (λ b next e. bay-accepted bay b next e)
+
+pub builds-partial-fit : (out : Partial → ℕ → ℕ → Bool) (file room : List ℕ) (outcome : Outcome ℕ) → BuildsBy out file room outcome → FitsIn lengthCode outcome
+builds-partial-fit out file = file-fits (judgedPartial out file) (λ T. T) (partial-means out file)
+
+pub silences-fit : (task marks room : List ℕ) (outcome : Outcome ℕ) → Silences task marks room outcome → FitsIn lengthCode outcome
+unfolding silenced
+silences-fit task marks room =
+    read-good (FitsIn lengthCode) (judgedTask task) _ (λ reason. refuses reason room)
+    (λ T next e. is-good (FitsIn lengthCode) _ (by T (task-means task T next e) (marksJudged T marks) refl))
     refusal-fits
   where
-    file-fits : (b : Bay) → ReadableBay b → length (taskBytes (bayTask b)) < valueEnd
-    file-fits b bay =
-        let rows = bay .rows-limit in
-        let columns = bay .columns-limit in
-        let slots = bay .slots-limit in
-        let sides : Sides (b .rows) (b .columns) = (rows .0, rows .1, columns .0, columns .1, slots .0, slots .1) in
-        let n = b .rows * b .columns in
-        let none = replicate {A = ℕ} (wordsFor mostFeatures) 0 in
-        let pairs = bayPairs (length (baySizes n)) in
-        let parts : TaskParts (b .rows) (b .columns) (baySizes n) (b .start) (b .goal) (toggledAll none pairs) = record {
-          sides = sides;
-          all-sizes = refl;
-          is-start = bay .start-state;
-          is-goal = bay .goal-state;
-          few-words = omega (arith, length-all none pairs, length-replicate {A = ℕ} (wordsFor mostFeatures) 0);
-          all-pairs = pairs-held n (baySizes n) (toggledAll none pairs) (slots .0) (slots .1) refl refl;
-        } in
-        omega (arith, task-few parts)
+    by : (T : Task) → Writable T → (judged : Judged) → marksJudged T marks ≡ judged → FitsIn lengthCode (silencesBy judged (silenced T marks) room)
+    by T ok (faulty reason) e = refusal-fits reason
+    by T ok fine e = delivered-fits (partialBytes (silenced T marks)) room (omega (arith, partial-few (silenced T marks) (marks-ordered T marks (ok .acceptable) e) (ok .countable)))
 
 -- ---- the lines: they are short
 

@@ -4,6 +4,7 @@ ghost use lib.ListN.{getD};
 ghost use Rattle.meaning.specs.Limits.{mostVariables};
 ghost use Rattle.meaning.specs.Answer.{Checks, Opens, Finds, Edits, addOperator, replaceStart, replaceGoal};
 ghost use Rattle.meaning.specs.Bay.{Builds};
+ghost use Rattle.meaning.specs.Partial.{OpensPartial, ChecksPartial, BuildsPartial, BuildsPartialLean, Silences};
 ghost use Rattle.line.specs.Answer.{Lines};
 ghost use Rattle.verdicts.specs.Answer.{VerdictLines};
 ghost use Rattle.words.specs.Members.{membersIn};
@@ -128,4 +129,44 @@ pub extern "C" fn florumeja_check_line(task: &[u8], weights: &[u8], room: &mut [
     ensures { λ r. ⌜ Leaves lengthCode (VerdictLines (now (task .entry)) (now (weights .entry)) (now (room .entry))) (record { number = r; lent = now (room .exit) }) ⌝ }
 {
     codes::written_number(verdicts::line(task, weights, room))
+}
+
+// Opens a workspace from a partial task: that of its built task.
+#[no_mangle]
+pub extern "C" fn florumeja_open_partial(partial: &[u8], room: &mut [u64]) -> u64
+    ensures { λ r. ⌜ Leaves lengthCode (OpensPartial (now (partial .entry)) (now (room .entry))) (record { number = r; lent = now (room .exit) }) ⌝ }
+{
+    codes::opened_number(opening::open_partial(partial, room))
+}
+
+// Checks weights against a partial task: against its built task.
+#[no_mangle]
+pub extern "C" fn florumeja_check_partial(partial: &[u8], weights: &[u8]) -> u64
+    ensures { λ r. ⌜ Coded verdictCode (ChecksPartial (now (partial .entry)) (now (weights .entry))) r ⌝ }
+{
+    codes::verdict_number(checking::check_partial(partial, weights))
+}
+
+// Builds the task file of a partial task, with what may be left out by the letter left out.
+#[no_mangle]
+pub extern "C" fn florumeja_build_partial(partial: &[u8], room: &mut [u8]) -> u64
+    ensures { λ r. ⌜ Leaves lengthCode (BuildsPartial (now (partial .entry)) (now (room .entry))) (record { number = r; lent = now (room .exit) }) ⌝ }
+{
+    codes::written_number(completing::build_partial(partial, room))
+}
+
+// The same, with the forgetting operators of named variables left out too.
+#[no_mangle]
+pub extern "C" fn florumeja_build_partial_lean(partial: &[u8], room: &mut [u8]) -> u64
+    ensures { λ r. ⌜ Leaves lengthCode (BuildsPartialLean (now (partial .entry)) (now (room .entry))) (record { number = r; lent = now (room .exit) }) ⌝ }
+{
+    codes::written_number(completing::build_partial_lean(partial, room))
+}
+
+// The partial task file of a task and a mark for each variable.
+#[no_mangle]
+pub extern "C" fn florumeja_silence(task: &[u8], marks: &[u8], room: &mut [u8]) -> u64
+    ensures { λ r. ⌜ Leaves lengthCode (Silences (now (task .entry)) (now (marks .entry)) (now (room .entry))) (record { number = r; lent = now (room .exit) }) ⌝ }
+{
+    codes::written_number(silencing::silence(task, marks, room))
 }

@@ -9,9 +9,9 @@ use Rattle.meaning.specs.Limits.{numberEnd, mostTask}
 use Rattle.meaning.specs.Sets.{Set, listed}
 use Rattle.meaning.specs.Task.{Task}
 use Rattle.meaning.specs.Feature.{features}
-use Rattle.meaning.specs.Number.{Reason, Small, refusal}
-use Rattle.meaning.specs.File.{judgedTask, judgedWeights}
-use Rattle.meaning.specs.Answer.{Answer, done, refused, Outcome, writes, Verdict, accepted, endsAlike, breaks, Judges, Checks}
+use Rattle.meaning.specs.Number.{Reason, Small, refusal, Read, got}
+use Rattle.meaning.specs.File.{judgedTask, judgedWeights, Writable}
+use Rattle.meaning.specs.Answer.{Answer, done, refused, Outcome, writes, Verdict, accepted, endsAlike, breaks, Judges, ChecksAs, Checks}
 use Rattle.meaning.specs.Line.{word, ChecksFiles, verdictLine}
 use Rattle.theory.specs.Accepted as theory
 use Rattle.decimal.specs.Decimal.{wordWidth, word-few}
@@ -35,15 +35,19 @@ verdict-short T weights accepted few h = tt
 verdict-short T weights endsAlike few h = tt
 verdict-short T weights (breaks j) few h = omega (arith, h .counted)
 
-pub checks-short : (task weights : List ℕ) (answer : Answer Verdict) → Checks task weights answer → Short answer
-checks-short task weights =
+-- Whatever judged the task, if what is accepted can be written.
+pub checks-as-short : (judging : Read Task) → ((T : Task) (next : ℕ) → judging ≡ got T next → Writable T) → (weights : List ℕ) (answer : Answer Verdict)
+    → ChecksAs judging weights answer → Short answer
+checks-as-short judging writable weights =
     let bad : Reason → Answer Verdict = λ reason. refused (refusal reason) in
-    read-good Short (judgedTask task) _ bad
+    read-good Short judging _ bad
     (λ T next e. read-good Short (judgedWeights (features (T .sizes)) weights) _ bad
-    (λ ws end e' answer h. is-good Short (done (h .0))
-    (verdict-short T (listed ws) (h .0) (theory.accepted task T next e .countable) (h .2)) answer (h .1))
+    (λ ws end e' answer h. is-good Short (done (h .0)) (verdict-short T (listed ws) (h .0) (writable T next e .countable) (h .2)) answer (h .1))
     refusal-short)
     refusal-short
+
+pub checks-short : (task weights : List ℕ) (answer : Answer Verdict) → Checks task weights answer → Short answer
+checks-short task = checks-as-short (judgedTask task) (theory.accepted task)
 
 pub files-short : (task weights : List ℕ) (answer : Answer Verdict) → ChecksFiles task weights answer → Short answer
 files-short task weights =

@@ -5,14 +5,16 @@ use mathlib.Core.Bool.{Bool, true, false, cond}
 use mathlib.Core.List.{List, [], _∷_, _++_, append-assoc, append-nil, List·Memᴰ as In, List·Memᴰ·not-nil as not-nil, List·Memᴰ·eq-of-singleton as eq-of-singleton}
 use native.Mathlib.Omega.{arith}
 use native.Mathlib.Numerals.{add-one}
-use lib.ListN.{length, length-append}
+use lib.ListN.{length, getD, length-append, List·getD-eq-default}
+use lib.Seq.{getD-append-seam}
 use Rattle.meaning.specs.Sets.{Set, flat, table, listed}
-use Rattle.meaning.specs.Limits.{mostSize}
+use Rattle.meaning.specs.Limits.{mostSize, mostAtoms}
 use Rattle.meaning.specs.Task.{Operator, IsOperator, size}
+use Rattle.meaning.specs.File.{InLimits}
 use Rattle.meaning.specs.Answer.{operatorIn}
 use Rattle.meaning.specs.Partial.{Partial, Ordered, forgettings, builtSizes, builtPairs}
 use Rattle.theory.specs.Truth.{less, same, more, order}
-use Rattle.theory.specs.Flat.{flat-in, flat-cong}
+use Rattle.theory.specs.Flat.{flat-in, flat-cong, flat-few}
 use Rattle.theory.specs.Slices.{entryOf, entriesIn}
 use Rattle.theory.specs.PartialPairs.{built-length, built-size}
 use Rattle.theory.specs.PartialParts.{outFor}
@@ -59,7 +61,18 @@ module _ (sizes : List ℕ) where
       pub within : r .variable ≤ length sizes
       pub end : length sizes ≤ r .variable → r .value ≡ 0
       pub there : r .variable < length sizes → (r .value < unknownOf (r .variable)) × (out (r .variable) (r .value) ≡ false)
-      pub after : i * mostSize + x ≤ r .variable * mostSize + r .value
+
+    -- The first value of variable i that is kept from x on, or how many there are.
+    pub record FoundIn (i x y : ℕ) : Type 0 where
+      pub same : keptBefore i y ≡ keptBefore i x
+      pub within : y ≤ unknownOf i
+      pub there : y < unknownOf i → out i y ≡ false
+
+    -- Nothing is kept from value x of variable i on and before value y of variable j.
+    pub record Passed (i x j y : ℕ) : Type 0 where
+      pub same : keptBefore j y ≡ keptBefore i x
+      pub within : j ≤ length sizes
+      pub inside : y ≤ unknownOf j
 
     -- ---- a walk from one to the next
 
@@ -80,11 +93,11 @@ module _ (sizes : List ℕ) where
     unfolding keptBefore flat keptOne
     kept-more i x e = rw (add-one, e) (sym (append-assoc (flat i keptRow) (flat x (keptOne i)) _))
 
-    pub kept-turn : (i : ℕ) → keptBefore i (unknownOf i) ≡ keptBefore (i + 1) 0
+    kept-turn : (i : ℕ) → keptBefore i (unknownOf i) ≡ keptBefore (i + 1) 0
     unfolding keptBefore flat keptRow
     kept-turn i = rw add-one (sym (append-nil _))
 
-    pub kept-last : keptBefore (length sizes) 0 ≡ keptAll
+    kept-last : keptBefore (length sizes) 0 ≡ keptAll
     unfolding keptBefore keptAll flat
     kept-last = append-nil _
 
@@ -109,12 +122,55 @@ module _ (sizes : List ℕ) where
         kept true p m = absurd (not-nil m)
         kept false p m = (refl, eq-of-singleton m)
 
+    pub kept-few : InLimits sizes → length keptAll ≤ mostAtoms
+    unfolding keptAll keptRow keptOne
+    kept-few limits = omega (
+      arith,
+      limits .variables,
+      flat-few (length sizes) mostSize keptRow (λ i l.
+          omega (arith, flat-few (unknownOf i) 1 (keptOne i) (λ x h. one (out i x) (forgottenBy i x)), limits .each i l)),
+    )
+      where
+        one : (t : Bool) (o : Operator) → length (cond t [] (o ∷ [])) ≤ 1
+        one true o = omega arith
+        one false o = omega arith
+
+    -- ---- a search for the next one
+
+    pub passed-none : (i x : ℕ) → i ≤ length sizes → x ≤ unknownOf i → Passed i x i x
+    passed-none i x l h = record { same = refl; within = l; inside = h }
+
+    module _ (i x j y z : ℕ) (passed : Passed i x j y) (value : FoundIn j y z) where
+      -- One of variable j is found, or none of its values is.
+      pub passed-found : j < length sizes → z < unknownOf j → Found i x (record { variable = j; value = z })
+      passed-found l h = record {
+        same = value .same ∙ passed .same;
+        within = passed .within;
+        end = λ k. absurd (omega arith);
+        there = λ k. (h, value .there h);
+      }
+
+      pub passed-more : j < length sizes → unknownOf j ≤ z → Passed i x (j + 1) 0
+      passed-more l h = let full : z ≡ unknownOf j = omega (arith, value .within) in record {
+        same = sym (kept-turn j) ∙ ap (keptBefore j) (sym full) ∙ value .same ∙ passed .same;
+        within = omega arith;
+        inside = omega arith;
+      }
+
+    pub passed-all : (i x j y : ℕ) → Passed i x j y → length sizes ≤ j → Found i x (record { variable = j; value = 0 })
+    passed-all i x j y passed l = let none : y ≡ 0 = omega (arith, passed .inside, List·getD-eq-default sizes 0 {n = j} l) in record {
+      same = ap (keptBefore j) (sym none) ∙ passed .same;
+      within = passed .within;
+      end = λ k. refl;
+      there = λ k. absurd (omega arith);
+    }
+
     -- ---- what was found
 
     module _ (i x : ℕ) (r : Kept) (found : Found i x r) where
       -- It is found again from its own place on.
       pub found-stands : Found (r .variable) (r .value) r
-      found-stands = record { same = refl; within = found .within; end = found .end; there = found .there; after = omega arith }
+      found-stands = record { same = refl; within = found .within; end = found .end; there = found .there }
 
       pub found-more : r .variable < length sizes → keptBefore (r .variable) (r .value + 1) ≡ keptBefore i x ++ (forgottenBy (r .variable) (r .value) ∷ [])
       found-more l = kept-more (r .variable) (r .value) (found .there l .1) ∙ ap (λ os. os ++ (forgottenBy (r .variable) (r .value) ∷ [])) (found .same)
@@ -133,6 +189,36 @@ module _ (sizes : List ℕ) where
 
       pub found-below : r .variable < length sizes → length (keptBefore i x) < length keptAll
       found-below l = let (rest, e) = found-split l in omega (arith, ap length e ∙ length-append (keptBefore i x) (forgottenBy (r .variable) (r .value) ∷ rest))
+
+    -- ---- a walk that counts
+
+    -- It stands at one that is kept, or at the end, and k come before that.
+    pub record Stands (r : Kept) (k : ℕ) : Type 0 where
+      pub found : Found (r .variable) (r .value) r
+      pub before : k ≡ length (keptBefore (r .variable) (r .value))
+
+    pub stands-first : (r : Kept) → Found 0 0 r → Stands r 0
+    stands-first r found = record { found = found-stands 0 0 r found; before = sym (ap length (found .same ∙ kept-none)) }
+
+    module _ (r : Kept) (k : ℕ) (stands : Stands r k) where
+      pub stands-next : (next : Kept) → r .variable < length sizes → Found (r .variable) (r .value + 1) next → Stands next (k + 1)
+      stands-next next l found = record {
+        found = found-stands _ _ next found;
+        before = ap (λ n. n + 1) (stands .before) ∙ sym (ap length (found .same) ∙ found-next _ _ r (stands .found) l);
+      }
+
+      pub stands-below : r .variable < length sizes → k < length keptAll
+      stands-below l = omega (arith, stands .before, found-below _ _ r (stands .found) l)
+
+      pub stands-few : InLimits sizes → r .variable < length sizes → k < mostAtoms
+      stands-few limits l = omega (arith, stands-below l, kept-few limits)
+
+      pub stands-end : length sizes ≤ r .variable → k ≡ length keptAll
+      stands-end l = stands .before ∙ ap length (found-end _ _ r (stands .found) l)
+
+      -- It is the one at place k.
+      pub stands-at : r .variable < length sizes → getD keptAll k [] ≡ forgottenBy (r .variable) (r .value)
+      stands-at l = let (rest, e) = found-split _ _ r (stands .found) l in rw (e, stands .before) (getD-append-seam (keptBefore (r .variable) (r .value)) _ rest [])
 
   -- ---- as operators
 

@@ -1,6 +1,7 @@
 -- What is left out, by the header of the built task: its sizes, its listed pairs and its goal.
 use Prim.Native.Nat.{ℕ, _+_, _<_}
 use mathlib.Core.Path.{_≡_, refl, sym, ap, _∙_}
+use mathlib.Core.Logic.{_≢_}
 use mathlib.Core.Bool.{Bool, true, false, _&&_, cond}
 use mathlib.Core.List.{List}
 use native.Mathlib.Numerals.{add-one}
@@ -10,7 +11,7 @@ use Rattle.meaning.specs.Sets.{Set, some, listed}
 use Rattle.meaning.specs.Task.{value, size}
 use Rattle.meaning.specs.Pair.{paired}
 use Rattle.meaning.specs.Partial.{Partial, Ordered, named, againstGoal, builtSizes, builtPairs}
-use Rattle.theory.specs.Truth.{on, off, test}
+use Rattle.theory.specs.Truth.{on, off, test, clash}
 use Rattle.theory.specs.Search.{some-cong}
 use Rattle.theory.specs.PartialPairs.{built-length}
 use Rattle.theory.specs.PartialParts.{named-built, against-built, outFor, out-split}
@@ -29,6 +30,10 @@ module _ (sizes : List ℕ) where
 
   unfoldable pub outBy : Set → List ℕ → Bool → ℕ → ℕ → Bool
   outBy pairs goal lean i x = cond (namedBy goal i) lean (againstBy pairs goal i x)
+
+  -- A variable that is silent is not one that is named.
+  pub silent-apart : (goal : List ℕ) (i j : ℕ) → namedBy goal i ≡ false → namedBy goal j ≡ true → i ≢ j
+  silent-apart goal i j p q z = clash q (rw (← z) p)
 
 -- On the built task's header these are the request's tests.
 module _ (P : Partial) (ok : Ordered P) where

@@ -1,32 +1,15 @@
--- Bytes copied into a text, the parts of a line one behind the other, and how long a refusal's line is.
+-- The parts of a line one behind the other, and how long a refusal's line is.
 use Prim.Native.Nat.{ℕ, _+_, _^_, _<_, _≤_}
-use mathlib.Core.Path.{_≡_, sym, ap, _∙_}
-use mathlib.Core.List.{List, [], _∷_, _++_, append-assoc}
+use mathlib.Core.Path.{_≡_, ap, _∙_}
+use mathlib.Core.List.{List, [], _∷_, _++_}
 use native.Mathlib.Omega.{arith}
-use native.Mathlib.Numerals.{add-one}
-use lib.ListN.{length, getD, set, take, drop, length-append}
-use lib.Seq.{paste, paste-suc, take-all, take-at}
+use lib.ListN.{length, take, drop, length-append}
+use lib.Seq.{take-at}
 use Rattle.meaning.specs.Number.{Reason, Ends, Padded, Endless, Limit, Range, Unordered, LeftOver, Outgrown, Held, Unclosed}
 use Rattle.meaning.specs.Number.{Small, Malformed, Mislabelled, refusal}
 use Rattle.meaning.specs.Line.{word, refusedLine}
 use Rattle.decimal.specs.Decimal.{wordWidth, word-few}
 use Rattle.decimal.specs.Put.{Put, put-behind}
-
--- ---- bytes copied
-
-module _ (text₀ : List ℕ) (at : ℕ) (bytes : List ℕ) (i : ℕ) (text : List ℕ) (so-far : text ≡ paste text₀ at bytes i) where
-  pub copied-next : at + length bytes ≤ length text₀ → i < length bytes → set text (at + i) (getD bytes i 0) ≡ paste text₀ at bytes (i + 1)
-  copied-next fits more =
-      ap (λ l. set l (at + i) (getD bytes i 0)) so-far
-      ∙ paste-suc text₀ at bytes i 0 (omega arith) more
-      ∙ ap (paste text₀ at bytes) (sym (add-one i))
-
-  pub copied-all : i ≡ length bytes → Put text₀ at bytes (at + i) text
-  copied-all all = record {
-    place = omega arith;
-    stands = so-far ∙ append-assoc (take at text₀) (take i bytes) (drop (at + i) text₀)
-        ∙ ap (λ l. take at text₀ ++ (l ++ drop (at + i) text₀)) (take-all i bytes (omega arith));
-  }
 
 -- ---- the parts of a line
 

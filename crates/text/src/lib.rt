@@ -22,12 +22,7 @@ pub fn put(text: &mut [u8], at: usize, bytes: &[u8]) -> usize
     requires { ⌜ at + length (now bytes) ≤ length (now text) ⌝ }
     ensures { λ r. ⌜ Put (now (text .entry)) at (now (bytes .entry)) r (now (text .exit)) ⌝ }
 {
-    let mut i = 0;
-    while i < bytes.len() {
-        text[at + i] = bytes[i];
-        i += 1;
-    }
-    at + i
+    writer::write_bytes(text, at, bytes)
 }
 
 // Puts a line of some bytes and one number.

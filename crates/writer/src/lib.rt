@@ -83,6 +83,20 @@ pub fn operator_width(variables: &[usize], befores: &[usize], afters: &[usize]) 
     sum
 }
 
+// Writes bytes from a place on, and answers the place after them.
+pub fn write_bytes(room: &mut [u8], at: usize, bytes: &[u8]) -> usize
+    requires { ⌜ at + length (now bytes) ≤ length (now room) ⌝ }
+    ensures after { λ r. ⌜ r ≡ at + length (now (bytes .entry)) ⌝ }
+    ensures written { λ r. ⌜ now (room .exit) ≡ take at (now (room .entry)) ++ (now (bytes .entry) ++ drop r (now (room .entry))) ⌝ }
+{
+    let mut i = 0;
+    while i < bytes.len() {
+        room[at + i] = bytes[i];
+        i += 1;
+    }
+    at + i
+}
+
 // Writes a list of numbers from a place on, without its count, and answers the place after it.
 pub fn write_numbers(room: &mut [u8], at: usize, values: &[u64]) -> usize
     requires { ⌜ Numbers (now values) × (at + length (bytesOf numberBytes (now values)) ≤ length (now room)) ⌝ }

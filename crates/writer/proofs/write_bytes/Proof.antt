@@ -1,30 +1,30 @@
--- `put`: the loop copies byte after byte (`paste` of the standard laws).
+-- `write_bytes`: the loop copies byte after byte (`paste` of the standard laws).
 use Prim.Native.Nat.{_-_, _≤_}
 use mathlib.Core.Path.{_≡_, refl}
 use native.Mathlib.Omega.{arith}
 use lib.ListN.{length, length-set}
 use lib.Seq.{paste, paste-zero}
-use Rattle.text.specs.Parts.{copied-next, copied-all}
-use Rattle.text.proofs.put.Statement.{statement}
-use Rattle.text.proofs.put.Tie as tie
+use Rattle.writer.specs.Copied.{copied-next, copied-all}
+use Rattle.writer.proofs.write_bytes.Statement.{statement}
+use Rattle.writer.proofs.write_bytes.Tie as tie
 
 abbrev Inv-loop : tie.InvT-loop
-Inv-loop text₀ at bytes i₀ text i = (i ≤ length bytes) × (length text ≡ length text₀) × (text ≡ paste text₀ at bytes i)
+Inv-loop room₀ at bytes i₀ room i = (i ≤ length bytes) × (length room ≡ length room₀) × (room ≡ paste room₀ at bytes i)
 
 abbrev μ-loop : tie.MeasureT-loop
-μ-loop text₀ at bytes i₀ text i = length bytes - i
+μ-loop room₀ at bytes i₀ room i = length bytes - i
 
 loop-holds : tie.Need-loop-holds Inv-loop μ-loop
-loop-holds c = (omega arith, refl, paste-zero (c .args .text .now) (c .args .at) (c .args .bytes .now))
+loop-holds c = (omega arith, refl, paste-zero (c .args .room .now) (c .args .at) (c .args .bytes .now))
 
-shared-slice-read-text : tie.Need-shared-slice-read-text Inv-loop μ-loop
-shared-slice-read-text c = omega arith
+shared-slice-read-room : tie.Need-shared-slice-read-room Inv-loop μ-loop
+shared-slice-read-room c = omega arith
 
-add-text : tie.Need-add-text Inv-loop μ-loop
-add-text c = omega arith
+add-room : tie.Need-add-room Inv-loop μ-loop
+add-room c = omega arith
 
-slice-write-text : tie.Need-slice-write-text Inv-loop μ-loop
-slice-write-text c = omega arith
+slice-write-room : tie.Need-slice-write-room Inv-loop μ-loop
+slice-write-room c = omega arith
 
 add-i : tie.Need-add-i Inv-loop μ-loop
 add-i c = omega arith
@@ -48,16 +48,16 @@ returns c =
     let inv = c .before .loop .inv in
     copied-all _ _ _ _ _ (inv .2) (omega (arith, inv .0, c .loop-test .left))
 
-pub put-spec : {M : Type 1} → statement M
-put-spec =
+pub write-bytes-spec : {M : Type 1} → statement M
+write-bytes-spec =
     tie.close
     (tie.spec
     Inv-loop
     μ-loop
     loop-holds
-    shared-slice-read-text
-    add-text
-    slice-write-text
+    shared-slice-read-room
+    add-room
+    slice-write-room
     add-i
     loop-less
     loop-again

@@ -43,11 +43,13 @@ pub record Front : Type 0 where
   pub pairs : List ℕ
   pub count : ℕ
 
+unfoldable pub behindStates : States → Parser Front
+behindStates states =
+    then (featureList (atoms (states .sizes)) (features (states .sizes)))
+    (λ pairs. then number (λ count. give (record { states = states; pairs = pairs; count = count })))
+
 unfoldable pub frontOf : Parser Front
-frontOf =
-    then statesOf
-    (λ states. then (featureList (atoms (states .sizes)) (features (states .sizes)))
-    (λ pairs. then number (λ count. give (record { states = states; pairs = pairs; count = count }))))
+frontOf = then statesOf behindStates
 
 -- ---- the words
 
@@ -74,5 +76,5 @@ taskWith front operators =
 -- A task is read as its front, then as many operators as it says, and nothing follows.
 pub task-front : (bytes : List ℕ) (place : ℕ) → taskOf bytes place
     ≡ then frontOf (λ front. then (operatorsOf (front .states .sizes) (front .count)) (λ operators. then ended (λ _. give (taskWith front operators)))) bytes place
-unfolding taskOf frontOf statesOf startOf
+unfolding taskOf frontOf statesOf startOf behindStates
 task-front bytes place = simp on-on

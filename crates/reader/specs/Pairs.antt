@@ -27,7 +27,7 @@ use Rattle.numbering.specs.Sizes.{SmallSizes, limits-small}
 use Rattle.reader.specs.declared.Header.the-variants.{Got, Fault}
 use Rattle.reader.specs.Answer.{written, featureWords, ReadsInto, reads-next, reads-put}
 use Rattle.reader.specs.After.{begun-more}
-use Rattle.reader.specs.Front.{stateWords, frontOf, frontWords, HeaderInto}
+use Rattle.reader.specs.Front.{stateWords, behindStates, frontOf, frontWords, HeaderInto}
 use Rattle.reader.specs.States.{AfterGoal}
 
 -- Words that begin with sizes within the limits, have n features, and have none yet among the words of the pairs.
@@ -96,7 +96,7 @@ module _ (bytes : List ℕ) (from : ℕ) (words : List ℕ) where
       -- What is left to be read.
       front-rest : frontOf bytes from ≡ then (featureList (atoms (sizesIn old)) n)
           (λ pairs. then number (λ count. give (record { states = known .value; pairs = pairs; count = count }))) bytes next
-      unfolding frontOf
+      unfolding frontOf behindStates
       front-rest = rw (known .same, total, known .is) refl
 
       pub pairs-unread : (reason : meaning.Reason) (place : ℕ) → featureList (atoms (sizesIn old)) n bytes next ≡ fault reason place

@@ -5,18 +5,20 @@ use mathlib.Core.List.{List, [], _++_, append-nil, append-assoc}
 use native.Mathlib.Omega.{arith}
 use lib.ListN.{length, getD, length-append}
 use Rattle.meaning.specs.Limits.{leastSize, mostSize}
-use Rattle.meaning.specs.Task.{State}
+use Rattle.meaning.specs.Task.{State, Run}
+use Rattle.meaning.specs.Feature.{atoms, features}
 use Rattle.meaning.specs.File.{Parser, give, then, header, valuesOf, InLimits}
 use Rattle.meaning.specs.Workspace.{startAt, goalAt, pairsAt}
 use Rattle.theory.specs.Spent.{Gives, gives-then, gives-map}
-use Rattle.theory.specs.Parts.{header-said, values-said}
+use Rattle.theory.specs.Numbering.{atoms-room}
+use Rattle.theory.specs.Parts.{header-said, values-said, number-said, feature-list-said}
 use Rattle.theory.specs.Contents.{sizesIn}
 use Rattle.layout.specs.Parts.{sizesPart}
 use Rattle.number.specs.declared.Step.{Step}
 use Rattle.number.specs.declared.Step.the-variants.{Next}
 use Rattle.reader.specs.Answer.{written, begun, sizedWords, ReadsInto, reads-map}
 use Rattle.reader.specs.After.{After, after, begun-more}
-use Rattle.reader.specs.Front.{startedWith, startOf, startWords, statesWith, statesOf, stateWords}
+use Rattle.reader.specs.Front.{startedWith, startOf, startWords, States, statesWith, statesOf, stateWords, Front, behindStates}
 
 -- ---- what is read
 
@@ -28,6 +30,14 @@ pub states-said : (bytes : List ℕ)
     → Gives bytes statesOf (λ states l. InLimits (states .sizes) × State (states .sizes) (states .start) × State (states .sizes) (states .goal))
 unfolding statesOf
 states-said bytes = gives-then _ _ (start-said bytes) (λ started l h. gives-map (statesWith started) _ (values-said bytes (started .sizes)) (λ goal m g. (h .0, h .1, g .0)))
+
+-- What is known of a front behind its states, by its pairs.
+pub behind-said : (bytes : List ℕ) (states : States) (Q : Front → Type 0)
+    → ((pairs : List ℕ) (count : ℕ) → Run (atoms (states .sizes)) pairs (features (states .sizes)) → Q (record { states = states; pairs = pairs; count = count }))
+    → Gives bytes (behindStates states) (λ front l. Q front)
+unfolding behindStates
+behind-said bytes states Q made = gives-then _ _ (feature-list-said bytes (atoms (states .sizes)) (features (states .sizes)) (atoms-room (states .sizes))) (λ pairs l p.
+    gives-map (λ count. record { states = states; pairs = pairs; count = count }) _ (number-said bytes) (λ count m c. made pairs count (p .0)))
 
 -- ---- a state behind what was read before it
 

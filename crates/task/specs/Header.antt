@@ -13,17 +13,15 @@ use Rattle.meaning.specs.Number.{got}
 use Rattle.meaning.specs.File.{InLimits}
 use Rattle.meaning.specs.Workspace.{wordsFor, sizesAt, startAt, goalAt, pairsAt, slotsAt, has, packed, wordsOf, contentOf}
 use Rattle.theory.specs.Search.{listed-in}
-use Rattle.theory.specs.Numbering.{atoms-room}
 use Rattle.theory.specs.Run.{run-in}
 use Rattle.theory.specs.Truth.{on, off, test}
 use Rattle.theory.specs.Words.{length-packed, packed-holds}
-use Rattle.theory.specs.Spent.{Gives, gives-then, gives-map}
-use Rattle.theory.specs.Parts.{feature-list-said, number-said}
+use Rattle.theory.specs.Spent.{Gives, gives-then}
 use Rattle.layout.specs.Parts as layout
 use Rattle.layout.specs.Parts.{sizesPart, startPart, goalPart, pairsPart}
 use Rattle.reader.specs.Answer.{begun, featureWords}
 use Rattle.reader.specs.Front.{Front, frontOf, stateWords, frontWords, taskWith}
-use Rattle.reader.specs.States.{states-said}
+use Rattle.reader.specs.States.{states-said, behind-said}
 use Rattle.pairs.specs.Ready.{Listed}
 
 -- "v; v sizes; v start values; v goal values; W words of listed pairs".
@@ -111,8 +109,7 @@ module _ (T : Task) (known : Headed T) where
 front-said : (bytes : List ℕ) → Gives bytes frontOf (λ front l. Headed (taskWith front []))
 unfolding frontOf
 front-said bytes = gives-then _ _ (states-said bytes)
-    (λ states l s. gives-then _ _ (feature-list-said bytes (atoms (states .sizes)) (features (states .sizes)) (atoms-room (states .sizes))) (λ pairs m p.
-    gives-map (λ count. record { states = states; pairs = pairs; count = count }) _ (number-said bytes) (λ count k c. record { limits = s .0; start = s .1; goal = s .2; pairs = p .0 })))
+    (λ states l s. behind-said bytes states (λ front. Headed (taskWith front [])) (λ pairs count p. record { limits = s .0; start = s .1; goal = s .2; pairs = p }))
 
 pub front-headed : (bytes : List ℕ) (from : ℕ) (front : Front) (at : ℕ) (operators : List Operator) → frontOf bytes from ≡ got front at → Headed (taskWith front operators)
 front-headed bytes from front at operators e = let known = front-said bytes .gives from front at e .known in

@@ -88,7 +88,7 @@ bytes-join write [] m = refl
 bytes-join write (x ∷ l) m = ap (_++_ (write x)) (bytes-join write l m) ∙ sym (append-assoc (write x) (bytesOf write l) (bytesOf write m))
 
 module _ (bytes : List ℕ) where
-  partial-header-said : Gives bytes partialHeader (λ sizes l. ((leastVariables ≤ length sizes) × (length sizes ≤ mostVariables))
+  pub partial-header-said : Gives bytes partialHeader (λ sizes l. ((leastVariables ≤ length sizes) × (length sizes ≤ mostVariables))
       × ((i : ℕ) → i < length sizes → (leastPartialSize ≤ size sizes i) × (size sizes i ≤ mostPartialSize)) × (features (builtSizes sizes) ≤ mostFeatures)
       × Exact bytes (counted numberBytes) sizes l)
   unfolding partialHeader limited
@@ -107,7 +107,7 @@ module _ (bytes : List ℕ) where
     | off e ↦ rw e (gives-give _ (rw (le-ltb d d (omega arith)) (omega arith, omega (arith, eqb-false m 1 e), λ small. refl)))
   ]
 
-  goal-said : (sizes marks : List ℕ) → State (replicate (length sizes) 2) marks → Gives bytes (goalOf sizes marks) (λ goal l. State (builtSizes sizes) goal × (marksIn sizes goal ≡ marks)
+  pub goal-said : (sizes marks : List ℕ) → State (replicate (length sizes) 2) marks → Gives bytes (goalOf sizes marks) (λ goal l. State (builtSizes sizes) goal × (marksIn sizes goal ≡ marks)
       × (Bytes bytes → l ≡ bytesOf numberBytes (namedIn sizes goal)))
   unfolding goalOf marksIn namedIn bytesOf
   goal-said [] [] t = gives-give _ (record { full = refl; values = λ i l. absurd (omega arith) }, refl, λ small. refl)

@@ -1,0 +1,2 @@
+-- What stands before the operators of a partial task file.
+pub mod Front

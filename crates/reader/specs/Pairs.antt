@@ -66,7 +66,7 @@ module _ (words : List ℕ) (n : ℕ) (clear : Cleared words n) where
 
 -- ---- the whole front
 
-zeros-left : (k m : ℕ) → drop k (replicate {A = ℕ} m 0) ≡ replicate (m - k) 0
+pub zeros-left : (k m : ℕ) → drop k (replicate {A = ℕ} m 0) ≡ replicate (m - k) 0
 zeros-left zero m = rw (sub-zero m)
 zeros-left (suc k) zero = let q : zero - suc k ≡ 0 = omega arith in rw q
 zeros-left (suc k) (suc m) = let q : suc m - suc k ≡ m - k = omega arith in rw q (zeros-left k m)

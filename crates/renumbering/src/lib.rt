@@ -1,15 +1,20 @@
 // The header of the task that is built for a partial file: sizes with one value more each, and the listed pairs under their new numbers.
 ghost use mathlib.Core.Path.{_≡_};
-ghost use Prim.Native.Nat.{_*_, _<_};
+ghost use Prim.Native.Nat.{_+_, _*_, _<_, _≤_};
 ghost use lib.ListN.{length, replicate};
-ghost use Rattle.meaning.specs.Limits.{wordBits};
+ghost use Rattle.meaning.specs.Limits.{wordBits, mostVariables, mostFeatures};
 ghost use Rattle.meaning.specs.Sets.{listed};
 ghost use Rattle.meaning.specs.Feature.{features};
-ghost use Rattle.meaning.specs.Workspace.{has, packed, wordsFor};
+ghost use Rattle.meaning.specs.Workspace.{has, packed, wordsFor, pairsAt, slotsAt};
 ghost use Rattle.meaning.specs.Partial.{builtSizes, builtPairs};
 ghost use Rattle.numbering.specs.Sizes.{SmallSizes};
 ghost use Rattle.words.specs.Toggled.{toggledAll};
+ghost use Rattle.layout.specs.Parts.{sizesPart, pairsPart, Headed};
+ghost use Rattle.reader.specs.Answer.{written, begun};
 ghost use Rattle.renumbering.specs.Pairs.{numberIf, linePairs, blockPairs, rowPairs, LineRoom, Renumbers};
+ghost use Rattle.renumbering.specs.Header.{Own, builtTotal, statesBy, pairsBy, builtWords};
+use limits::MOST_VARIABLES;
+use limits::SIZES_AT;
 use numbering::Plane;
 
 // Sizes with one value more each, "unknown" as the highest.
@@ -93,4 +98,65 @@ fn renumber(sizes: &[u64], old: &[u64], wider: &[u64], new: &mut [u64])
         renumber_row(sizes, old, wider, i, new);
         i += 1;
     }
+}
+
+// Puts values into words from a place on.
+fn put(words: &mut [u64], at: usize, values: &[u64])
+    requires { ⌜ at + length (now values) ≤ length (now words) ⌝ }
+    ensures { λ r. ⌜ now (words .exit) ≡ written (now (words .entry)) at (now (values .entry)) ⌝ }
+{
+    let end = at + values.len();
+    words::copy(&mut words[at..end], values);
+}
+
+// Puts the wider sizes with their count, and start and goal as they are.
+fn put_states(own: &[u64], v: usize, n: usize, wider: &[u64], header: &mut [u64])
+    requires { ⌜ Headed v n (now own) × (length (now wider) ≡ v) × (pairsAt v ≤ length (now header)) ⌝ }
+    ensures { λ r. ⌜ now (header .exit) ≡ begun (now (header .entry)) (statesBy v (now (wider .entry)) (now (own .entry))) ⌝ }
+{
+    put(&mut *header, 0, &[v as u64]);
+    put(&mut *header, SIZES_AT, wider);
+    put(&mut *header, layout::start_at(v), layout::start(own, v, n));
+    put(&mut *header, layout::goal_at(v), layout::goal(own, v, n));
+}
+
+// Puts the listed pairs under their new numbers behind the states, where there are none yet.
+fn put_pairs(own: &[u64], v: usize, n: usize, wider: &[u64], total: usize, header: &mut [u64])
+    requires { ⌜ Own v n (now own) × (now wider ≡ builtSizes (sizesPart v (now own))) × (total ≡ builtTotal v (now own)) × (slotsAt v total ≤ length (now header))
+        × (pairsPart v total (now header) ≡ replicate (wordsFor total) 0) ⌝ }
+    ensures { λ r. ⌜ now (header .exit) ≡ written (now (header .entry)) (pairsAt v) (pairsBy v n (now (own .entry))) ⌝ }
+{
+    let places = layout::places_for(v, total);
+    let pairs = places.pairs;
+    let slots = places.slots;
+    renumber(
+        layout::sizes(own, v),
+        layout::pairs(own, v, n),
+        wider,
+        &mut header[pairs..slots],
+    );
+}
+
+// Builds the header with room for the wider sizes.
+fn build_with(own: &[u64], v: usize, n: usize, wider: &mut [u64], header: &mut [u64]) -> usize
+    requires { ⌜ Own v n (now own) × (length (now wider) ≡ v) × (slotsAt mostVariables mostFeatures ≤ length (now header)) × (now header ≡ replicate (length (now header)) 0) ⌝ }
+    ensures total { λ r. ⌜ r ≡ builtTotal v (now (own .entry)) ⌝ }
+    ensures words { λ r. ⌜ now (header .exit) ≡ begun (now (header .entry)) (builtWords v n (now (own .entry))) ⌝ }
+{
+    widen(layout::sizes(own, v), &mut *wider);
+    let total = numbering::features(wider);
+    put_states(own, v, n, wider, &mut *header);
+    put_pairs(own, v, n, wider, total, &mut *header);
+    total
+}
+
+// Builds the header of the built task in words that are all 0, from the words of a partial file's front with v variables and n features of its own. The answer
+// is how many features the built task has.
+pub fn build_header(own: &[u64], v: usize, n: usize, header: &mut [u64]) -> usize
+    requires { ⌜ Own v n (now own) × (slotsAt mostVariables mostFeatures ≤ length (now header)) × (now header ≡ replicate (length (now header)) 0) ⌝ }
+    ensures total { λ r. ⌜ r ≡ builtTotal v (now (own .entry)) ⌝ }
+    ensures words { λ r. ⌜ now (header .exit) ≡ begun (now (header .entry)) (builtWords v n (now (own .entry))) ⌝ }
+{
+    let mut wider = [0u64; MOST_VARIABLES];
+    build_with(own, v, n, &mut wider[..v], header)
 }

@@ -11,9 +11,9 @@ use Rattle.meaning.specs.File.{inside}
 use Rattle.meaning.specs.Workspace.{has}
 use Rattle.meaning.specs.Answer.{operatorIn, Judged, fine, need, entriesJudged}
 use Rattle.theory.specs.Slices.{length-held}
+use Rattle.theory.specs.Operands.{unless}
 use Rattle.operator.specs.declared.Operator.{Operator}
 use Rattle.operator.specs.Records.{recordOf}
-use Rattle.operator.specs.Laws.{unless}
 use Rattle.operator.specs.Known.{edit-judged, found-fine}
 use Rattle.formed.specs.Parts.{contentFrom}
 use Rattle.editing.specs.Operand.{operatorJudged}

@@ -15,8 +15,7 @@ use Rattle.meaning.specs.Pair.{closed, holds}
 use Rattle.meaning.specs.Number.{Range, Held, Unclosed}
 use Rattle.meaning.specs.File.{inside}
 use Rattle.meaning.specs.Answer.{OperatorRecord, operatorIn, Judged, fine, faulty, need, entriesJudged, valuesJudged}
-use Rattle.theory.specs.Operands.{need-fine, values-fine}
-use Rattle.operator.specs.Laws.{unless, need-unless}
+use Rattle.theory.specs.Operands.{need-fine, unless, need-unless, values-fine}
 use Rattle.editing.specs.declared.End.{End}
 use Rattle.editing.specs.declared.End.the-variants.{Start, Goal}
 

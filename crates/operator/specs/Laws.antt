@@ -1,7 +1,6 @@
 -- Entries that are read, or judged, one at a time: the turns of the code's loops.
 use Prim.Native.Nat.{ℕ, zero, suc, _+_, _-_, _<_, _≤_}
 use mathlib.Core.Path.{_≡_, refl, sym, ap, ap₂, _∙_}
-use mathlib.Core.Bool.{Bool, true, false}
 use mathlib.Core.List.{List, [], _∷_, _++_, append-assoc, append-nil}
 use native.Mathlib.Omega.{arith}
 use native.Mathlib.Numerals.{add-one}
@@ -11,11 +10,12 @@ use Rattle.meaning.specs.Sets.{table}
 use Rattle.meaning.specs.Task.{Entry, Operator}
 use Rattle.meaning.specs.Number.{Reason, Read, got, fault, onRead}
 use Rattle.meaning.specs.File.{entriesOf}
-use Rattle.meaning.specs.Answer.{operatorIn, Judged, fine, faulty, need, entriesJudged}
+use Rattle.meaning.specs.Answer.{operatorIn, Judged, fine, entriesJudged}
 use Rattle.theory.specs.Flat.{table-cong}
 use Rattle.theory.specs.Walk.{entryAt}
 use Rattle.theory.specs.Slices.{entryOf, entryIn, heldIn, length-held, entry-held}
 use Rattle.theory.specs.Reading.{on-on}
+use Rattle.theory.specs.Operands.{unless, need-unless}
 
 -- ---- the arrays of a record
 
@@ -75,15 +75,6 @@ module _ (sizes bytes : List ℕ) (count k : ℕ) where
     read-all h = let none : count - k ≡ 0 = omega arith in rw none (ap (λ l. got l at) (append-nil done))
 
 -- ---- judging
-
--- What is found first decides.
-abbrev pub unless : Judged → Judged → Judged
-unless fine rest = rest
-unless (faulty reason) rest = faulty reason
-
-pub need-unless : (b : Bool) (reason : Reason) (first rest : Judged) → unless (need b reason first) rest ≡ need b reason (unless first rest)
-need-unless true reason first rest = refl
-need-unless false reason first rest = refl
 
 module _ (sizes : List ℕ) where
   -- What is judged after the entries.

@@ -1,13 +1,12 @@
 -- The task of a bay keeps every rule of tasks, over any relation that sets no slot beside itself; so what a bay file says can be written.
 use Prim.Native.Nat.{ℕ, suc, _-_, _*_, _<_, _≤_}
-use mathlib.Core.Path.{_≡_, refl, ap, sym, _∙_, subst}
+use mathlib.Core.Path.{_≡_, refl, sym, _∙_, subst}
 use mathlib.Core.Logic.{_≢_, _↔_, inl, inr}
 use mathlib.Core.Bool.{Bool, true, false, not, _&&_, _||_, cond, or-false}
-use mathlib.Core.List.{List, [], _++_, List·Memᴰ as In}
+use mathlib.Core.List.{List, [], List·Memᴰ as In}
 use native.Mathlib.Omega.{arith}
 use native.Mathlib.Nat.{le-trans}
-use lib.ListN.{length, take, drop, length-replicate}
-use lib.Seq.{take-at, drop-at}
+use lib.ListN.{length, length-replicate}
 use lib.Dec.{eqb, leb, ltb}
 use borrow.Author.Tests.{eqb-true, eqb-false, ne-eqb, lt-ltb, le-ltb}
 use Rattle.meaning.specs.Sets.{some, every, anyOf, twoOf, listed}
@@ -15,16 +14,15 @@ use Rattle.meaning.specs.Limits.{leastSide, mostSide, leastSlots, mostSlots, mo
 use Rattle.meaning.specs.Task.{Operator, State, IsOperator, names, value, size}
 use Rattle.meaning.specs.Feature.{sumOf, pairsOf, atoms, features}
 use Rattle.meaning.specs.Pair.{paired, possible, idle, clashingAfter, uncovered, closed, holds}
-use Rattle.meaning.specs.Number.{Reason, Limit, Mislabelled, Small, refusal, got, numbersOn}
+use Rattle.meaning.specs.Number.{Limit, Mislabelled, got, numbersOn}
 use Rattle.meaning.specs.File.{give, then, judgedTask, taskBytes, inside, limited, InLimits, Writable}
 use Rattle.meaning.specs.Weight.{Unsolvable}
-use Rattle.meaning.specs.Answer.{done, refused, refuses, writes, delivered}
-use Rattle.meaning.specs.Bay.{Move, Step, SameLabels, Bay, slotCount, side, sidesOf, bayOf, eachOnce, judgedBay, neighbours, bayTask, baySizes, occurrences, exchange, slide, bayOperators, bayPairs, taskFor, Builds}
+use Rattle.meaning.specs.Bay.{Move, Step, SameLabels, Bay, slotCount, side, sidesOf, bayOf, eachOnce, judgedBay, neighbours, bayTask, baySizes, occurrences, exchange, slide, bayOperators, bayPairs, taskFor}
 use Rattle.theory.specs.Truth.{on, off, test, less, same, more, order}
 use Rattle.theory.specs.Search.{and-left, and-right, every-at, and-none-right, or-right, or-none-left, or-none-right, some-not, any-not}
 use Rattle.theory.specs.Flat.{in-two, flat-few}
 use Rattle.theory.specs.Tells.{tells-every, tells-and, tells-le, tells-lt}
-use Rattle.theory.specs.Reading.{got-value, on-got, by-got, test-passed}
+use Rattle.theory.specs.Reading.{got-value, on-got, test-passed}
 use Rattle.theory.specs.Spent.{Gives, gives-known, gives-then, gives-map, gives-tested, gives-ended}
 use Rattle.theory.specs.Parts.{item-said, values-said}
 use Rattle.theory.specs.ReadBack.{read-back}
@@ -246,23 +244,3 @@ module _ (bytes : List ℕ) (b : Bay) (next : ℕ) (e : judgedBay bytes ≡ got 
     λ no ms moves. let (plan, from, leads) = moves-plan _ _ ms (b .start) (b .goal) (accepted-bay .readable .start-state) moves in no plan from leads,
     λ no plan from leads. let (ms, moves) = plan-moves _ _ plan (b .start) (b .goal) from leads in no ms moves,
   )
-
--- What a builder that does not refuse leaves: the bytes of an accepted bay's task, with their number as its answer, and the others as they were.
-pub builds-done : (bay room lent : List ℕ) (k : ℕ) → Builds bay room (record { answer = done k; lent = lent })
-    → (b : Bay) × (end : ℕ) × (judgedBay bay ≡ got b end) × (length (taskBytes (bayTask b)) ≡ k) × (take k lent ≡ taskBytes (bayTask b)) × (drop k lent ≡ drop k room)
-builds-done bay room lent k builds =
-    let (b, end, e, o) = by-got (judgedBay bay) _ _ not-refused builds in
-    let (size, front, rest) = written (taskBytes (bayTask b)) o in (b, end, e, size, front, rest)
-  where
-    not-refused : (reason : Reason) → record { answer = done k; lent = lent } ≡ refuses reason room → ⊥
-    not-refused reason e = let q : done k ≡ refused (refusal reason) = ap (λ o. o .answer) e in let z : _≡_ {A = ℕ} 0 1 = cc in omega arith
-
-    whole : (bytes : List ℕ) → record { answer = done k; lent = lent } ≡ writes (length bytes) bytes room → (length bytes ≡ k) × (take k lent ≡ bytes) × (drop k lent ≡ drop k room)
-    whole bytes w =
-        let q : done k ≡ done (length bytes) = ap (λ o. o .answer) w in
-        let size : length bytes ≡ k = cc in
-        let filled : lent ≡ bytes ++ drop (length bytes) room = ap (λ o. o .lent) w in
-        (size, ap (take k) filled ∙ take-at bytes _ k size, ap (drop k) filled ∙ drop-at bytes _ k size ∙ ap (λ n. drop n room) size)
-
-    written : (bytes : List ℕ) → record { answer = done k; lent = lent } ≡ delivered bytes room → (length bytes ≡ k) × (take k lent ≡ bytes) × (drop k lent ≡ drop k room)
-    written bytes o = elim (test (ltb (length room) (length bytes))) [ on p ↦ absurd (not-refused Small (rw p at o)) | off p ↦ whole bytes (rw p at o) ]

@@ -30,10 +30,11 @@ use Rattle.theory.specs.Accepted as Files
 use Rattle.theory.specs.Untouched.{Untouched, edit-untouched}
 use Rattle.theory.specs.Histories.{StandsFor, dueFor, opened-due, opened-stands, begins-stands, edited-stands, after-due, same-stands, stands-opens, same-words, same-finds}
 use Rattle.theory.specs.Finder.{none-right, some-right, found-right}
-use Rattle.theory.specs.Determined.{checks-only, opens-only, finds-only, edits-only, builds-only, prints-only}
-use Rattle.theory.specs.Refusals.{Faulty, FaultyIn, openJudged, checkJudged, findJudged, buildJudged, printJudged, RefusesExactly, refuses-exactly, answers-exactly, checks-refused, prints-refused, opens-refused, finds-refused, edits-refused, builds-refused}
+use Rattle.theory.specs.Determined.{finds-only, edits-only, prints-only}
+use Rattle.theory.specs.Refusals.{Faulty, FaultyIn, openJudged, checkJudged, findJudged, buildJudged, printJudged, RefusesExactly, refuses-exactly, answers-exactly, prints-refused, finds-refused, edits-refused, opens-exactly, checks-exactly, builds-exactly}
+use Rattle.theory.specs.Delivered.{builds-leave}
 use Rattle.theory.specs.BayMoves.{Moves}
-use Rattle.theory.specs.BayTask.{builds-done, bay-read, bay-moves, bay-unsolvable}
+use Rattle.theory.specs.BayTask.{bay-read, bay-moves, bay-unsolvable}
 
 -- ---- demand 1
 
@@ -42,8 +43,8 @@ use Rattle.theory.specs.BayTask.{builds-done, bay-read, bay-moves, bay-u
 -- "Each refusal is given exactly when document 01's table says, and a refused call changes nothing it was lent."
 
 -- The task's first fault; then 8.
-pub open-refuses : (task room : List ℕ) → RefusesExactly (Opens task room) room (Faulty (openJudged task room))
-open-refuses task room = refuses-exactly (opens-only task room) (λ n left. opens-refused n left task room)
+pub open-refuses : (task room : List ℕ) → RefusesExactly (Opens task room) room (Faulty (openJudged (judgedTask task) room))
+open-refuses task = opens-exactly (judgedTask task)
 
 -- 9, then 8.
 pub find-refuses : (workspace room : List ℕ) → RefusesExactly (Finds workspace room) room (FaultyIn workspace (findJudged room))
@@ -54,12 +55,12 @@ pub edit-refuses : (workspace : List ℕ) (edit : Edit) → RefusesExactly (Edit
 edit-refuses workspace edit = refuses-exactly (edits-only workspace edit) (λ n left. edits-refused n left workspace edit)
 
 -- The bay file's first fault; then 8.
-pub build-refuses : (bay room : List ℕ) → RefusesExactly (Builds bay room) room (Faulty (buildJudged bay room))
-build-refuses bay room = refuses-exactly (builds-only bay room) (λ n left. builds-refused n left bay room)
+pub build-refuses : (bay room : List ℕ) → RefusesExactly (Builds bay room) room (Faulty (buildJudged (judgedBay bay) (λ b. taskBytes (bayTask b)) room))
+build-refuses bay = builds-exactly (judgedBay bay) (λ b. taskBytes (bayTask b))
 
 -- The task's first fault; then that of the weights. The checker is lent nothing to write.
-pub check-refuses : (task weights : List ℕ) (answer : Answer Verdict) → Checks task weights answer → (n : ℕ) → (answer ≡ refused n) ↔ Faulty (checkJudged task weights) n
-check-refuses task weights = answers-exactly (checks-only task weights) (λ n. checks-refused n task weights)
+pub check-refuses : (task weights : List ℕ) (answer : Answer Verdict) → Checks task weights answer → (n : ℕ) → (answer ≡ refused n) ↔ Faulty (checkJudged (judgedTask task) weights) n
+check-refuses task = checks-exactly (judgedTask task)
 
 -- The finder program: 8 for too many bytes; the task's first fault; then 8 for too many features.
 pub print-refuses : (input : List ℕ) (answer : Answer Found) → Prints input answer → (n : ℕ) → (answer ≡ refused n) ↔ Faulty (printJudged input) n
@@ -157,13 +158,13 @@ pub record BuiltTask (file room lent : List ℕ) (k : ℕ) : Type 0 where
 
 pub built : (file room lent : List ℕ) (k : ℕ) → Builds file room (record { answer = done k; lent = lent }) → BuiltTask file room lent k
 built file room lent k builds =
-    let (b, end, e, size, front, rest) = builds-done file room lent k builds in
+    let (b, end, e, left) = builds-leave room lent k (judgedBay file) (λ b. taskBytes (bayTask b)) builds in
     record {
       bay = b;
       end = end;
       accepted = e;
-      task = ap judgedTask front ∙ bay-read file b end e ∙ ap (got (bayTask b)) size;
-      others = rest;
+      task = ap judgedTask (left .front) ∙ bay-read file b end e ∙ ap (got (bayTask b)) (left .width);
+      others = left .others;
       moves = bay-moves file b end e;
       unsolvable = bay-unsolvable file b end e;
     }

@@ -15,9 +15,10 @@ use Rattle.meaning.specs.Weight.{LeastOf, Separates}
 use Rattle.meaning.specs.Number.{Reason, Small, Malformed, refusal, Read, got, fault}
 use Rattle.meaning.specs.File.{judgedTask, judgedWeights}
 use Rattle.meaning.specs.Workspace.{Content, wordsOf, wordsFor, wordsDue, WellFormed, contentOf}
-use Rattle.meaning.specs.Answer.{done, refused, refuses, writes, byRead, accepted, endsAlike, breaks, Breaks, Judges, Checks, Opens}
+use Rattle.meaning.specs.Answer.{Outcome, done, refused, refuses, writes, byRead, accepted, endsAlike, breaks, Breaks, Judges, ChecksAs, OpensAs}
 use Rattle.meaning.specs.Answer.{separated, FindsIn, FindsBy, Finds, Edit, addOperator, replaceStart, replaceGoal, Judged, fine, faulty, editJudged, Changes, EditsIn, Edits}
 use Rattle.meaning.specs.Bay.{Builds, judgedBay}
+use Rattle.meaning.specs.Partial.{Partial, judgedPartial, BuildsBy, Silences}
 use Rattle.meaning.specs.Line.{nothing, separating, Seeks, Says, tooLarge, Prints}
 use Rattle.theory.specs.Truth.{less, same, more, order}
 use Rattle.theory.specs.Flat.{flat-cong, getD-in}
@@ -74,15 +75,16 @@ verdict-only T weights (breaks j) (breaks k) h h' = elim (order j k) [
   | more l ↦ absurd (h' .broken (h .earlier k l (h' .busy)))
 ]
 
-pub checks-only : (task weights : List ℕ) → AtMostOne (Checks task weights)
-checks-only task weights = read-only (judgedTask task) _ (λ reason. refused (refusal reason))
+-- Whatever file the task was read from.
+pub checks-only : (judged : Read Task) (weights : List ℕ) → AtMostOne (ChecksAs judged weights)
+checks-only judged weights = read-only judged _ (λ reason. refused (refusal reason))
     (λ T. read-only (judgedWeights (features (T .sizes)) weights) _ (λ reason. refused (refusal reason))
     (λ ws a b h h'. h .1 ∙ ap done (verdict-only T (listed ws) (h .0) (h' .0) (h .2) (h' .2)) ∙ sym (h' .1)))
 
 -- ---- opening
 
-pub opens-only : (task room : List ℕ) → AtMostOne (Opens task room)
-opens-only task room = read-only (judgedTask task) _ (λ reason. refuses reason room)
+pub opens-only : (judged : Read Task) (room : List ℕ) → AtMostOne (OpensAs judged room)
+opens-only judged room = read-only judged _ (λ reason. refuses reason room)
     (λ T. let due = wordsDue (length (T .sizes)) (features (T .sizes)) in
     if-only (ltb (length room) due) _ _ (is-only (refuses Small room))
     (λ a b h h'. h .2
@@ -121,10 +123,22 @@ edits-in-only fine workspace c edit a b h h' = h .2 ∙ ap (λ c'. writes tt (wo
 pub edits-only : (workspace : List ℕ) (edit : Edit) → AtMostOne (Edits workspace edit)
 edits-only workspace edit = formed-or workspace _ (refuses Malformed workspace) (λ c. edits-in-only (editJudged c edit) workspace c edit)
 
--- ---- building, and the program
+-- ---- calls that write a file
+
+-- What was read fixes the outcome: `build`, `build_partial` and `build_partial_lean`, `silence`.
+pub writes-only : {A : Type 0} (read : Read A) (due : A → Outcome ℕ) (room : List ℕ) → AtMostOne (λ outcome. byRead read (λ a. outcome ≡ due a) (λ reason. outcome ≡ refuses reason room))
+writes-only read due room = read-only read _ (λ reason. refuses reason room) (λ a. is-only (due a))
 
 pub builds-only : (bay room : List ℕ) → AtMostOne (Builds bay room)
-builds-only bay room = read-only (judgedBay bay) _ (λ reason. refuses reason room) (λ b. is-only _)
+builds-only bay room = writes-only (judgedBay bay) _ room
+
+pub builds-by-only : (out : Partial → ℕ → ℕ → Bool) (file room : List ℕ) → AtMostOne (BuildsBy out file room)
+builds-by-only out file room = writes-only (judgedPartial out file) _ room
+
+pub silences-only : (task marks room : List ℕ) → AtMostOne (Silences task marks room)
+silences-only task marks room = writes-only (judgedTask task) _ room
+
+-- ---- the program
 
 pub seeks-only : (T : Task) → AtMostOne (Seeks T)
 unfolding members

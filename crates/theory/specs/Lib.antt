@@ -41,6 +41,7 @@ pub mod Histories
 pub mod Finder
 pub mod Determined
 pub mod Refusals
+pub mod Delivered
 pub mod BayMoves
 pub mod BayPairs
 pub mod BayTask

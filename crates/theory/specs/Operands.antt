@@ -12,7 +12,7 @@ use Rattle.meaning.specs.Pair.{closed, holds}
 use Rattle.meaning.specs.Number.{Reason, Range, Held, Unclosed}
 use Rattle.meaning.specs.File.{inside}
 use Rattle.meaning.specs.Workspace.{Content}
-use Rattle.meaning.specs.Answer.{OperatorRecord, operatorIn, addOperator, replaceStart, Judged, fine, need, entriesJudged, valuesJudged, editJudged}
+use Rattle.meaning.specs.Answer.{OperatorRecord, operatorIn, addOperator, replaceStart, Judged, fine, faulty, need, entriesJudged, valuesJudged, editJudged}
 use Rattle.theory.specs.Search.{and-left}
 use Rattle.theory.specs.Flat.{length-table}
 
@@ -20,6 +20,15 @@ use Rattle.theory.specs.Flat.{length-table}
 pub need-fine : (b : Bool) (reason : Reason) (rest : Judged) → need b reason rest ≡ fine → (b ≡ true) × (rest ≡ fine)
 need-fine true reason rest e = (refl, e)
 need-fine false reason rest e = absurd (let z : _≡_ {A = ℕ} 0 1 = cc in omega arith)
+
+-- What is found first decides.
+abbrev pub unless : Judged → Judged → Judged
+unless fine rest = rest
+unless (faulty reason) rest = faulty reason
+
+pub need-unless : (b : Bool) (reason : Reason) (first rest : Judged) → unless (need b reason first) rest ≡ need b reason (unless first rest)
+need-unless true reason first rest = refl
+need-unless false reason first rest = refl
 
 pub entries-fine : (sizes : List ℕ) (low : ℕ) (o : Operator) (rest : Judged) → entriesJudged sizes low o rest ≡ fine → Entries sizes low o × (rest ≡ fine)
 unfolding entriesJudged

@@ -13,13 +13,14 @@ use Rattle.meaning.specs.Limits.{mostInput, mostProgramFeatures}
 use Rattle.meaning.specs.Task.{Task}
 use Rattle.meaning.specs.Feature.{features}
 use Rattle.meaning.specs.Number.{Reason, Small, Malformed, refusal, Read, got, fault}
-use Rattle.meaning.specs.File.{judgedTask, judgedWeights, taskBytes}
+use Rattle.meaning.specs.File.{judgedTask, judgedWeights}
 use Rattle.meaning.specs.Workspace.{Content, wordsFor, wordsDue, WellFormed}
-use Rattle.meaning.specs.Answer.{Answer, done, refused, Outcome, refuses, writes, delivered, byRead, Checks, Opens, FindsIn, FindsBy, Finds, Judged, fine, faulty, need, Edit, editJudged, EditsIn, Edits}
-use Rattle.meaning.specs.Bay.{Builds, judgedBay, bayTask}
+use Rattle.meaning.specs.Answer.{Answer, done, refused, Outcome, refuses, writes, delivered, byRead, Verdict, ChecksAs, OpensAs, FindsIn, FindsBy, Finds, Judged, fine, faulty, need, Edit, editJudged, EditsIn, Edits}
+use Rattle.meaning.specs.Partial.{Partial, partialBytes, silenced, marksJudged, silencesBy, Silences}
 use Rattle.meaning.specs.Line.{Found, Seeks, tooLarge, Prints}
 use Rattle.theory.specs.Truth.{on, off, test}
-use Rattle.theory.specs.Determined.{AtMostOne}
+use Rattle.theory.specs.Operands.{unless}
+use Rattle.theory.specs.Determined.{AtMostOne, opens-only, checks-only, writes-only}
 
 -- ---- what is judged, in order
 
@@ -32,17 +33,23 @@ fileJudged (fault reason place) rest = faulty reason
 abbrev pub roomJudged : ℕ → List ℕ → Judged
 roomJudged due room = need (leb due (length room)) Small fine
 
--- "Then come 5, 6, 7 by operator, 8": the whole workspace is due.
-abbrev pub openJudged : List ℕ → List ℕ → Judged
-openJudged task room = fileJudged (judgedTask task) (λ T. roomJudged (wordsDue (length (T .sizes)) (features (T .sizes))) room)
+-- "Then come 5, 6, 7 by operator, 8": the whole workspace is due, whatever file the task was read from.
+abbrev pub openJudged : Read Task → List ℕ → Judged
+openJudged judged room = fileJudged judged (λ T. roomJudged (wordsDue (length (T .sizes)) (features (T .sizes))) room)
 
 -- "Weights are read after a fully accepted task."
-abbrev pub checkJudged : List ℕ → List ℕ → Judged
-checkJudged task weights = fileJudged (judgedTask task) (λ T. fileJudged (judgedWeights (features (T .sizes)) weights) (λ _. fine))
+abbrev pub checkJudged : Read Task → List ℕ → Judged
+checkJudged judged weights = fileJudged judged (λ T. fileJudged (judgedWeights (features (T .sizes)) weights) (λ _. fine))
 
--- The bay file, then the room: "all bytes of the file" are due.
-abbrev pub buildJudged : List ℕ → List ℕ → Judged
-buildJudged bay room = fileJudged (judgedBay bay) (λ b. roomJudged (length (taskBytes (bayTask b))) room)
+-- A file, then the room: "all bytes of the file" that is written for what was read are due.
+abbrev pub buildJudged : {A : Type 0} → Read A → (A → List ℕ) → List ℕ → Judged
+buildJudged read file room = fileJudged read (λ a. roomJudged (length (file a)) room)
+
+-- The task wholly, then the marks, then the room.
+abbrev pub silenceJudged : List ℕ → List ℕ → List ℕ → Judged
+silenceJudged task marks room =
+    fileJudged (judgedTask task)
+    (λ T. unless (marksJudged T marks) (roomJudged (length (partialBytes (silenced T marks))) room))
 
 -- "W words for a finder's answer even where that is 'none'".
 abbrev pub findJudged : List ℕ → Content → Judged
@@ -120,8 +127,8 @@ read-refused (fault reason place) Good Bad rest Refused good bad = bad reason
 -- ---- which refusals each call's relation allows
 
 module _ (n : ℕ) (left : List ℕ) where
-  pub opens-refused : (task room : List ℕ) → Opens task room (record { answer = refused n; lent = left }) ↔ (Faulty (openJudged task room) n × (left ≡ room))
-  opens-refused task room = read-refused (judgedTask task) _ _ _ (λ judged. Faulty judged n × (left ≡ room))
+  pub opens-refused : (judged : Read Task) (room : List ℕ) → OpensAs judged room (record { answer = refused n; lent = left }) ↔ (Faulty (openJudged judged room) n × (left ≡ room))
+  opens-refused judged room = read-refused judged _ _ _ (λ first. Faulty first n × (left ≡ room))
       (λ T. room-refused n left room (wordsDue (length (T .sizes)) (features (T .sizes))) _ _ (refusal-alike n left room Small) (λ h. not-done n left _ _ refl (h .2)))
       (refusal-alike n left room)
 
@@ -132,9 +139,19 @@ module _ (n : ℕ) (left : List ℕ) where
     | off p ↦ rw (p, le-leb (length file) (length room) (ltb-false _ _ p)) (λ h. absurd (not-done n left (writes (length file) file room) (length file) refl h), λ h. absurd (h .0))
   ]
 
-  pub builds-refused : (bay room : List ℕ) → Builds bay room (record { answer = refused n; lent = left }) ↔ (Faulty (buildJudged bay room) n × (left ≡ room))
-  builds-refused bay room = read-refused (judgedBay bay) _ _ _ (λ judged. Faulty judged n × (left ≡ room))
-      (λ b. delivered-refused (taskBytes (bayTask b)) room) (refusal-alike n left room)
+  pub builds-refused : {A : Type 0} (read : Read A) (file : A → List ℕ) (room : List ℕ)
+      → byRead read (λ a. record { answer = refused n; lent = left } ≡ delivered (file a) room) (λ reason. record { answer = refused n; lent = left } ≡ refuses {A = ℕ} reason room)
+      ↔ (Faulty (buildJudged read file room) n × (left ≡ room))
+  builds-refused read file room = read-refused read _ _ _ (λ first. Faulty first n × (left ≡ room)) (λ a. delivered-refused (file a) room) (refusal-alike n left room)
+
+  pub silences-refused : (task marks room : List ℕ) → Silences task marks room (record { answer = refused n; lent = left }) ↔ (Faulty (silenceJudged task marks room) n × (left ≡ room))
+  silences-refused task marks room = read-refused (judgedTask task) _ _ _ (λ first. Faulty first n × (left ≡ room))
+      (λ T. marked (marksJudged T marks) (silenced T marks)) (refusal-alike n left room)
+    where
+      marked : (judged : Judged) (P : Partial) → (record { answer = refused n; lent = left } ≡ silencesBy judged P room)
+          ↔ (Faulty (unless judged (roomJudged (length (partialBytes P)) room)) n × (left ≡ room))
+      marked fine P = delivered-refused (partialBytes P) room
+      marked (faulty reason) P = refusal-alike n left room reason
 
   -- A workspace that is not well formed, or what its content decides.
   formed-refused : {A : Type 0} (workspace lent : List ℕ) (By : Content → Outcome A → Type 0) (judged : Content → Judged)
@@ -180,9 +197,9 @@ module _ {A : Type 0} (n : ℕ) where
   no-result : (a : A) → _≡_ {A = Answer A} (refused n) (done a) → ⊥
   no-result a e = let z : _≡_ {A = ℕ} 0 1 = cc in omega arith
 
-pub checks-refused : (n : ℕ) (task weights : List ℕ) → Checks task weights (refused n) ↔ Faulty (checkJudged task weights) n
-checks-refused n task weights = read-refused (judgedTask task) _ _ _ (λ judged. Faulty judged n)
-    (λ T. read-refused (judgedWeights (features (T .sizes)) weights) _ _ _ (λ judged. Faulty judged n) (λ ws. (λ h. absurd (no-result n (h .0) (h .1)), λ h. absurd h)) (number-alike n))
+pub checks-refused : (n : ℕ) (judged : Read Task) (weights : List ℕ) → ChecksAs judged weights (refused n) ↔ Faulty (checkJudged judged weights) n
+checks-refused n judged weights = read-refused judged _ _ _ (λ first. Faulty first n)
+    (λ T. read-refused (judgedWeights (features (T .sizes)) weights) _ _ _ (λ first. Faulty first n) (λ ws. (λ h. absurd (no-result n (h .0) (h .1)), λ h. absurd h)) (number-alike n))
     (number-alike n)
 
 pub prints-refused : (n : ℕ) (input : List ℕ) → Prints input (refused n) ↔ Faulty (printJudged input) n
@@ -200,3 +217,15 @@ prints-refused n input = elim (test (ltb mostInput (length input))) [
       | on p ↦ rw (p, lt-leb (features (T .sizes)) mostProgramFeatures (ltb-true _ _ p)) (number-alike n Small)
       | off p ↦ rw (p, le-leb (features (T .sizes)) mostProgramFeatures (ltb-false _ _ p)) (λ h. absurd (no-result n (h .0) (h .1)), λ h. absurd h)
     ]
+
+-- ---- calls that serve several kinds of file
+
+pub opens-exactly : (judged : Read Task) (room : List ℕ) → RefusesExactly (OpensAs judged room) room (Faulty (openJudged judged room))
+opens-exactly judged room = refuses-exactly (opens-only judged room) (λ n left. opens-refused n left judged room)
+
+pub checks-exactly : (judged : Read Task) (weights : List ℕ) (answer : Answer Verdict) → ChecksAs judged weights answer → (n : ℕ) → (answer ≡ refused n) ↔ Faulty (checkJudged judged weights) n
+checks-exactly judged weights = answers-exactly (checks-only judged weights) (λ n. checks-refused n judged weights)
+
+pub builds-exactly : {A : Type 0} (read : Read A) (file : A → List ℕ) (room : List ℕ)
+    → RefusesExactly (λ outcome. byRead read (λ a. outcome ≡ delivered (file a) room) (λ reason. outcome ≡ refuses reason room)) room (Faulty (buildJudged read file room))
+builds-exactly read file room = refuses-exactly (writes-only read (λ a. delivered (file a) room) room) (λ n left. builds-refused n left read file room)

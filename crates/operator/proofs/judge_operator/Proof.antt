@@ -8,10 +8,10 @@ use borrow.Author.Tests.{lt-ltb, le-ltb, le-leb, lt-leb}
 use lib.ListN.{length, getD, drop}
 use Rattle.meaning.specs.Answer.{operatorIn, fine, entriesJudged}
 use Rattle.meaning.specs.File.{inside}
-use Rattle.theory.specs.Operands.{entries-fine}
+use Rattle.theory.specs.Operands.{unless, entries-fine}
 use Rattle.operator.specs.Records.{recordOf, judgementOf}
 use Rattle.operator.specs.declared.Judgement.{Judgement}
-use Rattle.operator.specs.Laws.{unless, judge-more, judge-all}
+use Rattle.operator.specs.Laws.{judge-more, judge-all}
 use Rattle.operator.proofs.judge_operator.Statement.{statement}
 use Rattle.operator.proofs.judge_operator.Tie as tie
 

@@ -16,7 +16,7 @@ use Rattle.meaning.specs.Limits.{mostVariables}
 use Rattle.theory.specs.Search.{and-left}
 use Rattle.theory.specs.Parts.{operator-said}
 use Rattle.theory.specs.ReadBack.{entries-length}
-use Rattle.theory.specs.Operands.{need-fine, entries-fine}
+use Rattle.theory.specs.Operands.{unless, need-unless, need-fine, entries-fine}
 use Rattle.theory.specs.Slices.{length-held}
 use Rattle.number.specs.Answers.{reasonOf}
 use Rattle.number.specs.declared.Reason.{Reason}
@@ -24,7 +24,7 @@ use Rattle.number.specs.declared.Step.the-variants.{Next, Fault}
 use Rattle.operator.specs.declared.Operator as declared
 use Rattle.operator.specs.declared.OperatorRead.{OperatorRead}
 use Rattle.operator.specs.Records.{recordOf, stepOf, operatorReadOf}
-use Rattle.operator.specs.Laws.{unless, need-unless, entries-unless}
+use Rattle.operator.specs.Laws.{entries-unless}
 
 -- ---- an operator of a file
 

@@ -227,6 +227,14 @@ moves-plan n near (m ∷ ms) s t S (move, rest) =
     step : Step (bayOperators n near) s m
     step = move-step n near s m S move
 
+-- Moves keep the labels.
+pub moves-labels : (n : ℕ) (near : ℕ → ℕ → Bool) (ms : List (List ℕ)) (s t : List ℕ) → length s ≡ n → Moves n near ms s t → SameLabels s t
+moves-labels n near [] s t e z = rw (← z) (record { as-long = refl; as-often = λ label. refl })
+moves-labels n near (m ∷ ms) s t e (move, rest) =
+    let first = move-labels n near s m e move in
+    let others = moves-labels n near ms m t (first .as-long ∙ e) rest in
+    record { as-long = others .as-long ∙ first .as-long; as-often = λ label. others .as-often label ∙ first .as-often label }
+
 -- ---- neighbours share a side
 
 -- No slot is beside itself.

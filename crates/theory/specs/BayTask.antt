@@ -1,6 +1,6 @@
 -- The task of a bay keeps every rule of tasks, over any relation that sets no slot beside itself; so what a bay file says can be written.
-use Prim.Native.Nat.{ℕ, suc, _-_, _*_, _<_, _≤_}
-use mathlib.Core.Path.{_≡_, refl, sym, _∙_, subst}
+use Prim.Native.Nat.{ℕ, zero, suc, _-_, _*_, _<_, _≤_}
+use mathlib.Core.Path.{_≡_, refl, ap, sym, _∙_, subst}
 use mathlib.Core.Logic.{_≢_, _↔_, inl, inr}
 use mathlib.Core.Bool.{Bool, true, false, not, _&&_, _||_, cond, or-false}
 use mathlib.Core.List.{List, [], List·Memᴰ as In}
@@ -13,13 +13,13 @@ use Rattle.meaning.specs.Sets.{some, every, anyOf, twoOf, listed}
 use Rattle.meaning.specs.Limits.{leastSide, mostSide, leastSlots, mostSlots, mostFeatures, numberEnd}
 use Rattle.meaning.specs.Task.{Operator, State, IsOperator, names, value, size}
 use Rattle.meaning.specs.Feature.{sumOf, pairsOf, atoms, features}
-use Rattle.meaning.specs.Pair.{paired, possible, idle, clashingAfter, uncovered, closed, holds}
+use Rattle.meaning.specs.Pair.{paired, possible, stuck, idle, clashingAfter, uncovered, closed, holds}
 use Rattle.meaning.specs.Number.{Limit, Mislabelled, got, numbersOn}
 use Rattle.meaning.specs.File.{give, then, judgedTask, taskBytes, inside, limited, InLimits, Writable}
 use Rattle.meaning.specs.Weight.{Unsolvable}
 use Rattle.meaning.specs.Bay.{Move, Step, SameLabels, Bay, slotCount, side, sidesOf, bayOf, eachOnce, judgedBay, neighbours, bayTask, baySizes, occurrences, exchange, slide, bayOperators, bayPairs, taskFor}
 use Rattle.theory.specs.Truth.{on, off, test, less, same, more, order}
-use Rattle.theory.specs.Search.{and-left, and-right, every-at, and-none-right, or-right, or-none-left, or-none-right, some-not, any-not}
+use Rattle.theory.specs.Search.{and-left, and-right, every-at, and-none-right, or-right, or-none-left, or-none-right, some-at, some-not, any-not}
 use Rattle.theory.specs.Flat.{in-two, flat-few}
 use Rattle.theory.specs.Tells.{tells-every, tells-and, tells-le, tells-lt}
 use Rattle.theory.specs.Reading.{got-value, on-got, test-passed}
@@ -37,10 +37,10 @@ length-when true l = omega arith
 length-when false l = omega arith
 
 -- How many operators a bay has at most, whatever its neighbour relation.
-abbrev mostOperators : ℕ → ℕ
+abbrev pub mostOperators : ℕ → ℕ
 mostOperators n = n * (n * ((n - 1) * 1))
 
-operators-most : (n : ℕ) (near : ℕ → ℕ → Bool) → length (bayOperators n near) ≤ mostOperators n
+pub operators-most : (n : ℕ) (near : ℕ → ℕ → Bool) → length (bayOperators n near) ≤ mostOperators n
 unfolding bayOperators
 operators-most n near = flat-few n _ _ (λ p l. flat-few n _ _ (λ q k. le-trans (length-when (near p q) _) (flat-few (n - 1) 1 _ (λ t h. omega arith))))
 
@@ -120,9 +120,31 @@ module _ (n i j a b : ℕ) (ordered : i < j) (place : j < n) (label-a : a < n) (
       after : clashingAfter (baySizes n) (listed (bayPairs n)) (exchange i j a b) ≡ false
       after = rw (paired-bay n i b j a (omega arith) (omega arith) place label-b label-a, ne-eqb b a (λ q. d (sym q))) refl
 
--- Every operator of a bay is one, and the pairs are closed under it.
-slide-rules : (n : ℕ) (near : ℕ → ℕ → Bool) → ((p q : ℕ) → near p q ≡ true → p ≢ q) → (o : Operator) → In o (bayOperators n near)
-    → IsOperator (baySizes n) o × (closed (baySizes n) (listed (bayPairs n)) o ≡ true)
+  -- A third slot has a third label.
+  third-label : (u : ℕ) → u < n → names (exchange i j a b) u ≡ false → some (size (baySizes n) u) (possible (baySizes n) (listed (bayPairs n)) (exchange i j a b) u) ≡ true
+  third-label u l e =
+      let (y, h, p, q) = third a b (omega (arith, ordered, place, l, unnamed u e)) in
+      some-at (size (baySizes n) u) _ y (bay-below n u y l h) (rw (possible-bay u y (unnamed u e .0) (unnamed u e .1) l h, ne-eqb a y p, ne-eqb b y q) refl)
+    where
+      third : (a b : ℕ) → 3 ≤ n → (y : ℕ) × (y < n) × (a ≢ y) × (b ≢ y)
+      third zero zero h = (1, omega arith, omega arith, omega arith)
+      third zero (suc zero) h = (2, omega arith, omega arith, omega arith)
+      third zero (suc (suc b)) h = (1, omega arith, omega arith, omega arith)
+      third (suc zero) zero h = (2, omega arith, omega arith, omega arith)
+      third (suc (suc a)) zero h = (1, omega arith, omega arith, omega arith)
+      third (suc a) (suc b) h = (0, omega arith, omega arith, omega arith)
+
+  -- So no slide is idle for want of a possible label.
+  never-stuck : stuck (baySizes n) (listed (bayPairs n)) (exchange i j a b) ≡ false
+  unfolding stuck
+  never-stuck = some-not _ _ (λ u l. elim (test (names (exchange i j a b) u)) [
+    | on e ↦ rw e refl
+    | off e ↦ and-none-right (not (names (exchange i j a b) u)) _ (ap not (third-label u (rw (length-replicate n n) at l) e))
+  ])
+
+-- Every operator of a bay is one, the pairs are closed under it, and it is not idle for want of a possible label.
+pub slide-rules : (n : ℕ) (near : ℕ → ℕ → Bool) → ((p q : ℕ) → near p q ≡ true → p ≢ q) → (o : Operator) → In o (bayOperators n near)
+    → IsOperator (baySizes n) o × (closed (baySizes n) (listed (bayPairs n)) o ≡ true) × (stuck (baySizes n) (listed (bayPairs n)) o ≡ false)
 unfolding slide
 slide-rules n near apart o m = elim (order (f .gap) (f .slot)) [
   | less l ↦ rw (f .form, lt-ltb (f .gap) (f .slot) l) (rules (f .gap) (f .slot) 0 (f .label) l (f .slot-place) (omega (arith, f .is-label)) (f .is-label) (omega (arith, f .is-pallet)))
@@ -134,8 +156,9 @@ slide-rules n near apart o m = elim (order (f .gap) (f .slot)) [
     f : Slide n near o
     f = operator-slide n near o m
 
-    rules : (i j a b : ℕ) → i < j → j < n → a < n → b < n → a ≢ b → IsOperator (baySizes n) (exchange i j a b) × (closed (baySizes n) (listed (bayPairs n)) (exchange i j a b) ≡ true)
-    rules i j a b l k h h' d = (exchange-operator n i j a b l k h h', closed-bay n i j a b l k h h' d)
+    rules : (i j a b : ℕ) → i < j → j < n → a < n → b < n → a ≢ b
+        → IsOperator (baySizes n) (exchange i j a b) × (closed (baySizes n) (listed (bayPairs n)) (exchange i j a b) ≡ true) × (stuck (baySizes n) (listed (bayPairs n)) (exchange i j a b) ≡ false)
+    rules i j a b l k h h' d = (exchange-operator n i j a b l k h h', closed-bay n i j a b l k h h' d, never-stuck n i j a b l k h h')
 
 -- ---- the whole task
 

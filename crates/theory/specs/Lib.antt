@@ -53,3 +53,4 @@ pub mod PartialFile
 pub mod PartialParts
 pub mod PartialDemands
 pub mod Silence
+pub mod BayOrders

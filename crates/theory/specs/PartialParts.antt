@@ -13,7 +13,7 @@ use Rattle.meaning.specs.Sets.{Set, some, flat, count, listed, allOf}
 use Rattle.meaning.specs.Limits.{mostVariables, leastPartialSize, mostPartialSize, mostFeatures, group, numberEnd}
 use Rattle.meaning.specs.Task.{Entry, Operator, Task, State, IsOperator, value, size, Run}
 use Rattle.meaning.specs.Feature.{sumOf, pairsOf, atoms, features}
-use Rattle.meaning.specs.Pair.{paired, closed, holds}
+use Rattle.meaning.specs.Pair.{paired, stuck, closed, holds}
 use Rattle.meaning.specs.Number.{Reason, Limit, Range, got, groupBytes, numberBytes, number}
 use Rattle.meaning.specs.File.{Parser, give, then, inside, item, valuesOf, operatorsOf, Acceptable, Writable, bytesOf, counted, entryBytes, operatorBytes, weightBytes, taskBytes}
 use Rattle.meaning.specs.Partial.{Partial, Ordered, named, builtSizes, builtPairs, forgetting, forgettings, builtTask, againstGoal, leftOut, leftOutLean, partialHeader, marksOf, goalOf, partialOf, judgedPartial, marksIn, namedIn, partialBytes}
@@ -26,7 +26,7 @@ use Rattle.theory.specs.NumberBack.{number-back}
 use Rattle.theory.specs.Spent.{Bytes}
 use Rattle.theory.specs.Parts.{operators-said}
 use Rattle.theory.specs.PartialPairs.{built-length, built-size, paired-known}
-use Rattle.theory.specs.PartialTask.{forgettings-in}
+use Rattle.theory.specs.PartialTask.{forgettings-in, closed-built, holds-built, all-closed}
 use Rattle.theory.specs.PartialFile.{bytes-join}
 
 -- ---- written and read back
@@ -100,6 +100,25 @@ partial-back P ok few =
     (reads-then _ (feature-list-back (atoms ds) (features ds) (P .pairs) (omega (arith, features-built ds, ok .total)) (ok .pairs) _)
     (reads-then _ (number-back (length (P .operators)) few _)
     (ended-back (λ os. record { sizes = ds; start = P .start; goal = P .goal; pairs = P .pairs; operators = os }) (operators-back ds short small (P .operators) (ok .operators) [])))))))
+
+-- So a partial task whose start and operators pass on its own sizes and pairs is accepted, whatever is left out, if no operator is idle for want of a possible value, and a number counts
+-- those that are kept.
+pub partial-accepted : (P : Partial) → Ordered P → (out : Partial → ℕ → ℕ → Bool) → length (builtTask P (out P) .operators) < numberEnd → holds (P .sizes) (listed (P .pairs)) (P .start) ≡ false
+    → ((o : Operator) → In o (P .operators) → (closed (P .sizes) (listed (P .pairs)) o ≡ true) × (stuck (P .sizes) (listed (P .pairs)) o ≡ false))
+    → judgedPartial out (partialBytes P) ≡ got (builtTask P (out P)) (length (partialBytes P))
+unfolding judgedPartial builtTask
+partial-accepted P ok out few free rules =
+    let ds = P .sizes in
+    let fewer : length (P .operators) < numberEnd = omega (arith, few, length-append (P .operators) (forgettings ds (out P))) in
+    let shut : allOf (closed (builtSizes ds) (listed (builtPairs ds (listed (P .pairs))))) (P .operators ++ forgettings ds (out P)) ≡ true = all-each _ _
+        (all-closed P ok (out P) (all-each _ (P .operators) (λ o m. closed-built ds (listed (P .pairs)) o (ok .operators o m .entries) (rules o m .1) ∙ rules o m .0))) in
+    rw (
+      whole partialOf P (partialBytes P) (partial-back P ok fewer),
+      lt-ltb (length (P .operators ++ forgettings ds (out P))) numberEnd few,
+      holds-built ds (listed (P .pairs)) (P .start) (ok .start),
+      free,
+      shut,
+    ) refl
 
 -- ---- the built task's file in parts
 

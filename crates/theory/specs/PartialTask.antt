@@ -1,6 +1,6 @@
 -- The task that is built for a partial one keeps every rule of tasks. Forgetting operators are never idle and always closed.
 use Prim.Native.Nat.{ℕ, zero, suc, _+_, _*_, _<_, _≤_}
-use mathlib.Core.Path.{_≡_, refl, ap, sym, _∙_}
+use mathlib.Core.Path.{_≡_, refl, ap, ap₂, sym, _∙_}
 use mathlib.Core.Logic.{_≢_, _⊎_, inl, inr}
 use mathlib.Core.Bool.{Bool, true, false, not, _&&_, _||_, cond, or-false}
 use mathlib.Core.List.{List, [], _∷_, _++_, map, List·Memᴰ as In, List·Memᴰ·head as here, List·Memᴰ·eq-of-singleton as eq-of-singleton, List·Memᴰ·not-nil as not-nil, List·Memᴰ·append-cases as append-cases}
@@ -17,7 +17,7 @@ use Rattle.meaning.specs.Pair.{paired, possible, clashing, stuck, idle, clashin
 use Rattle.meaning.specs.File.{InLimits, Acceptable}
 use Rattle.meaning.specs.Partial.{Partial, builtSizes, builtPairs, forgetting, forgettings, builtTask, Ordered}
 use Rattle.theory.specs.Truth.{on, off, test, clash}
-use Rattle.theory.specs.Search.{and-none-left, and-none-right, or-neither, or-right, true-together, some-at, some-not, any-not, all-each, all-at, two-get, two-at, earlier-left, earlier-right}
+use Rattle.theory.specs.Search.{any-cong, some-cong, two-cong, and-none-left, and-none-right, or-neither, or-right, true-together, some-at, some-not, any-not, all-each, all-at, two-get, two-at, earlier-left, earlier-right}
 use Rattle.theory.specs.Flat.{flat-in, in-flat}
 use Rattle.theory.specs.Operators.{names-in, in-fine, entries-rise}
 use Rattle.theory.specs.PartialPairs.{built-length, built-size, built-run, paired-known, paired-unknown}
@@ -68,16 +68,55 @@ module _ (sizes : List ℕ) (pairs : Set) where
     unfolding idle
     idle-built = rw never-stuck (or-false (clashing b ps o))
 
-  -- An operator of the file is idle exactly when two of its before atoms were listed as a pair.
-  pub clashing-built : (o : Operator) → Entries sizes 0 o → clashing b ps o ≡ clashing sizes pairs o
-  unfolding clashing
-  clashing-built o h = true-together _ _
-      (λ e. let (x, y, t, q) = two-get _ o e in two-at _ o x y t (sym (same x y (earlier-left t) (earlier-right t) (entries-rise sizes 0 o x y h t)) ∙ q))
-      (λ e. let (x, y, t, q) = two-get _ o e in two-at _ o x y t (same x y (earlier-left t) (earlier-right t) (entries-rise sizes 0 o x y h t) ∙ q))
-    where
-      same : (x y : Entry) → In x o → In y o → x .variable < y .variable
-          → paired b ps (x .variable) (x .before) (y .variable) (y .before) ≡ paired sizes pairs (x .variable) (x .before) (y .variable) (y .before)
-      same x y m k l = let f = in-fine sizes 0 o x m h in let g = in-fine sizes 0 o y k h in paired-known sizes pairs _ _ _ _ (ne-of-lt l) (f .1) (g .1) (f .2) (g .2)
+  -- An operator of the file, whose values are old ones.
+  module _ (o : Operator) (h : Entries sizes 0 o) where
+    -- Atoms of two of its entries are listed as a pair where they were.
+    entries-paired : (side : Entry → ℕ) → ((e : Entry) → In e o → side e < size sizes (e .variable))
+        → twoOf (λ x y. paired b ps (x .variable) (side x) (y .variable) (side y)) o ≡ twoOf (λ x y. paired sizes pairs (x .variable) (side x) (y .variable) (side y)) o
+    entries-paired side r = two-cong _ _ o (λ x y t.
+        paired-known sizes pairs _ _ _ _ (ne-of-lt (entries-rise sizes 0 o x y h t)) (in-fine sizes 0 o x (earlier-left t) h .1) (in-fine sizes 0 o y (earlier-right t) h .1)
+        (r x (earlier-left t)) (r y (earlier-right t)))
+
+    -- It is idle exactly when two of its before atoms were listed as a pair.
+    pub clashing-built : clashing b ps o ≡ clashing sizes pairs o
+    unfolding clashing
+    clashing-built = entries-paired (λ e. e .before) (λ e m. in-fine sizes 0 o e m h .2)
+
+    clashing-after-built : clashingAfter b ps o ≡ clashingAfter sizes pairs o
+    unfolding clashingAfter
+    clashing-after-built = entries-paired (λ e. e .after) (λ e m. in-fine sizes 0 o e m h .3)
+
+    -- An old value of a variable that it does not name is possible where it was.
+    possible-built : (u y : ℕ) → u < length sizes → y < size sizes u → names o u ≡ false → possible b ps o u y ≡ possible sizes pairs o u y
+    unfolding possible
+    possible-built u y l k q = ap not (any-cong _ _ o (λ e m. let f = in-fine sizes 0 o e m h in
+        paired-known sizes pairs (e .variable) (e .before) u y (λ z. clash (names-in o e m) (ap (names o) z ∙ q)) (f .1) l (f .2) k))
+
+    uncovered-built : uncovered b ps o ≡ uncovered sizes pairs o
+    unfolding uncovered some
+    uncovered-built = any-cong _ _ o (λ e m. rw (built-length sizes) (some-cong (length sizes) _ _ (λ u l. elim (test (names o u)) [
+      | on q ↦ rw q refl
+      | off q ↦ rw (q, built-size sizes u l, unknown e m u l q) (or-false _ ∙ some-cong (size sizes u) _ _ (λ y k. let f = in-fine sizes 0 o e m h in
+          ap₂ _&&_ (paired-known sizes pairs (e .variable) (e .after) u y (apart e m u q) (f .1) l (f .3) k) (possible-built u y l k q)))
+    ])))
+      where
+        apart : (e : Entry) → In e o → (u : ℕ) → names o u ≡ false → e .variable ≢ u
+        apart e m u q z = clash (names-in o e m) (ap (names o) z ∙ q)
+
+        unknown : (e : Entry) → In e o → (u : ℕ) → u < length sizes → names o u ≡ false → paired b ps (e .variable) (e .after) u (size sizes u) ≡ false
+        unknown e m u l q = let f = in-fine sizes 0 o e m h in
+            paired-unknown sizes pairs (e .variable) (e .after) u (size sizes u) (apart e m u q) (f .1) l (omega (arith, f .3)) (omega arith) (λ _ k. omega arith)
+
+    -- The pairs are closed under it where they were, unless it was idle for want of a possible value.
+    pub closed-built : stuck sizes pairs o ≡ false → closed b ps o ≡ closed sizes pairs o
+    unfolding closed idle
+    closed-built free = rw (never-stuck o (entries-built sizes 0 o h), free, clashing-built, clashing-after-built, uncovered-built) refl
+
+  -- A state of the file holds a listed pair where it did.
+  pub holds-built : (s : List ℕ) → State sizes s → holds b ps s ≡ holds sizes pairs s
+  unfolding holds
+  holds-built s t = rw (built-length sizes) (some-cong (length sizes) _ _ (λ j l. some-cong j _ _ (λ i k.
+      paired-known sizes pairs i (value s i) j (value s j) (ne-of-lt k) (omega arith) l (t .values i (omega arith)) (t .values j l))))
 
   -- ---- forgetting operators
 

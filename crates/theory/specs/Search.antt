@@ -156,6 +156,11 @@ whichOf {A} p (x ∷ xs) = step (test (p x)) (whichOf p xs)
 pub any-get : {A : Type 0} (p : A → Bool) (l : List A) → anyOf p l ≡ true → (a : A) × In a l × (p a ≡ true)
 any-get p l e = elim (whichOf p l) [ member a m q ↦ (a, m, q) | nobody h ↦ absurd (clash e (any-not p l h)) ]
 
+pub any-cong : {A : Type 0} (p q : A → Bool) (l : List A) → ((a : A) → In a l → p a ≡ q a) → anyOf p l ≡ anyOf q l
+unfolding anyOf
+any-cong p q [] h = refl
+any-cong p q (x ∷ xs) h = ap₂ _||_ (h x (here refl)) (any-cong p q xs (λ a m. h a (there m)))
+
 pub any-join : {A : Type 0} (p : A → Bool) (l m : List A) → anyOf p (l ++ m) ≡ (anyOf p l || anyOf p m)
 unfolding anyOf
 any-join p [] m = refl
@@ -235,6 +240,11 @@ two-get {A} r (x ∷ xs) e = step (or-either (anyOf (r x) xs) (twoOf r xs) e) (t
         → (a : A) × (b : A) × Earlier a b (x ∷ xs) × (r a b ≡ true)
     step (inl h) rest = let (b, m, q) = any-get (r x) xs h in (x, b, first refl m, q)
     step (inr h) rest = let (a, b, t, q) = rest h in (a, b, further t, q)
+
+pub two-cong : {A : Type 0} (r s : A → A → Bool) (l : List A) → ((a b : A) → Earlier a b l → r a b ≡ s a b) → twoOf r l ≡ twoOf s l
+unfolding twoOf
+two-cong r s [] h = refl
+two-cong r s (x ∷ xs) h = ap₂ _||_ (any-cong (r x) (s x) xs (λ b m. h x b (first refl m))) (two-cong r s xs (λ a b t. h a b (further t)))
 
 -- ---- the members of a list of numbers
 

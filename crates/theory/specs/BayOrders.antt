@@ -1,0 +1,165 @@
+-- Orders that name some slots of a bay: moves keep the labels, so such an order is met exactly when one of its completions is reached; and its partial file is always accepted.
+use Prim.Native.Nat.{ℕ, suc, _+_, _*_, _<_, _≤_}
+use mathlib.Core.Path.{_≡_, refl, sym, _∙_}
+use mathlib.Core.Logic.{_≢_, _↔_, Iff·trans}
+use mathlib.Core.Bool.{Bool, true, false, _&&_, cond}
+use mathlib.Core.List.{List, [], _∷_}
+use native.Mathlib.Omega.{arith}
+use lib.Dec.{leb, ltb}
+use lib.ListN.{length, length-append, length-replicate}
+use Rattle.meaning.specs.Sets.{every}
+use Rattle.meaning.specs.Limits.{mostSlots, mostFeatures, numberEnd}
+use Rattle.meaning.specs.Task.{Operator, State, value}
+use Rattle.meaning.specs.Feature.{sumOf, pairsOf, atoms, features}
+use Rattle.meaning.specs.Weight.{Unsolvable}
+use Rattle.meaning.specs.Number.{got}
+use Rattle.meaning.specs.File.{judgedTask, taskBytes}
+use Rattle.meaning.specs.Answer.{done, accepted, Checks}
+use Rattle.meaning.specs.Bay.{Bay, SameLabels, slotCount, neighbours, baySizes, occurrences, bayOperators, bayTask, taskFor, judgedBay}
+use Rattle.meaning.specs.Partial.{Partial, named, Reaches, Met, Completes, Ordered, builtSizes, forgettings, builtTask, leftOutLean, partialOf, partialBytes, judgedPartial, silenced}
+use Rattle.theory.specs.Truth.{clash}
+use Rattle.theory.specs.Flat.{flat-few}
+use Rattle.theory.specs.Tells.{tells-every, tells-and, tells-le, tells-lt}
+use Rattle.theory.specs.Reading.{got-value}
+use Rattle.theory.specs.ReadBack.{read-back, whole}
+use Rattle.theory.specs.BayMoves.{Moves, plan-moves, moves-plan, moves-labels, neighbours-apart, same-labels-state, bay-length, bay-size, bay-value, one-only}
+use Rattle.theory.specs.BayTask.{AcceptedBay, accepted-bay, bay-accepted, bay-writable, mostOperators, operators-most, slide-rules}
+use Rattle.theory.specs.Demands.{accepted-unsolvable}
+use Rattle.theory.specs.PartialPlans.{Permitted, lean-permitted}
+use Rattle.theory.specs.PartialParts.{partial-accepted, partial-back}
+use Rattle.theory.specs.PartialDemands.{built-accepted, built-met}
+use Rattle.theory.specs.Silence.{silenced-ordered}
+
+-- ---- limits
+
+-- A forgetting operator for each slot and label at most.
+forgettings-most : (n : ℕ) (out : ℕ → ℕ → Bool) → length (forgettings (baySizes n) out) ≤ n * (n * 1)
+unfolding forgettings
+forgettings-most n out = rw (length-replicate n n) (flat-few n (n * 1) _ (λ i l. rw (bay-size n i l) (flat-few n 1 _ (λ x h. one (out i x) _))))
+  where
+    one : (t : Bool) (o : Operator) → length (cond t [] (o ∷ [])) ≤ 1
+    one true o = omega arith
+    one false o = omega arith
+
+-- Every bay with slots within the limit has a built task within its limits: by computing.
+order-room : (n : ℕ) → n ≤ mostSlots → (features (builtSizes (baySizes n)) ≤ mostFeatures) × (mostOperators n + n * (n * 1) < numberEnd)
+unfolding every features atoms sumOf pairsOf
+order-room n h = tells-every (suc mostSlots) (λ k. leb (features (builtSizes (baySizes k))) mostFeatures && ltb (mostOperators k + k * (k * 1)) numberEnd) _
+    (λ k l. tells-and (tells-le (features (builtSizes (baySizes k))) mostFeatures) (tells-lt (mostOperators k + k * (k * 1)) numberEnd)) .yes refl n (omega arith)
+
+-- ---- orders
+
+-- The bay with another wanted arrangement.
+abbrev pub withGoal : Bay → List ℕ → Bay
+withGoal b goal = record { rows = b .rows; columns = b .columns; start = b .start; goal = goal }
+
+-- A bay of an accepted file, and any marks of its slots.
+module _ (bytes : List ℕ) (b : Bay) (next : ℕ) (accepted-file : judgedBay bytes ≡ got b next) (marks : List ℕ) where
+  abbrev n : ℕ
+  n = slotCount b
+
+  abbrev bay : AcceptedBay b
+  bay = accepted-bay bytes b next accepted-file
+
+  -- The order that names of the wanted bay the slots that are marked.
+  abbrev pub order : Partial
+  order = silenced (bayTask b) marks
+
+  -- ---- completions
+
+  -- What the bay's moves reach holds the start's labels, each as often.
+  pub reached-labels : (state : List ℕ) → Reaches (order .operators) (order .start) state → SameLabels (b .start) state
+  unfolding silenced taskFor
+  reached-labels state (plan, from, leads) =
+      let (ms, moves) = plan-moves n (neighbours (b .columns)) plan (b .start) state from leads in
+      moves-labels n (neighbours (b .columns)) ms (b .start) state (bay-length n (b .start) (bay .readable .start-state)) moves
+
+  -- "moves keep the labels, so a bay's partial order is met exactly when one of its completions is reached"
+  pub order-met : Met order ↔ ((c : List ℕ) × Completes order c × Reaches (order .operators) (order .start) c)
+  unfolding silenced taskFor
+  order-met = (
+    λ h. let (c, reached, meets) = h in (c, record { labels = reached-labels c reached; meets = meets }, reached),
+    λ h. let (c, completes, reached) = h in (c, reached, completes .meets),
+  )
+
+  -- The same in moves of the bay.
+  pub order-moves : Met order ↔ ((c : List ℕ) × Completes order c × (ms : List (List ℕ)) × Moves n (neighbours (b .columns)) ms (b .start) c)
+  unfolding silenced taskFor
+  order-moves = Iff·trans order-met (
+    λ h. let (c, completes, (plan, from, leads)) = h in let (ms, moves) = plan-moves n (neighbours (b .columns)) plan (b .start) c from leads in (c, completes, ms, moves),
+    λ h. let (c, completes, ms, moves) = h in (c, completes, moves-plan n (neighbours (b .columns)) ms (b .start) c (bay .readable .start-state) moves),
+  )
+
+  -- In a completion the silent slots hold the labels that are left: none that a named slot holds.
+  module _ (c : List ℕ) (completes : Completes order c) where
+    completed : SameLabels (b .start) c
+    unfolding silenced taskFor
+    completed = completes .labels
+
+    pub completion-state : State (baySizes n) c
+    completion-state = same-labels-state n (b .start) c (bay .readable .start-state) completed
+
+    pub completion-once : (label : ℕ) → label < n → occurrences label c ≡ 1
+    completion-once label l = completed .as-often label ∙ bay .start-once label l
+
+    pub left-labels : (i j : ℕ) → i < n → j < n → named order i ≡ false → named order j ≡ true → value c i ≢ value (order .goal) j
+    unfolding silenced taskFor
+    left-labels i j l k silent is-named same =
+        let long = bay-length n c completion-state in
+        let there : value c j ≡ value (order .goal) j = completes .meets j (rw (length-replicate n n) k) is-named in
+        let at : i ≡ j = one-only (value c i) c i j (omega (arith, completion-once (value c i) (bay-value n c completion-state i l))) (omega arith) (omega arith) refl (there ∙ sym same) in
+        clash is-named (rw (← at) silent)
+
+    -- So a completion is a full order of the same bay, and its task can be asked.
+    pub completion-asked : judgedTask (taskBytes (bayTask (withGoal b c))) ≡ got (bayTask (withGoal b c)) (length (taskBytes (bayTask (withGoal b c))))
+    completion-asked = read-back (bayTask (withGoal b c)) (bay-writable n (neighbours (b .columns)) (b .start) c (bay .readable .slots-limit .0) (bay .readable .slots-limit .1)
+        (neighbours-apart (b .columns)) (bay .readable .start-state) completion-state (λ label l. omega (arith, bay .start-once label l)))
+
+  -- If no completion can be reached, no sequence of moves meets the order.
+  pub none-completed : ((c : List ℕ) → Completes order c → Unsolvable (bayTask (withGoal b c))) → Met order → ⊥
+  unfolding silenced taskFor
+  none-completed none met = let (c, completes, (plan, from, leads)) = order-met .0 met in none c completes plan from leads
+
+  -- So if weights are accepted for every completion, each asked as a full order, no sequence of moves meets the order.
+  pub each-impossible : ((c : List ℕ) → Completes order c → (weights : List ℕ) × Checks (taskBytes (bayTask (withGoal b c))) weights (done accepted)) → Met order → ⊥
+  each-impossible each = none-completed (λ c completes.
+      let (weights, checks) = each c completes in
+      let (T, end, read, hopeless) = accepted-unsolvable (taskBytes (bayTask (withGoal b c))) weights checks in
+      rw (got-value (sym read ∙ completion-asked c completes)) at hopeless)
+
+  -- ---- the built task
+
+  order-ordered : Ordered order
+  unfolding taskFor
+  order-ordered = silenced-ordered (bayTask b) marks (bay-accepted bytes b next accepted-file .acceptable)
+      (λ i l. rw (bay-size n i (rw (length-replicate n n) at l)) (omega (arith, bay .readable .slots-limit))) (order-room n (bay .readable .slots-limit .1) .0)
+
+  -- The partial file of an order is accepted, whatever is left out: a bay has no operator that is idle for want of a possible label.
+  pub order-accepted : (out : Partial → ℕ → ℕ → Bool) → judgedPartial out (partialBytes order) ≡ got (builtTask order (out order)) (length (partialBytes order))
+  unfolding silenced taskFor builtTask
+  order-accepted out = partial-accepted order order-ordered out
+      (omega (arith, length-append (bayOperators n (neighbours (b .columns))) (forgettings (baySizes n) (out order)), operators-most n (neighbours (b .columns)), forgettings-most n (out order),
+      order-room n (bay .readable .slots-limit .1)))
+      (bay-accepted bytes b next accepted-file .acceptable .free)
+      (λ o m. let rules = slide-rules n (neighbours (b .columns)) (neighbours-apart (b .columns)) o m in (rules .1, rules .2))
+
+  -- With whatever permitted operators left out, the built goal is reached exactly when a completion is: nothing is lost.
+  pub order-reached : (out : Partial → ℕ → ℕ → Bool) → Permitted order (out order)
+      → Reaches (builtTask order (out order) .operators) (builtTask order (out order) .start) (builtTask order (out order) .goal)
+      ↔ ((c : List ℕ) × Completes order c × Reaches (order .operators) (order .start) c)
+  unfolding silenced taskFor
+  order-reached out permitted = Iff·trans (built-met (partialBytes order) out (builtTask order (out order)) (length (partialBytes order)) (order-accepted out) order (length (partialBytes order))
+      (whole partialOf order (partialBytes order) (partial-back order order-ordered (bay-accepted bytes b next accepted-file .countable))) permitted) order-met
+
+  -- The lean task, which the tool asks, and the task by the letter are two of these.
+  pub lean-reached : Reaches (builtTask order (leftOutLean order) .operators) (builtTask order (leftOutLean order) .start) (builtTask order (leftOutLean order) .goal)
+      ↔ ((c : List ℕ) × Completes order c × Reaches (order .operators) (order .start) c)
+  lean-reached = order-reached leftOutLean (lean-permitted order)
+
+  -- Once weights are accepted for the lean task's file, no sequence of moves meets the order: every way to fill the silent slots is impossible.
+  pub lean-impossible : (weights : List ℕ) → Checks (taskBytes (builtTask order (leftOutLean order))) weights (done accepted) → Met order → ⊥
+  lean-impossible weights checks met =
+      let (plan, from, leads) = lean-reached .1 (order-met .0 met) in
+      let T = builtTask order (leftOutLean order) in
+      let (U, end, read, hopeless) = accepted-unsolvable (taskBytes T) weights checks in
+      rw (got-value (sym read ∙ built-accepted (partialBytes order) leftOutLean T (length (partialBytes order)) (order-accepted leftOutLean))) at hopeless plan from leads

@@ -2,10 +2,11 @@
 use Prim.Native.Nat.{ℕ}
 use mathlib.Core.Bool.{Bool}
 use mathlib.Core.List.{List}
+use Rattle.meaning.specs.File.{judgedTask}
 use Rattle.meaning.specs.Answer.{Checks, Opens, Finds, Edit, Edits}
 use Rattle.meaning.specs.Bay.{Builds}
 use Rattle.meaning.specs.Partial.{Partial, judgedPartial, leftOut, OpensPartial, ChecksPartial, BuildsBy, Silences}
-use Rattle.theory.specs.Determined.{AtMostOne, is-only, checks-only, opens-only, finds-only, edits-only, builds-only}
+use Rattle.theory.specs.Determined.{AtMostOne, is-only, checks-only, opens-only, finds-only, edits-only, builds-only, builds-by-only, silences-only}
 use Rattle.line.specs.Answer.{Lines, lines-only}
 use Rattle.words.specs.Members.{membersIn}
 use Rattle.writer.specs.Weights.{weightsWritten, Writes}
@@ -59,10 +60,10 @@ check-line-read task weights room = outcome-allowed length-table (VerdictLines t
 -- ---- each call leaves one number and one memory
 
 pub check-only : (task weights : List ℕ) → AtMostOne (Coded verdictCode (Checks task weights))
-check-only task weights = coded-only verdictCode (Checks task weights) (checks-only task weights)
+check-only task weights = coded-only verdictCode (Checks task weights) (checks-only (judgedTask task) weights)
 
 pub open-only : (task room : List ℕ) → AtMostOne (Leaves lengthCode (Opens task room))
-open-only task room = leaves-only lengthCode (Opens task room) (opens-only task room)
+open-only task room = leaves-only lengthCode (Opens task room) (opens-only (judgedTask task) room)
 
 pub find-only : (workspace room : List ℕ) → AtMostOne (Leaves findingCode (Finds workspace room))
 find-only workspace room = leaves-only findingCode (Finds workspace room) (finds-only workspace room)
@@ -74,13 +75,13 @@ pub build-only : (bay room : List ℕ) → AtMostOne (Leaves lengthCode (Builds 
 build-only bay room = leaves-only lengthCode (Builds bay room) (builds-only bay room)
 
 pub check-partial-only : (file weights : List ℕ) → AtMostOne (Coded verdictCode (ChecksPartial file weights))
-check-partial-only file weights = coded-only verdictCode (ChecksPartial file weights) (checks-as-only (judgedPartial leftOut file) weights)
+check-partial-only file weights = coded-only verdictCode (ChecksPartial file weights) (checks-only (judgedPartial leftOut file) weights)
 
 pub open-partial-only : (file room : List ℕ) → AtMostOne (Leaves lengthCode (OpensPartial file room))
-open-partial-only file room = leaves-only lengthCode (OpensPartial file room) (opens-as-only (judgedPartial leftOut file) room)
+open-partial-only file room = leaves-only lengthCode (OpensPartial file room) (opens-only (judgedPartial leftOut file) room)
 
 pub build-partial-only : (out : Partial → ℕ → ℕ → Bool) (file room : List ℕ) → AtMostOne (Leaves lengthCode (BuildsBy out file room))
-build-partial-only out file room = leaves-only lengthCode (BuildsBy out file room) (builds-partial-only out file room)
+build-partial-only out file room = leaves-only lengthCode (BuildsBy out file room) (builds-by-only out file room)
 
 pub silence-only : (task marks room : List ℕ) → AtMostOne (Leaves lengthCode (Silences task marks room))
 silence-only task marks room = leaves-only lengthCode (Silences task marks room) (silences-only task marks room)

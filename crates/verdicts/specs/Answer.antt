@@ -5,6 +5,7 @@ use lib.Dec.{ltb}
 use lib.ListN.{length}
 use Rattle.meaning.specs.Limits.{mostTask}
 use Rattle.meaning.specs.Number.{Small, refusal}
+use Rattle.meaning.specs.File.{judgedTask}
 use Rattle.meaning.specs.Answer.{refused, Outcome, Checks}
 use Rattle.meaning.specs.Line.{ChecksFiles, verdictLine}
 use Rattle.theory.specs.Determined.{AtMostOne, is-only, if-only, checks-only}
@@ -15,7 +16,7 @@ abbrev pub VerdictLines : List ℕ → List ℕ → List ℕ → Outcome ℕ →
 VerdictLines task weights = LineOf (Checks task weights) verdictLine
 
 pub verdict-lines-only : (task weights room : List ℕ) → AtMostOne (VerdictLines task weights room)
-verdict-lines-only task weights room = line-of-only (Checks task weights) verdictLine room (checks-only task weights)
+verdict-lines-only task weights room = line-of-only (Checks task weights) verdictLine room (checks-only (judgedTask task) weights)
 
 -- The same for the program's answer.
 abbrev pub FileLines : List ℕ → List ℕ → List ℕ → Outcome ℕ → Type 0
@@ -24,4 +25,4 @@ FileLines task weights = LineOf (ChecksFiles task weights) verdictLine
 pub file-lines-only : (task weights room : List ℕ) → AtMostOne (FileLines task weights room)
 file-lines-only task weights room =
     line-of-only (ChecksFiles task weights) verdictLine room
-    (if-only (ltb mostTask (length task)) _ _ (is-only (refused (refusal Small))) (checks-only task weights))
+    (if-only (ltb mostTask (length task)) _ _ (is-only (refused (refusal Small))) (checks-only (judgedTask task) weights))

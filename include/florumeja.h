@@ -22,12 +22,12 @@
  * Each call answers one number, case * 2^32 + value; take it apart by florumeja_case and florumeja_value:
  *
  *   case                      value                             given by
- *   0 FLORUMEJA_DONE          0                                 check: accepted; find: separated; an edit: done
- *                             words due                         open
- *                             bytes written                     build, line, weight_file, check_line
- *   1 FLORUMEJA_ENDS_ALIKE    0                                 check: rejected, the parities of start and goal are equal
+ *   0 FLORUMEJA_DONE          0                                 check, check_partial: accepted; find: separated; an edit: done
+ *                             words due                         open, open_partial
+ *                             bytes written                     build, line, weight_file, check_line, build_partial, build_partial_lean, silence
+ *   1 FLORUMEJA_ENDS_ALIKE    0                                 check, check_partial: rejected, the parities of start and goal are equal
  *   1 FLORUMEJA_NONE          0                                 find: no weights separate; this is no refusal
- *   2 FLORUMEJA_OPERATOR      the operator's number, from 0     check: rejected, this operator is the first that breaks parity
+ *   2 FLORUMEJA_OPERATOR      the operator's number, from 0     check, check_partial: rejected, this operator is the first that breaks parity
  *   3 FLORUMEJA_REFUSED       a refusal's number, see below     every call
  *
  * A refused call leaves all lent memory as it came. Otherwise what is due goes to the front of the lent memory and the rest stays.
@@ -56,8 +56,8 @@ enum {
 /* The numbers of refusals. */
 enum {
     FLORUMEJA_BAD_NUMBER = 1,  /* input ends inside what is due, or a number is badly formed */
-    FLORUMEJA_LIMIT = 2,       /* v, a size, N, or a bay dimension breaks its limit */
-    FLORUMEJA_RANGE = 3,       /* a value, variable, entry count, feature or label is outside its range, or new values haven't length v */
+    FLORUMEJA_LIMIT = 2,       /* v, a size, N, or a bay dimension breaks its limit, or a built task has more operators than a number can count */
+    FLORUMEJA_RANGE = 3,       /* a value, variable, entry count, feature, label or mark is outside its range, or new values or marks haven't length v */
     FLORUMEJA_UNORDERED = 4,   /* entries, pairs or weights don't increase */
     FLORUMEJA_LEFT_OVER = 5,   /* bytes are left over */
     FLORUMEJA_HELD = 6,        /* the start holds a listed pair */
@@ -81,6 +81,12 @@ static inline uint32_t florumeja_value(uint64_t answer) { return (uint32_t)(answ
 #define FLORUMEJA_LINE_BYTES 2464
 #define FLORUMEJA_VERDICT_BYTES 24
 #define FLORUMEJA_WEIGHT_BYTES 8066
+
+/* So many bytes more than the file that they are made from are never too few for a built task and for a partial file. A built task has at most 124
+ * operators of four bytes that its partial file has not; at most 127 of its pairs and the count of its operators take a second byte; and a goal
+ * value takes the place of each silent variable's mark. A partial file has a mark more for each variable. */
+#define FLORUMEJA_BUILT_MORE 624
+#define FLORUMEJA_SILENCED_MORE 64
 
 /* Checks weights against a task: a task file and a weight file. */
 uint64_t florumeja_check(const uint8_t *task, size_t task_length, const uint8_t *weights, size_t weights_length);
@@ -117,6 +123,31 @@ uint64_t florumeja_weight_file(const uint64_t *words, size_t words_length, uint8
 /* The line that tells what florumeja_check answers, its line end included: "accepted", "rejected ends alike", "rejected operator J" or "refused N".
  * Refusals are lines too: case 3 is given only where the room is too small for the line. */
 uint64_t florumeja_check_line(const uint8_t *task, size_t task_length, const uint8_t *weights, size_t weights_length, uint8_t *room, size_t room_length);
+
+/* Partial files: orders that name some variables. A partial file is a task file with a mark for each variable after the sizes, 0 for silent and 1 for
+ * named, and goal values for the named ones only; its sizes are 1 to 63, and values and pairs count by them. It stands for a built task: each variable
+ * has one value more, "unknown", which is the goal's where the order is silent, and operators that forget, from a value to "unknown", follow the
+ * file's own. The built goal is reached exactly when the file's operators reach a state that has what the order names. Limits, 6 and 7 are judged
+ * on the built task; a 7 may come of an operator that was idle for want of a possible value, since "unknown" is always possible.
+ *
+ * By the letter a silent variable's value is never forgotten that is listed as exclusive with a named goal value, and nothing else is left out. Then
+ * start and goal mostly both lead to "all unknown", and no weights separate them. The lean built task also leaves out what forgets a named variable.
+ * Neither loses a plan. */
+
+/* Opens a workspace from a partial file: that of its built task, by the letter. */
+uint64_t florumeja_open_partial(const uint8_t *partial, size_t partial_length, uint64_t *room, size_t room_length);
+
+/* Checks weights against a partial file's built task, by the letter; features and operators count there. Accepted means that no sequence of the
+ * file's operators meets the order. */
+uint64_t florumeja_check_partial(const uint8_t *partial, size_t partial_length, const uint8_t *weights, size_t weights_length);
+
+/* Writes a partial file's built task as a task file, by the letter; and the lean one. */
+uint64_t florumeja_build_partial(const uint8_t *partial, size_t partial_length, uint8_t *room, size_t room_length);
+uint64_t florumeja_build_partial_lean(const uint8_t *partial, size_t partial_length, uint8_t *room, size_t room_length);
+
+/* Writes the partial file of a task file and a mark for each variable, one byte each: the task with only the goal values whose mark is 1. The task is
+ * judged wholly, then the marks (3: not as many as variables, or above 1), then the partial file's limits (2), then the room. */
+uint64_t florumeja_silence(const uint8_t *task, size_t task_length, const uint8_t *marks, size_t marks_length, uint8_t *room, size_t room_length);
 
 #ifdef __cplusplus
 }

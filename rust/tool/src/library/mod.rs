@@ -1,45 +1,11 @@
 //! The face of the proved static library: the only place where a verdict comes from.
 
-use crate::fault::Fault;
-use crate::features::Features;
+mod face;
+mod workspace;
 
-// Nothing checks these lines against the library's source, so they follow its table of calls.
-extern "C" {
-    fn florumeja_check(
-        task: *const u8,
-        task_length: usize,
-        weights: *const u8,
-        weights_length: usize,
-    ) -> u64;
-    fn florumeja_open(
-        task: *const u8,
-        task_length: usize,
-        room: *mut u64,
-        room_length: usize,
-    ) -> u64;
-    fn florumeja_find(
-        workspace: *const u64,
-        workspace_length: usize,
-        room: *mut u64,
-        room_length: usize,
-    ) -> u64;
-    fn florumeja_build(bay: *const u8, bay_length: usize, room: *mut u8, room_length: usize)
-        -> u64;
-    fn florumeja_weight_file(
-        words: *const u64,
-        words_length: usize,
-        room: *mut u8,
-        room_length: usize,
-    ) -> u64;
-    fn florumeja_check_line(
-        task: *const u8,
-        task_length: usize,
-        weights: *const u8,
-        weights_length: usize,
-        room: *mut u8,
-        room_length: usize,
-    ) -> u64;
-}
+use crate::fault::Fault;
+use face::*;
+pub use workspace::Workspace;
 
 // Room for the largest results that the rules' limits allow: 64 variables, 4,096 features, and in
 // a task file 16,383 operators of 64 entries. Room that is not used is never touched.
@@ -88,7 +54,19 @@ pub fn check(task: &[u8], weights: &[u8]) -> Result<Verdict, Fault> {
     // SAFETY: both slices live through the call, which only reads them.
     let word =
         unsafe { florumeja_check(task.as_ptr(), task.len(), weights.as_ptr(), weights.len()) };
-    match answer("check", word)? {
+    verdict("check", word)
+}
+
+/// The same of a partial file's built task, by the letter.
+pub fn check_partial(partial: &[u8], weights: &[u8]) -> Result<Verdict, Fault> {
+    let (from, length) = (partial.as_ptr(), partial.len());
+    // SAFETY: both slices live through the call, which only reads them.
+    let word = unsafe { florumeja_check_partial(from, length, weights.as_ptr(), weights.len()) };
+    verdict("check_partial", word)
+}
+
+fn verdict(call: &str, word: u64) -> Result<Verdict, Fault> {
+    match answer(call, word)? {
         Answer::Yes(_) => Ok(Verdict::Accepted),
         Answer::No => Ok(Verdict::EndsAlike),
         Answer::Operator(number) => Ok(Verdict::Operator(number)),
@@ -116,88 +94,27 @@ pub fn check_line(task: &[u8], weights: &[u8]) -> Result<String, Fault> {
     line.ok_or_else(|| Fault::Failure("the library's check_line wrote no line".into()))
 }
 
-/// A workspace that the library opened.
-pub struct Workspace {
-    words: Vec<u64>,
-    features: Features,
-}
-
-impl Workspace {
-    // The length has to fit the header, or the parts would be read from the wrong places.
-    fn new(words: Vec<u64>) -> Option<Workspace> {
-        let variables = *words.first()? as usize;
-        let sizes = words.get(1..)?.get(..variables)?;
-        let features = Features::new(sizes.iter().map(|&word| word as usize).collect());
-        let workspace = Workspace { words, features };
-        (workspace.words.len() == workspace.words_due()).then_some(workspace)
-    }
-
-    fn words_due(&self) -> usize {
-        self.pairs_from() + self.set_words() * (1 + self.features.count())
-    }
-
-    pub fn words(&self) -> &[u64] {
-        &self.words
-    }
-
-    pub fn into_features(self) -> Features {
-        self.features
-    }
-
-    pub fn features(&self) -> &Features {
-        &self.features
-    }
-
-    /// The start's values, as the library read them.
-    pub fn start(&self) -> Vec<usize> {
-        self.header_group(1)
-    }
-
-    /// The goal's values, as the library read them.
-    pub fn goal(&self) -> Vec<usize> {
-        self.header_group(2)
-    }
-
-    /// How many exclusive pairs the task lists.
-    pub fn pair_count(&self) -> usize {
-        let from = self.pairs_from();
-        let pairs = &self.words[from..from + self.set_words()];
-        pairs.iter().map(|word| word.count_ones() as usize).sum()
-    }
-
-    /// How many slots hold a forced set.
-    pub fn condition_count(&self) -> usize {
-        let from = self.pairs_from() + self.set_words();
-        let slots = self.words[from..].chunks(self.set_words());
-        slots
-            .filter(|slot| slot.iter().any(|&word| word != 0))
-            .count()
-    }
-
-    fn header_group(&self, group: usize) -> Vec<usize> {
-        let variables = self.features.sizes().len();
-        let from = 1 + group * variables;
-        let values = &self.words[from..from + variables];
-        values.iter().map(|&word| word as usize).collect()
-    }
-
-    fn pairs_from(&self) -> usize {
-        1 + 3 * self.features.sizes().len()
-    }
-
-    fn set_words(&self) -> usize {
-        self.features.count().div_ceil(64)
-    }
-}
-
 /// Opens a task file.
 pub fn open(task: &[u8]) -> Result<Workspace, Fault> {
-    let words = written("open", WORKSPACE_WORDS, |room| {
+    opened("open", |room| {
         // SAFETY: both slices live through the call, and only the room is written.
         unsafe { florumeja_open(task.as_ptr(), task.len(), room.as_mut_ptr(), room.len()) }
-    })?;
-    let misfit = || Fault::Failure("the library's open wrote a workspace of odd length".into());
-    Workspace::new(words).ok_or_else(misfit)
+    })
+}
+
+/// Opens a partial file's built task, by the letter.
+pub fn open_partial(partial: &[u8]) -> Result<Workspace, Fault> {
+    opened("open_partial", |room| {
+        let (from, length) = (partial.as_ptr(), partial.len());
+        // SAFETY: both slices live through the call, and only the room is written.
+        unsafe { florumeja_open_partial(from, length, room.as_mut_ptr(), room.len()) }
+    })
+}
+
+fn opened(name: &str, call: impl FnOnce(&mut [u64]) -> u64) -> Result<Workspace, Fault> {
+    let words = written(name, WORKSPACE_WORDS, call)?;
+    let misfit = || format!("the library's {name} wrote a workspace of odd length");
+    Workspace::new(words).ok_or_else(|| Fault::Failure(misfit()))
 }
 
 /// The least separating set of features.
@@ -231,6 +148,41 @@ pub fn build(bay: &[u8]) -> Result<Vec<u8>, Fault> {
     written("build", TASK_BYTES, |room| {
         // SAFETY: both slices live through the call, and only the room is written.
         unsafe { florumeja_build(bay.as_ptr(), bay.len(), room.as_mut_ptr(), room.len()) }
+    })
+}
+
+/// Builds the task file of a partial file, by the letter.
+pub fn build_partial(partial: &[u8]) -> Result<Vec<u8>, Fault> {
+    written("build_partial", TASK_BYTES, |room: &mut [u8]| {
+        let (from, length) = (partial.as_ptr(), partial.len());
+        // SAFETY: both slices live through the call, and only the room is written.
+        unsafe { florumeja_build_partial(from, length, room.as_mut_ptr(), room.len()) }
+    })
+}
+
+/// The same without the operators that forget a named variable.
+pub fn build_partial_lean(partial: &[u8]) -> Result<Vec<u8>, Fault> {
+    written("build_partial_lean", TASK_BYTES, |room: &mut [u8]| {
+        let (from, length) = (partial.as_ptr(), partial.len());
+        // SAFETY: both slices live through the call, and only the room is written.
+        unsafe { florumeja_build_partial_lean(from, length, room.as_mut_ptr(), room.len()) }
+    })
+}
+
+/// Makes a partial file: a task with the goal values that are marked 1, and no others.
+pub fn silence(task: &[u8], marks: &[u8]) -> Result<Vec<u8>, Fault> {
+    written("silence", TASK_BYTES, |room: &mut [u8]| {
+        // SAFETY: all slices live through the call, and only the room is written.
+        unsafe {
+            florumeja_silence(
+                task.as_ptr(),
+                task.len(),
+                marks.as_ptr(),
+                marks.len(),
+                room.as_mut_ptr(),
+                room.len(),
+            )
+        }
     })
 }
 

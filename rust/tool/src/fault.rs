@@ -15,6 +15,8 @@ pub enum Fault {
     Text(TextFault),
     /// The library refused, by this number.
     Refused(u32),
+    /// The same, of a partial file.
+    Partial(u32),
     /// The same, of a file that looks like text.
     TextInstead(u32),
     /// Files, the command line, or answers that do not fit together.
@@ -48,11 +50,20 @@ impl Fault {
         }
     }
 
+    /// Says that it was a partial file that was refused.
+    pub fn of_partial(self) -> Fault {
+        match self {
+            Fault::Refused(number) => Fault::Partial(number),
+            other => other,
+        }
+    }
+
     /// One line that says what is wrong.
     pub fn words(&self) -> String {
         match self {
             Fault::Text(fault) => fault.words(),
             Fault::Refused(number) => refusal_words(*number),
+            Fault::Partial(number) => refusal_words(*number) + partial_words(*number),
             Fault::TextInstead(number) => format!("{} ({TEXT})", refusal_words(*number)),
             Fault::Failure(words) => words.clone(),
         }
@@ -86,7 +97,7 @@ impl Fault {
         ];
         match self {
             Fault::Text(fault) => fields.extend(fault.fields()),
-            Fault::Refused(number) | Fault::TextInstead(number) => {
+            Fault::Refused(number) | Fault::Partial(number) | Fault::TextInstead(number) => {
                 fields.push(("refusal", refusal_json(*number)))
             }
             Fault::Failure(_) => {}
@@ -137,7 +148,7 @@ pub fn refusal_words(number: u32) -> String {
     let meaning = match number {
         1 => "input ends inside what is due, or a number is badly formed",
         2 => "the count of variables, a size, the count of features, or a bay dimension breaks its limit",
-        3 => "a value, variable, entry count, feature or label is outside its range, or a list of new values has the wrong length",
+        3 => "a value, variable, entry count, feature, label or mark is outside its range, or a list of new values or marks has the wrong length",
         4 => "entries, pairs or weights do not increase",
         5 => "bytes are left over",
         6 => "the start holds a listed pair",
@@ -148,6 +159,15 @@ pub fn refusal_words(number: u32) -> String {
         _ => "a number that this tool has no words for",
     };
     format!("refused {number}: {meaning}")
+}
+
+// Limits and pairs are judged on the task that is built of a partial file.
+fn partial_words(number: u32) -> &'static str {
+    match number {
+        2 => " (in the built task each variable has one value more, \"unknown\")",
+        7 => " (an operator that was idle for want of a possible value is not idle in the built task, where \"unknown\" is always possible)",
+        _ => "",
+    }
 }
 
 fn refusal_json(number: u32) -> Json {

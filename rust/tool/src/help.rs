@@ -1,6 +1,7 @@
 //! The help texts, made from the table of commands.
 
 use crate::args::HELP;
+use crate::commands::partial::{self, PARTIAL};
 use crate::commands::{Command, COMMANDS};
 
 /// The help of the tool as a whole.
@@ -18,7 +19,8 @@ pub fn tool() -> String {
          florumeja --version shows the version. In the folder of the sources ./florumeja install\n\
          PREFIX installs the tool and the library.\n\
          \n\
-         Exit status: 0 IMPOSSIBLE (or separated, accepted, opened, built),\n\
+         Exit status: 0 IMPOSSIBLE (or separated, accepted, opened, built,\n\
+         silenced),
          1 no proof (or none, rejected), 2 refused or an error. In scripts take care that 0\n\
          means IMPOSSIBLE.\n",
         table(names.collect())
@@ -38,10 +40,18 @@ pub fn command(command: &Command) -> String {
         "Usage: florumeja {} {}\n\n{}\n\nOptions:\n{}\nExit status:\n{}",
         command.name,
         command.operands,
-        command.about.trim(),
+        about(command),
         table(options.collect()),
         table(statuses)
     )
+}
+
+fn about(command: &Command) -> String {
+    let mut options = command.options.iter();
+    match options.any(|choice| choice.long == PARTIAL.long) {
+        true => format!("{}\n\n{}", command.about, partial::ABOUT),
+        false => command.about.to_string(),
+    }
 }
 
 fn usage(command: &Command) -> String {

@@ -4,6 +4,7 @@ use crate::characters::is_plain;
 use std::fmt::{self, Display, Formatter, Write};
 
 pub enum Json {
+    Null,
     Text(String),
     Number(usize),
     List(Vec<Json>),
@@ -27,6 +28,7 @@ impl Json {
 impl Display for Json {
     fn fmt(&self, out: &mut Formatter) -> fmt::Result {
         match self {
+            Json::Null => out.write_str("null"),
             Json::Text(words) => write_text(out, words),
             Json::Number(number) => write!(out, "{number}"),
             Json::List(items) => write_list(out, items),
@@ -84,8 +86,9 @@ mod tests {
         let json = Json::Object(vec![
             ("words", Json::text("a \"b\"\\\n\u{1}é\u{202e}\u{e0001}")),
             ("numbers", Json::numbers(&[1, 2])),
+            ("nothing", Json::Null),
         ]);
-        let expected = r#"{"words": "a \"b\"\\\n\u0001é\u202e\udb40\udc01", "numbers": [1, 2]}"#;
+        let expected = r#"{"words": "a \"b\"\\\n\u0001é\u202e\udb40\udc01", "numbers": [1, 2], "nothing": null}"#;
         assert_eq!(json.to_string(), expected);
     }
 }

@@ -16,10 +16,14 @@ struct Target<'a> {
     spoilt: bool,
 }
 
-/// Writes the files, unless one of them is an input. A failure leaves none of them behind.
+/// Writes the files, unless one of them is an input or another of them. A failure leaves none of
+/// them behind.
 pub fn keep(kept: &[(&OsStr, &[u8])], inputs: &[OsString]) -> Result<(), Fault> {
-    for (name, _) in kept {
-        if inputs.iter().any(|input| files::same(input, name)) {
+    for (index, (name, _)) in kept.iter().enumerate() {
+        let mut earlier = kept[..index].iter();
+        if inputs.iter().any(|input| files::same(input, name))
+            || earlier.any(|(other, _)| files::same(other, name))
+        {
             let words = format!("{} would be written over", shown(name));
             return Err(Fault::Failure(words));
         }

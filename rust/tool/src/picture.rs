@@ -10,7 +10,7 @@ const WIDEST: usize = 78;
 
 /// Both bays, side by side where they fit.
 pub fn both(bay: &Bay) -> String {
-    let start = drawing(BEFORE, &bay.start, bay.columns);
+    let start = drawing(BEFORE, &bay.stands(), bay.columns);
     let goal = drawing(AFTER, &bay.goal, bay.columns);
     let width = widest(&start) + ARROW.len() + widest(&goal);
     if width > WIDEST {
@@ -37,7 +37,7 @@ fn widest(rows: &[String]) -> usize {
     rows.iter().map(String::len).max().unwrap_or(0)
 }
 
-fn drawing(title: &str, labels: &[usize], columns: usize) -> Vec<String> {
+fn drawing(title: &str, labels: &[Option<usize>], columns: usize) -> Vec<String> {
     let edge = format!("{}+", "+----".repeat(columns));
     let mut rows = vec![title.to_string(), edge.clone()];
     for row in labels.chunks(columns) {
@@ -48,9 +48,10 @@ fn drawing(title: &str, labels: &[usize], columns: usize) -> Vec<String> {
     rows
 }
 
-fn cell(label: usize) -> String {
-    if label == GAP {
-        return "|  . ".to_string();
+fn cell(label: Option<usize>) -> String {
+    match label {
+        Some(GAP) => "|  . ".to_string(),
+        Some(label) => format!("| {label:>2} "),
+        None => "|  ? ".to_string(),
     }
-    format!("| {label:>2} ")
 }

@@ -10,21 +10,56 @@ use crate::output::Status;
 use crate::words::parity;
 use std::ffi::OsStr;
 
+/// Silent slots that can be filled in more ways are not asked about way by way.
+pub const MOST_WAYS: usize = 24;
+
 /// A bay that was asked about, and what came of it.
 pub struct Answered {
     pub bay: Bay,
-    /// The task file that the library built.
+    /// The order as one task; where it has silent slots, with these unknown at the goal.
+    pub asked: Asked,
+    /// Each way to fill the silent slots, where these were asked one by one.
+    pub ways: Vec<Way>,
+}
+
+/// A task that the library built, and the proof, if there is one.
+pub struct Asked {
     pub task: Vec<u8>,
-    /// The proof, if there is one.
     pub proof: Option<Proof>,
 }
 
-impl Answered {
+impl Asked {
     pub fn status(&self) -> Status {
         match self.proof {
             Some(_) => Status::Yes,
             None => Status::No,
         }
+    }
+}
+
+/// One way to fill the silent slots: a full order of its own.
+pub struct Way {
+    pub bay: Bay,
+    pub asked: Asked,
+}
+
+impl Answered {
+    pub fn status(&self) -> Status {
+        match self.is_impossible_each_way() {
+            true => Status::Yes,
+            false => self.asked.status(),
+        }
+    }
+
+    /// Whether the ways were asked one by one, and each has a proof of its own. No move makes or
+    /// takes away a pallet, so a bay that has what the order names is one of these.
+    pub fn is_impossible_each_way(&self) -> bool {
+        !self.ways.is_empty() && self.impossible_ways() == self.ways.len()
+    }
+
+    pub fn impossible_ways(&self) -> usize {
+        let impossible = |way: &&Way| way.asked.status() == Status::Yes;
+        self.ways.iter().filter(impossible).count()
     }
 }
 
@@ -46,12 +81,38 @@ pub fn ask(name: &OsStr) -> Result<Answered, Fault> {
     let text = BayText::read(&files::read_text(name)?)?;
     let bay = text.bay();
     let task = library::build(&bay.file()).map_err(|fault| text.place(fault))?;
+    if bay.is_full() {
+        let (asked, ways) = (put(task)?, Vec::new());
+        return Ok(Answered { bay, asked, ways });
+    }
+    let asked = put(silenced(&bay, &task).map_err(Fault::of_partial)?)?;
+    let ways = match asked.proof {
+        None if bay.ways() <= MOST_WAYS => each_way(&bay)?,
+        _ => Vec::new(),
+    };
+    Ok(Answered { bay, asked, ways })
+}
+
+// The order with its silent slots as one task: any way to fill them reaches its goal.
+fn silenced(bay: &Bay, task: &[u8]) -> Result<Vec<u8>, Fault> {
+    library::build_partial_lean(&library::silence(task, &bay.marks())?)
+}
+
+fn each_way(bay: &Bay) -> Result<Vec<Way>, Fault> {
+    let put_way = |bay: Bay| {
+        let asked = put(library::build(&bay.file())?)?;
+        Ok(Way { bay, asked })
+    };
+    bay.completions().into_iter().map(put_way).collect()
+}
+
+fn put(task: Vec<u8>) -> Result<Asked, Fault> {
     let workspace = library::open(&task)?;
     let proof = match library::find(&workspace)? {
         Some(weights) => Some(checked(&task, workspace, weights)?),
         None => None,
     };
-    Ok(Answered { bay, task, proof })
+    Ok(Asked { task, proof })
 }
 
 // What the finder found counts only after the checker has accepted it.

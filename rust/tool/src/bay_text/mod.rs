@@ -33,6 +33,7 @@ impl BayText {
         let (rows, columns) = (first.len(), first[0].labels.len());
         same_columns(&lines, &first, &second)?;
         same_rows(&lines, rows, &second)?;
+        named_throughout(&lines, &first)?;
         layout::judge(&lines, &first)?;
         layout::judge(&lines, &second)?;
         let flat = |block: Vec<Row>| block.into_iter().flat_map(|row| row.labels).collect();
@@ -46,12 +47,12 @@ impl BayText {
     }
 
     pub fn bay(&self) -> Bay {
-        let values = |labels: &[Label]| labels.iter().map(|label| label.value).collect();
         Bay {
             rows: self.rows,
             columns: self.columns,
-            start: values(&self.start),
-            goal: values(&self.goal),
+            // No slot of the start is silent.
+            start: self.start.iter().filter_map(|label| label.value).collect(),
+            goal: self.goal.iter().map(|label| label.value).collect(),
         }
     }
 }
@@ -69,6 +70,18 @@ fn two_blocks(lines: &Lines) -> Result<(Vec<Row>, Vec<Row>), Fault> {
         return Err(label.place.fault(lines, expected, &quoted(&label.written)));
     }
     Ok((first, second))
+}
+
+// A bay as it stands has something in every slot, if only the gap.
+fn named_throughout(lines: &Lines, first: &[Row]) -> Result<(), Fault> {
+    let mut labels = first.iter().flat_map(|row| &row.labels);
+    match labels.find(|label| label.value.is_none()) {
+        Some(label) => {
+            let expected = "a label in every slot of the bay as it stands";
+            Err(label.place.fault(lines, expected, &quoted(&label.written)))
+        }
+        None => Ok(()),
+    }
 }
 
 fn same_columns(lines: &Lines, first: &[Row], second: &[Row]) -> Result<(), Fault> {

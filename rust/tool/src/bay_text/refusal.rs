@@ -41,7 +41,7 @@ impl BayText {
     fn range(&self) -> Option<Fault> {
         let slots = self.start.len();
         let mut labels = self.start.iter().chain(&self.goal);
-        let label = labels.find(|label| label.value >= slots)?;
+        let label = labels.find(|label| label.value.is_some_and(|value| value >= slots))?;
         let most = slots - 1;
         let expected = format!("a label from 0 to {most}, with blanks between labels");
         let found = quoted(&label.written);
@@ -50,27 +50,37 @@ impl BayText {
 
     fn repeat(&self, labels: &[Label]) -> Option<Fault> {
         let (first, again) = repeated(labels)?;
-        let expected = format!("each label once, and {} is missing", name(missing(labels)?));
         let found = format!(
             "{} again (it stands in line {}, column {})",
-            name(again.value),
+            name(again.value?),
             first.place.line,
             first.place.column
         );
-        Some(again.place.fault(&self.lines, &expected, &found))
+        Some(again.place.fault(&self.lines, &each_once(labels)?, &found))
     }
 }
 
 fn repeated(labels: &[Label]) -> Option<(&Label, &Label)> {
-    labels.iter().enumerate().find_map(|(index, label)| {
-        let mut earlier = labels[..index].iter();
+    let named = || labels.iter().filter(|label| label.value.is_some());
+    named().enumerate().find_map(|(index, label)| {
+        let mut earlier = named().take(index);
         let first = earlier.find(|other| other.value == label.value)?;
         Some((first, label))
     })
 }
 
+// A label that no slot names may stand in a silent slot.
+fn each_once(labels: &[Label]) -> Option<String> {
+    if labels.iter().any(|label| label.value.is_none()) {
+        return Some("each label at most once beside the silent slots".to_string());
+    }
+    let missing = name(missing(labels)?);
+    Some(format!("each label once, and {missing} is missing"))
+}
+
 fn missing(labels: &[Label]) -> Option<usize> {
-    (0..labels.len()).find(|&value| labels.iter().all(|label| label.value != value))
+    let names = |label: &Label, value| label.value == Some(value);
+    (0..labels.len()).find(|&value| !labels.iter().any(|label| names(label, value)))
 }
 
 fn name(value: usize) -> String {

@@ -6,7 +6,10 @@ use crate::bay::GAP;
 use crate::characters::is_blank;
 use crate::fault::Fault;
 
-const LABEL: &str = "a label (a number, or . for the gap)";
+const LABEL: &str =
+    "a label (a number, . for the gap, or ? for a slot that the order does not name)";
+/// What stands in a slot that the order does not name.
+const SILENT: &str = "?";
 const NO_ZERO: &str = "a label without a zero before it, and blanks between labels";
 const WORDS_BEHIND: &str =
     "a comment that begins with a word, as this # could be a part of the bay";
@@ -14,7 +17,8 @@ const WORDS_BETWEEN: &str = "words in a comment between two rows, as this could 
 const NO_ROW: &str = "a comment in words, as this could be a row";
 
 pub struct Label {
-    pub value: usize,
+    /// None where the order does not name the slot.
+    pub value: Option<usize>,
     pub written: String,
     pub place: Place,
 }
@@ -122,19 +126,20 @@ fn words(line: &str) -> Vec<(usize, String)> {
     words
 }
 
-/// Whether a word is a label, in whatever range.
+/// Whether a word is a label, in whatever range, or stands for any.
 pub fn is_label(word: &str) -> bool {
-    word == "." || word.bytes().all(|byte| byte.is_ascii_digit())
+    matches!(word, "." | SILENT) || word.bytes().all(|byte| byte.is_ascii_digit())
 }
 
 // A label's value, or what was expected in its place.
-fn value(word: &str) -> Result<usize, &'static str> {
+fn value(word: &str) -> Result<Option<usize>, &'static str> {
     match word {
-        "." => Ok(GAP),
+        "." => Ok(Some(GAP)),
+        SILENT => Ok(None),
         _ if !is_label(word) => Err(LABEL),
         // 01 could be 0 and 1 as well.
         _ if word.len() > 1 && word.starts_with('0') => Err(NO_ZERO),
         // A number too long to count is out of every range, and the builder says so.
-        _ => Ok(word.parse().unwrap_or(usize::MAX)),
+        _ => Ok(Some(word.parse().unwrap_or(usize::MAX))),
     }
 }

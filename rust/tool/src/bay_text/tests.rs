@@ -15,7 +15,7 @@ fn both_bays_are_read_row_by_row() {
     let bay = BayText::read(text.as_bytes()).unwrap().bay();
     assert_eq!((bay.rows, bay.columns), (2, 2));
     assert_eq!(bay.start, [1, 2, 0, 3]);
-    assert_eq!(bay.goal, [2, 1, 0, 3]);
+    assert_eq!(bay.wanted(), [2, 1, 0, 3]);
     assert_eq!(bay.file(), [2, 2, 1, 2, 0, 3, 2, 1, 0, 3]);
 }
 
@@ -43,7 +43,7 @@ fn only_space_and_tab_are_blanks() {
             );
         };
         let place =
-            "line 1, column 4: expected only digits, dots, spaces and tabs before a comment";
+            "line 1, column 4: expected only digits, dots, question marks, spaces and tabs before a comment";
         at(place, format!("1 2{other}3 .\n\n2 1 3 .\n"));
         let place = "line 1, column 12: expected only plain letters and signs in a comment";
         at(place, format!("1 2 # front{other}3 .\n"));

@@ -1,5 +1,6 @@
-//! `build`: makes a task file from a bay file.
+//! `build`: makes a task file from a bay file or a partial file.
 
+use super::partial::{Reading, LEAN, PARTIAL};
 use super::{deliver, refuse, Command, OUTPUT};
 use crate::args::{Arguments, JSON};
 use crate::fault::Fault;
@@ -12,12 +13,12 @@ pub const COMMAND: Command = Command {
     name: "build",
     operands: "BAY",
     count: (1, 1),
-    summary: "build a task file from a bay file",
+    summary: "build a task file from a bay file or a partial file",
     about: "\
 Reads a bay file (the binary one: rows, columns, start labels, goal labels) and
 builds its task. Without -o it only says how long the task file would be.
 For a bay as plain text use ask --task.",
-    options: &[&OUTPUT, &JSON],
+    options: &[&OUTPUT, &PARTIAL, &LEAN, &JSON],
     statuses: &["built"],
     run,
 };
@@ -31,8 +32,11 @@ fn run(arguments: &Arguments) -> Status {
 
 fn build(arguments: &Arguments) -> Result<(), Fault> {
     let name = &arguments.files[0];
-    let bay = files::read(name)?;
-    let task = library::build(&bay).map_err(|fault| fault.about(&bay))?;
+    let file = files::read(name)?;
+    let task = match Reading::of(arguments) {
+        Reading::Task => library::build(&file).map_err(|fault| fault.about(&file))?,
+        partial => partial.task(&file)?,
+    };
     let line = format!("built {} bytes", task.len());
     let json = Json::Object(vec![
         ("file", Json::text(&name.to_string_lossy())),

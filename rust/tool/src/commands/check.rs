@@ -1,11 +1,12 @@
 //! `check`: asks the proved checker about weights from anyone.
 
+use super::partial::{Reading, LEAN, PARTIAL};
 use super::{refuse, tell, Command};
 use crate::args::{Arguments, JSON};
 use crate::fault::Fault;
 use crate::files;
 use crate::json::Json;
-use crate::library::{self, Verdict};
+use crate::library::Verdict;
 use crate::output::Status;
 use std::ffi::{OsStr, OsString};
 
@@ -21,13 +22,14 @@ rejected ends alike (start and goal have the same parity); or rejected operator
 N (the least operator that can change the parity, counted from 0). It is the
 line that the library's own checker program prints.
 A rejection does not mean that the goal can be reached.",
-    options: &[&JSON],
+    options: &[&PARTIAL, &LEAN, &JSON],
     statuses: &["accepted", "rejected"],
     run,
 };
 
 fn run(arguments: &Arguments) -> Status {
-    match check(&arguments.files[0], &arguments.files[1]) {
+    let reading = Reading::of(arguments);
+    match check(reading, &arguments.files[0], &arguments.files[1]) {
         Ok((verdict, line)) => give(arguments, verdict, &line),
         Err((name, fault)) => refuse(arguments, name, &fault),
     }
@@ -36,22 +38,22 @@ fn run(arguments: &Arguments) -> Status {
 type Misfit<'a> = (&'a OsStr, Fault);
 
 // The verdict, and the line that says it.
-fn check<'a>(task: &'a OsString, weights: &'a OsString) -> Result<(Verdict, String), Misfit<'a>> {
+fn check<'a>(
+    reading: Reading,
+    task: &'a OsString,
+    weights: &'a OsString,
+) -> Result<(Verdict, String), Misfit<'a>> {
     if files::is_standard(task) && files::is_standard(weights) {
         let words = "only one of the two can be standard input";
         return Err((task, Fault::Failure(words.to_string())));
     }
     let task_bytes = files::read(task).map_err(|fault| (task.as_os_str(), fault))?;
     let weight_bytes = files::read(weights).map_err(|fault| (weights.as_os_str(), fault))?;
-    let verdict = library::check(&task_bytes, &weight_bytes);
-    let said = |verdict| Ok((verdict, library::check_line(&task_bytes, &weight_bytes)?));
-    verdict.and_then(said).map_err(|fault| {
-        // The task is judged first, so the weights are at fault exactly where it opens by itself.
-        let (name, bytes) = match library::open(&task_bytes) {
-            Ok(_) => (weights, &weight_bytes),
-            Err(_) => (task, &task_bytes),
-        };
-        (name.as_os_str(), fault.about(bytes))
+    let verdict = reading.check(&task_bytes, &weight_bytes);
+    // The task is judged first, so the weights are at fault exactly where it opens by itself.
+    verdict.map_err(|fault| match reading.open(&task_bytes) {
+        Ok(_) => (weights.as_os_str(), fault.about(&weight_bytes)),
+        Err(fault) => (task.as_os_str(), fault),
     })
 }
 

@@ -1,5 +1,6 @@
 //! `find`: looks for weights that separate the ends of a task.
 
+use super::partial::{Reading, LEAN, PARTIAL};
 use super::{deliver, refuse, tell, Command, OUTPUT};
 use crate::answer;
 use crate::args::{Arguments, JSON};
@@ -22,22 +23,21 @@ cannot be reached. None does not mean that it can.
 
 With -o the weights are also written as a weight file, for check. For a bay as
 plain text use ask.",
-    options: &[&OUTPUT, &JSON],
+    options: &[&OUTPUT, &PARTIAL, &LEAN, &JSON],
     statuses: &["separated", "none"],
     run,
 };
 
 fn run(arguments: &Arguments) -> Status {
     let name = &arguments.files[0];
-    match find(name).and_then(|found| give(arguments, found)) {
+    match find(Reading::of(arguments), name).and_then(|found| give(arguments, found)) {
         Ok(status) => status,
         Err(fault) => refuse(arguments, name, &fault),
     }
 }
 
-fn find(name: &OsStr) -> Result<Option<Weights>, Fault> {
-    let task = files::read(name)?;
-    let workspace = library::open(&task).map_err(|fault| fault.about(&task))?;
+fn find(reading: Reading, name: &OsStr) -> Result<Option<Weights>, Fault> {
+    let workspace = reading.open(&files::read(name)?)?;
     library::find(&workspace)
 }
 

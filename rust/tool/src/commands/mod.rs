@@ -5,7 +5,9 @@ mod build;
 mod check;
 mod find;
 mod open;
+pub mod partial;
 mod report;
+mod silence;
 
 use crate::args::{Arguments, Choice, JSON};
 use crate::fault::Fault;
@@ -14,6 +16,7 @@ use crate::json::Json;
 use crate::keeping;
 use crate::output::{complain, say, say_bytes, Status};
 use crate::words::shown;
+use partial::{LEAN, PARTIAL};
 use std::ffi::OsStr;
 
 pub struct Command {
@@ -36,6 +39,7 @@ pub const COMMANDS: &[Command] = &[
     find::COMMAND,
     check::COMMAND,
     build::COMMAND,
+    silence::COMMAND,
     open::COMMAND,
 ];
 
@@ -50,8 +54,11 @@ pub const OUTPUT: Choice = Choice {
 /// What does not go together on a command line, if anything.
 pub fn clash(arguments: &Arguments) -> Option<&'static str> {
     let taken = arguments.value(&OUTPUT).is_some_and(files::is_standard);
-    let clash = "--json and -o - both need standard output";
-    (taken && arguments.has(&JSON)).then_some(clash)
+    if taken && arguments.has(&JSON) {
+        return Some("--json and -o - both need standard output");
+    }
+    let lean_alone = arguments.has(&LEAN) && !arguments.has(&PARTIAL);
+    lean_alone.then_some("--lean goes with --partial")
 }
 
 /// Writes a result where the command line asks for it, and says what it is.

@@ -1,11 +1,12 @@
 //! `open`: opens a task file as a workspace.
 
+use super::partial::{Reading, LEAN, PARTIAL};
 use super::{deliver, refuse, Command, OUTPUT};
 use crate::args::{Arguments, JSON};
 use crate::fault::Fault;
 use crate::files;
 use crate::json::Json;
-use crate::library::{self, Workspace};
+use crate::library::Workspace;
 use crate::output::Status;
 use crate::words::counted;
 
@@ -19,7 +20,7 @@ Reads a task file, opens it and says how many words the workspace has, and how
 many variables, features, listed pairs and conditions (slots that are not empty)
 are in it. With -o the workspace is written, each word as eight bytes, the low
 byte first.",
-    options: &[&OUTPUT, &JSON],
+    options: &[&OUTPUT, &PARTIAL, &LEAN, &JSON],
     statuses: &["opened"],
     run,
 };
@@ -33,8 +34,7 @@ fn run(arguments: &Arguments) -> Status {
 
 fn open(arguments: &Arguments) -> Result<(), Fault> {
     let name = &arguments.files[0];
-    let task = files::read(name)?;
-    let workspace = library::open(&task).map_err(|fault| fault.about(&task))?;
+    let workspace = Reading::of(arguments).open(&files::read(name)?)?;
     let counts = counts(&workspace);
     let shown = counts.map(|(noun, _, count)| counted(count, noun));
     let line = format!("opened {}", shown.join(", "));

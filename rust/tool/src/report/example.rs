@@ -25,25 +25,25 @@ pub fn section(bay: &Bay, listed: &Listed) -> String {
          <p>Pallet {} slides from {} to {}.</p>\n\
          <div class=\"columns\">\n<div><h4>No longer true: {}</h4>{}</div>\n\
          <div><h4>Newly true: {}</h4>{}</div>\n</div>\n<p>{}</p>\n",
-        pictures::two(bay.columns, bays, &[step.gap, step.from]),
+        pictures::two(bay, bays, &[step.gap, step.from]),
         step.pallet,
         slot(step.from),
         slot(step.gap),
         lost.len(),
-        list(&lost),
+        list(bay, &lost),
         gained.len(),
-        list(&gained),
+        list(bay, &gained),
         sum(bay, listed, &lost, &gained),
     )
 }
 
-fn list(features: &[Feature]) -> String {
+fn list(bay: &Bay, features: &[Feature]) -> String {
     if features.is_empty() {
         return "<p>None.</p>".to_string();
     }
     let items = features
         .iter()
-        .map(|&one| format!("<li>{}</li>", feature(one)));
+        .map(|&one| format!("<li>{}</li>", feature(bay, one)));
     format!("<ul>{}</ul>", items.collect::<String>())
 }
 

@@ -60,8 +60,9 @@ fn pair(bay: &Bay, listed: &Listed, low: usize, high: usize) -> String {
     };
     grid(&sides, |row, column| {
         let feature = Feature::pair(Atom::new(low, row), Atom::new(high, column));
-        // One pallet cannot stand in two slots.
-        square(bay, listed, feature, row == column)
+        // One pallet cannot stand in two slots, but two slots can be unknown.
+        let never = row == column && row != bay.unknown();
+        square(bay, listed, feature, never)
     })
 }
 
@@ -70,16 +71,17 @@ fn square(bay: &Bay, listed: &Listed, feature: Feature, never: bool) -> Square {
         listed: listed.has(feature),
         never,
         start: feature.holds_in(&bay.start),
-        goal: feature.holds_in(&bay.goal),
+        goal: feature.holds_in(&bay.wanted()),
     }
 }
 
 fn labels(bay: &Bay) -> Vec<String> {
     let short = |label: usize| match label {
         GAP => "•".to_string(),
+        unknown if unknown == bay.unknown() => "?".to_string(),
         number => number.to_string(),
     };
-    (0..bay.slots()).map(short).collect()
+    bay.labels().map(short).collect()
 }
 
 fn grid(sides: &Sides, square: impl Fn(usize, usize) -> Square) -> String {

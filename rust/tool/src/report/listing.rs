@@ -16,9 +16,9 @@ pub fn table(bay: &Bay, listed: &Listed, proof: &Proof) -> String {
         let one = proof.features.get(number);
         rows.push_str(&format!(
             "<tr><td>{number}</td><td class=\"said\">{}</td>{}{}</tr>\n",
-            feature(one),
+            feature(bay, one),
             mark("start", one.holds_in(&bay.start)),
-            mark("goal", one.holds_in(&bay.goal))
+            mark("goal", one.holds_in(&bay.wanted()))
         ));
     }
     let table = format!(
@@ -26,7 +26,7 @@ pub fn table(bay: &Bay, listed: &Listed, proof: &Proof) -> String {
          <th>as it stands</th><th>as it is wanted</th></tr></thead>\n<tbody>\n{rows}</tbody>\n\
          <tfoot><tr><th></th><th>true</th>{}{}</tr></tfoot></table></div>\n",
         total("start", listed.true_in(&bay.start).len()),
-        total("goal", listed.true_in(&bay.goal).len())
+        total("goal", listed.true_in(&bay.wanted()).len())
     );
     folded(&table, listed.len())
 }

@@ -1,8 +1,10 @@
-//! The table of moves: each change in parts, and an even number of odd ones.
+//! The tables of moves and of forgetting: each change in parts, and an even number of odd ones.
 
+use super::change::Change;
+use super::forgetting;
 use super::listed::Listed;
-use super::moves::{self, Move};
-use super::words::slot;
+use super::moves;
+use super::words::{label, slot};
 use crate::bay::Bay;
 use crate::fault::Fault;
 use crate::features::Atom;
@@ -13,7 +15,14 @@ const DETAILED: usize = 4;
 /// Bays up to this size show the table open; a longer one would bury what follows.
 const OPEN: usize = 6;
 
-/// The part of a move's change that goes with one other slot.
+/// A row of a table: what leads it, what it is called in a message, and what changes.
+struct Row {
+    cells: String,
+    name: String,
+    change: Change,
+}
+
+/// The part of a change that goes with one other slot.
 struct Part {
     odd: usize,
     /// For each label that can stand there, how many listed features change.
@@ -21,21 +30,49 @@ struct Part {
 }
 
 /// A row for each move.
-pub fn table(bay: &Bay, listed: &Listed) -> Result<String, Fault> {
-    let mut head = String::from("<th>Pallet</th><th>between</th><th>the two slots</th>");
+pub fn of_moves(bay: &Bay, listed: &Listed) -> Result<String, Fault> {
+    let row = |step: &moves::Move| {
+        let (pallet, low, high) = (step.pallet, slot(step.gap), slot(step.from));
+        Row {
+            cells: format!("<th>{pallet}</th><td>{low} and {high}</td>"),
+            name: format!("when pallet {pallet} moves between slots {low} and {high}"),
+            change: step.change(),
+        }
+    };
+    let rows: Vec<Row> = moves::all(bay).iter().map(row).collect();
+    let head = "<th>Pallet</th><th>between</th><th>the two slots</th>";
+    table(bay, listed, head, &rows)
+}
+
+/// A row for each silent slot and each label that is forgotten there.
+pub fn of_forgetting(bay: &Bay, listed: &Listed) -> Result<String, Fault> {
+    let row = |step: &forgetting::Forgetting| {
+        let (held, place) = (label(bay, step.label), slot(step.slot));
+        Row {
+            cells: format!("<th>{place}</th><td>{held}</td>"),
+            name: format!("when slot {place}, holding {held}, becomes unknown"),
+            change: step.change(bay),
+        }
+    };
+    let rows: Vec<Row> = forgetting::all(bay).iter().map(row).collect();
+    let head = "<th>Slot</th><th>holding</th><th>the slot</th>";
+    table(bay, listed, head, &rows)
+}
+
+fn table(bay: &Bay, listed: &Listed, head: &str, rows: &[Row]) -> Result<String, Fault> {
+    let mut head = head.to_string();
     for index in 0..bay.slots() {
         head.push_str(&format!("<th>with {}</th>", slot(index)));
     }
-    let moves = moves::all(bay);
-    let mut rows = String::new();
-    for &step in &moves {
-        rows.push_str(&row(bay, listed, step)?);
+    let mut lines = String::new();
+    for row in rows {
+        lines.push_str(&line(bay, listed, row)?);
     }
     let table = format!(
         "<div class=\"wide\"><table class=\"moves\">\
-         <thead><tr>{head}<th>odd parts</th></tr></thead>\n<tbody>\n{rows}</tbody></table></div>\n"
+         <thead><tr>{head}<th>odd parts</th></tr></thead>\n<tbody>\n{lines}</tbody></table></div>\n"
     );
-    Ok(framed(bay, &table, moves.len()))
+    Ok(framed(bay, &table, rows.len()))
 }
 
 fn framed(bay: &Bay, table: &str, rows: usize) -> String {
@@ -47,46 +84,47 @@ fn framed(bay: &Bay, table: &str, rows: usize) -> String {
     }
     format!(
         "<p>The small numbers say how many listed features change. For another slot there is one \
-         for each pallet that can stand there, after the pallet's number.</p>\n{table}"
+         for each pallet that can stand there, after the pallet's number{}.</p>\n{table}",
+        if bay.is_full() {
+            ""
+        } else {
+            ", and for the gap and for unknown where they can be"
+        }
     )
 }
 
-fn row(bay: &Bay, listed: &Listed, step: Move) -> Result<String, Fault> {
-    let own = step.own(listed);
+fn line(bay: &Bay, listed: &Listed, row: &Row) -> Result<String, Fault> {
+    let own = row.change.own(listed);
     let mut odd = own % 2;
     let mut cells = cell(bay, odd, &[own.to_string()]);
     for index in 0..bay.slots() {
-        if index == step.gap || index == step.from {
+        if row.change.touches(index) {
             cells.push_str("<td class=\"none\"></td>");
             continue;
         }
-        let part = part(bay, listed, step, index)?;
+        let part = part(bay, listed, row, index)?;
         odd += part.odd;
         cells.push_str(&part_cell(bay, &part));
     }
     if odd % 2 == 1 {
-        return Err(disagreement(step));
+        return Err(disagreement(row));
     }
-    Ok(format!(
-        "<tr><th>{}</th><td>{} and {}</td>{cells}<td>{odd}</td></tr>\n",
-        step.pallet,
-        slot(step.gap),
-        slot(step.from)
-    ))
+    Ok(format!("<tr>{}{cells}<td>{odd}</td></tr>\n", row.cells))
 }
 
-fn part(bay: &Bay, listed: &Listed, step: Move, other: usize) -> Result<Part, Fault> {
-    let count = |label| (label, step.with(Atom::new(other, label), listed));
-    let counts: Vec<(usize, usize)> = step.elsewhere(bay).into_iter().map(count).collect();
+fn part(bay: &Bay, listed: &Listed, row: &Row, other: usize) -> Result<Part, Fault> {
+    let change = &row.change;
+    let count = |label| (label, change.with(Atom::new(other, label), listed));
+    let counts: Vec<(usize, usize)> = change.elsewhere(bay).into_iter().map(count).collect();
     let odd = counts.first().map_or(0, |(_, count)| count % 2);
     if counts.iter().any(|(_, count)| count % 2 != odd) {
-        return Err(disagreement(step));
+        return Err(disagreement(row));
     }
     Ok(Part { odd, counts })
 }
 
 fn part_cell(bay: &Bay, part: &Part) -> String {
-    let shown = |(label, count): &(usize, usize)| format!("{label}: {count}");
+    let shown = |(held, count): &(usize, usize)| format!("{}: {count}", label(bay, *held));
     let details: Vec<String> = part.counts.iter().map(shown).collect();
     cell(bay, part.odd, &details)
 }
@@ -103,12 +141,10 @@ fn cell(bay: &Bay, odd: usize, details: &[String]) -> String {
 }
 
 // The page must not show a table that speaks against the verdict.
-fn disagreement(step: Move) -> Fault {
+fn disagreement(row: &Row) -> Fault {
     Fault::Failure(format!(
-        "the checker accepted the weights, but the tool counts an odd change \
-         when pallet {} moves between slots {} and {}, so no page is written",
-        step.pallet,
-        slot(step.gap),
-        slot(step.from)
+        "the checker accepted the weights, but the tool counts an odd change {}, \
+         so no page is written",
+        row.name
     ))
 }

@@ -1,8 +1,9 @@
-//! The moves of a bay, and which listed features each of them changes.
+//! The moves of a bay, and what each of them changes.
 
+use super::change::Change;
 use super::listed::Listed;
 use crate::bay::{Bay, GAP};
-use crate::features::{Atom, Feature};
+use crate::features::Atom;
 
 /// One pallet sliding between two neighbouring slots; the way back changes the same features.
 #[derive(Clone, Copy)]
@@ -22,35 +23,13 @@ impl Move {
         later
     }
 
-    // Before and after the move, what the two slots hold.
-    fn atoms(&self) -> [Atom; 4] {
-        [
-            Atom::new(self.gap, GAP),
-            Atom::new(self.from, self.pallet),
-            Atom::new(self.gap, self.pallet),
-            Atom::new(self.from, GAP),
-        ]
-    }
-
-    /// How many listed features change that name no slot but the two.
-    pub fn own(&self, listed: &Listed) -> usize {
-        let [gap, from, filled, left] = self.atoms();
-        let pairs = [Feature::pair(gap, from), Feature::pair(filled, left)];
-        let singles = self.atoms().map(Feature::Single);
-        let changing = singles.iter().chain(&pairs);
-        changing.filter(|feature| listed.has(**feature)).count()
-    }
-
-    /// How many listed features change that name another slot, holding this label.
-    pub fn with(&self, other: Atom, listed: &Listed) -> usize {
-        let pairs = self.atoms().map(|atom| Feature::pair(atom, other));
-        pairs.iter().filter(|pair| listed.has(**pair)).count()
-    }
-
-    /// The labels that can stand elsewhere while the move is made.
-    pub fn elsewhere(&self, bay: &Bay) -> Vec<usize> {
-        let stands = |label: &usize| *label != GAP && *label != self.pallet;
-        (0..bay.slots()).filter(stands).collect()
+    /// Before and after the move, what the two slots hold.
+    pub fn change(&self) -> Change {
+        let hold = |gap, from| vec![Atom::new(self.gap, gap), Atom::new(self.from, from)];
+        Change {
+            before: hold(GAP, self.pallet),
+            after: hold(self.pallet, GAP),
+        }
     }
 }
 

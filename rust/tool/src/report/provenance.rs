@@ -3,15 +3,15 @@
 use crate::date;
 use crate::digest::sha256;
 use crate::fault::Fault;
-use crate::question::Answered;
+use crate::question::{Answered, Asked, Way};
 use crate::VERSION;
 
 /// The section at the foot of every page.
 pub fn section(answered: &Answered) -> Result<String, Fault> {
-    let mut digests = digest("the task", &answered.task);
-    if let Some(proof) = &answered.proof {
-        digests.push_str(&digest("the weights", &proof.weight_file));
-    }
+    let digests = match answered.is_impossible_each_way() {
+        true => of_each_way(answered),
+        false => digests("", &answered.asked),
+    };
     Ok(format!(
         "<section>\n<h2>What this page is about</h2>\n\
          <p>A bay of {}. Written by florumeja {VERSION} on {} (Universal Time).</p>\n\
@@ -22,6 +22,20 @@ pub fn section(answered: &Answered) -> Result<String, Fault> {
         answered.bay.shape(),
         date::today()?
     ))
+}
+
+fn of_each_way(answered: &Answered) -> String {
+    let numbered = answered.ways.iter().enumerate();
+    let way = |(index, way): (usize, &Way)| digests(&format!(" of way {}", index + 1), &way.asked);
+    numbered.map(way).collect()
+}
+
+fn digests(which: &str, asked: &Asked) -> String {
+    let mut digests = digest(&format!("the task{which}"), &asked.task);
+    if let Some(proof) = &asked.proof {
+        digests.push_str(&digest(&format!("the weights{which}"), &proof.weight_file));
+    }
+    digests
 }
 
 fn digest(of: &str, bytes: &[u8]) -> String {

@@ -1,6 +1,6 @@
 //! Words and names for the page.
 
-use crate::bay::GAP;
+use crate::bay::{Bay, GAP};
 use crate::features::{Atom, Feature};
 
 /// Slots get letters, so that nobody takes a slot for a pallet.
@@ -8,27 +8,40 @@ pub fn slot(index: usize) -> char {
     char::from_u32('A' as u32 + index as u32).unwrap_or('?')
 }
 
-pub fn label(value: usize) -> String {
-    if value == GAP {
-        return "gap".to_string();
+/// Some slots, as in "A", "A and B" and "A, B and C".
+pub fn slots(indices: &[usize]) -> String {
+    let names: Vec<String> = indices
+        .iter()
+        .map(|&index| slot(index).to_string())
+        .collect();
+    match names.split_last() {
+        Some((last, others)) if !others.is_empty() => format!("{} and {last}", others.join(", ")),
+        _ => names.concat(),
     }
-    value.to_string()
+}
+
+pub fn label(bay: &Bay, value: usize) -> String {
+    match value {
+        GAP => "gap".to_string(),
+        _ if value == bay.unknown() => "unknown".to_string(),
+        _ => value.to_string(),
+    }
 }
 
 /// What a feature says.
-pub fn feature(feature: Feature) -> String {
+pub fn feature(bay: &Bay, feature: Feature) -> String {
     match feature {
-        Feature::Single(one) => atom(one),
-        Feature::Pair(one, two) => format!("{} and {}", atom(one), atom(two)),
+        Feature::Single(one) => atom(bay, one),
+        Feature::Pair(one, two) => format!("{} and {}", atom(bay, one), atom(bay, two)),
     }
 }
 
 // The parts of a statement must not come apart at the end of a line.
-fn atom(atom: Atom) -> String {
+fn atom(bay: &Bay, atom: Atom) -> String {
     format!(
         "<span class=\"atom\">{} = {}</span>",
         slot(atom.variable),
-        label(atom.value)
+        label(bay, atom.value)
     )
 }
 

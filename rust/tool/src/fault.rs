@@ -7,6 +7,10 @@ use crate::json::Json;
 const WIDEST_PART: usize = 70;
 const MOST_BEFORE: usize = 60;
 const TEXT: &str = "this looks like text; florumeja ask takes a bay as text";
+const ONE_MORE_VALUE: &str = "in the built task each variable has one value more, \"unknown\"";
+const NO_LONGER_IDLE: &str =
+    "an operator that was idle for want of a possible value is not idle in \
+                              the built task, where \"unknown\" is always possible";
 
 /// Why no answer was given.
 #[derive(Debug)]
@@ -15,10 +19,8 @@ pub enum Fault {
     Text(TextFault),
     /// The library refused, by this number.
     Refused(u32),
-    /// The same, of a partial file.
-    Partial(u32),
-    /// The same, of a file that looks like text.
-    TextInstead(u32),
+    /// The same, and what may help.
+    Explained(u32, String),
     /// Files, the command line, or answers that do not fit together.
     Failure(String),
 }
@@ -44,16 +46,17 @@ impl Fault {
             Fault::Refused(number)
                 if text.is_ok_and(|text| !text.is_empty() && text.chars().all(typed)) =>
             {
-                Fault::TextInstead(number)
+                Fault::Explained(number, TEXT.to_string())
             }
             other => other,
         }
     }
 
-    /// Says that it was a partial file that was refused.
+    /// Says of a partial file that limits and pairs are judged on the task that is built of it.
     pub fn of_partial(self) -> Fault {
         match self {
-            Fault::Refused(number) => Fault::Partial(number),
+            Fault::Refused(2) => Fault::Explained(2, ONE_MORE_VALUE.to_string()),
+            Fault::Refused(7) => Fault::Explained(7, NO_LONGER_IDLE.to_string()),
             other => other,
         }
     }
@@ -63,8 +66,7 @@ impl Fault {
         match self {
             Fault::Text(fault) => fault.words(),
             Fault::Refused(number) => refusal_words(*number),
-            Fault::Partial(number) => refusal_words(*number) + partial_words(*number),
-            Fault::TextInstead(number) => format!("{} ({TEXT})", refusal_words(*number)),
+            Fault::Explained(number, words) => format!("{} ({words})", refusal_words(*number)),
             Fault::Failure(words) => words.clone(),
         }
     }
@@ -97,7 +99,7 @@ impl Fault {
         ];
         match self {
             Fault::Text(fault) => fields.extend(fault.fields()),
-            Fault::Refused(number) | Fault::Partial(number) | Fault::TextInstead(number) => {
+            Fault::Refused(number) | Fault::Explained(number, _) => {
                 fields.push(("refusal", refusal_json(*number)))
             }
             Fault::Failure(_) => {}
@@ -159,15 +161,6 @@ pub fn refusal_words(number: u32) -> String {
         _ => "a number that this tool has no words for",
     };
     format!("refused {number}: {meaning}")
-}
-
-// Limits and pairs are judged on the task that is built of a partial file.
-fn partial_words(number: u32) -> &'static str {
-    match number {
-        2 => " (in the built task each variable has one value more, \"unknown\")",
-        7 => " (an operator that was idle for want of a possible value is not idle in the built task, where \"unknown\" is always possible)",
-        _ => "",
-    }
 }
 
 fn refusal_json(number: u32) -> Json {

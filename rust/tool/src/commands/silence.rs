@@ -39,23 +39,40 @@ the answer says so. For a bay as plain text write ? and use ask.",
 };
 
 fn run(arguments: &Arguments) -> Status {
-    let Some(marks) = arguments.value(&MARKS) else {
-        complain("silence: --marks MARKS is needed; try florumeja silence --help");
-        return Status::Refused;
+    let marks = match read_marks(arguments.value(&MARKS)) {
+        Ok(marks) => marks,
+        Err(words) => {
+            complain(&format!("silence: {words}; try florumeja silence --help"));
+            return Status::Refused;
+        }
     };
-    match silence(arguments, marks) {
+    match silence(arguments, &marks) {
         Ok(()) => Status::Yes,
         Err(fault) => refuse(arguments, &arguments.files[0], &fault),
     }
 }
 
-fn silence(arguments: &Arguments, marks: &OsStr) -> Result<(), Fault> {
+// Only 0s and 1s are marks; anything else could be meant in another way.
+fn read_marks(marks: Option<&OsStr>) -> Result<Vec<u8>, String> {
+    let marks = marks.ok_or("--marks MARKS is needed")?.to_string_lossy();
+    let mark = |character| match character {
+        '0' => Ok(0),
+        '1' => Ok(1),
+        other => Err(format!(
+            "--marks takes 0s and 1s with nothing between them, and not {other:?}"
+        )),
+    };
+    marks.chars().map(mark).collect()
+}
+
+fn silence(arguments: &Arguments, marks: &[u8]) -> Result<(), Fault> {
     let name = &arguments.files[0];
-    let marks = read_marks(marks)?;
     let task = files::read(name)?;
-    let partial = library::silence(&task, &marks).map_err(|fault| told(fault, &task, &marks))?;
-    let fault = library::build_partial(&partial).err();
-    let fault = fault.map(|fault| fault.of_partial().words());
+    let partial = library::silence(&task, marks).map_err(|fault| told(fault, &task, marks))?;
+    give(arguments, marks, &partial)
+}
+
+fn give(arguments: &Arguments, marks: &[u8], partial: &[u8]) -> Result<(), Fault> {
     let named = marks.iter().filter(|mark| **mark == 1).count();
     let mut line = format!(
         "silenced {} bytes, names {named} of {} variables",
@@ -63,29 +80,18 @@ fn silence(arguments: &Arguments, marks: &OsStr) -> Result<(), Fault> {
         marks.len()
     );
     let mut fields = vec![
-        ("file", Json::text(&name.to_string_lossy())),
+        ("file", Json::text(&arguments.files[0].to_string_lossy())),
         ("answer", Json::text("silenced")),
         ("bytes", Json::number(partial.len())),
         ("named", Json::number(named)),
         ("variables", Json::number(marks.len())),
     ];
-    if let Some(words) = fault {
-        line.push_str(&format!("; when it is read it is {words}"));
-        fields.push(("note", Json::Text(format!("when it is read it is {words}"))));
+    if let Err(fault) = library::build_partial(partial) {
+        let note = format!("when it is read it is {}", fault.of_partial().words());
+        line.push_str(&format!("; {note}"));
+        fields.push(("note", Json::Text(note)));
     }
-    deliver(arguments, &partial, &line, &Json::Object(fields))
-}
-
-// Only 0s and 1s are marks; anything else could be meant in another way.
-fn read_marks(marks: &OsStr) -> Result<Vec<u8>, Fault> {
-    let mark = |character: char| match character {
-        '0' => Ok(0),
-        '1' => Ok(1),
-        other => Err(Fault::Failure(format!(
-            "--marks has 0s and 1s with nothing between them, and not {other:?}"
-        ))),
-    };
-    marks.to_string_lossy().chars().map(mark).collect()
+    deliver(arguments, partial, &line, &Json::Object(fields))
 }
 
 // A task that opens by itself is not at fault: then it is the marks, or the limits of what is built.
@@ -94,13 +100,11 @@ fn told(fault: Fault, task: &[u8], marks: &[u8]) -> Fault {
         return fault.about(task);
     };
     let variables = workspace.features().sizes().len();
-    if variables == marks.len() {
-        return fault.of_partial();
+    match fault {
+        Fault::Refused(number) if variables != marks.len() => {
+            let (marks, variables) = (counted(marks.len(), "mark"), counted(variables, "variable"));
+            Fault::Explained(number, format!("--marks has {marks}, the task {variables}"))
+        }
+        other => other.of_partial(),
     }
-    Fault::Failure(format!(
-        "{}: --marks has {}, and the task {}",
-        fault.words(),
-        counted(marks.len(), "mark"),
-        counted(variables, "variable")
-    ))
 }

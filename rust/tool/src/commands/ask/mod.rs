@@ -35,6 +35,12 @@ leads from the one to the other, and a checker that is proved correct accepted
 the proof. NO PARITY PROOF: no such proof exists. This does not mean that the
 order can be done.
 
+In the bay as it is wanted a ? is a slot that the order does not name: anything
+that is left will do there. Then IMPOSSIBLE speaks of every way to fill the slots
+with ?. Where there is no proof for all ways at once, and there are 24 ways or
+fewer, each is asked by itself, and the order is IMPOSSIBLE if each of them is;
+--weights and --task then keep FILE.1, FILE.2 and so on, one for each way.
+
 Take care in scripts: exit status 0 means IMPOSSIBLE, not that the order can be
 done. What follows florumeja ask FILE && is done for impossible orders only.
 

@@ -20,6 +20,29 @@ fn both_bays_are_read_row_by_row() {
 }
 
 #[test]
+fn slots_of_the_wanted_bay_may_be_silent() {
+    let bay = BayText::read(b"1 2\n. 3\n\n? 1\n. ?\n").unwrap().bay();
+    assert_eq!(bay.start, [1, 2, 0, 3]);
+    assert_eq!(bay.goal, [None, Some(1), Some(0), None]);
+    // As many labels are left as slots are silent.
+    assert_eq!(bay.file(), [2, 2, 1, 2, 0, 3, 2, 1, 0, 3]);
+    assert_eq!(
+        fault("1 ?\n. 3\n\n? 1\n. ?\n"),
+        "line 1, column 3: expected a label in every slot of the bay as it stands, found \"?\""
+    );
+    assert!(fault("1 .\n\n? ??\n").starts_with("line 3, column 3: expected a label ("));
+    assert!(fault("1 .\n\n1? .\n").starts_with("line 3, column 1: expected a label ("));
+    assert!(fault("1 .\n\n?\n").starts_with("line 3, column 2: expected 2 labels"));
+}
+
+#[test]
+fn a_comment_that_could_be_silent_slots_is_refused() {
+    assert!(fault("1 2\n. 3\n\n2 1\n# ? ?\n").contains("expected a comment in words"));
+    assert!(fault("1 2\n. 3\n\n2 1 # ? perhaps\n? ?\n").contains("begins with a word"));
+    assert_eq!(fault("1 2\n. 3\n\n2 1 # which of them?\n? ?\n"), "no fault");
+}
+
+#[test]
 fn faults_name_line_and_column() {
     assert!(fault("1 x\n").starts_with("line 1, column 3: expected a label"));
     assert!(fault("").starts_with("line 1, column 1: expected the bay as it stands"));
@@ -241,5 +264,9 @@ fn refusals_find_their_place() {
     assert!(place("1 2\n. 4\n\n1 2\n. 3\n", 3).starts_with("line 2, column 3"));
     assert!(place("1 2\n. 3\n\n1 2\n. 2\n", 10).starts_with("line 5, column 3"));
     assert!(place("1\n\n1\n", 2).starts_with("line 1, column 1"));
+    assert!(place("1 2\n. 3\n\n? 4\n. ?\n", 3).starts_with("line 4, column 3"));
+    assert!(place("1 2\n. 3\n\n? 2\n? 2\n", 10).starts_with(
+        "line 5, column 3: expected each label at most once beside the silent slots, found 2 again"
+    ));
     assert!(place("1 .\n\n. 1\n", 5).starts_with("refused 5"));
 }

@@ -108,3 +108,20 @@ fn told(fault: Fault, task: &[u8], marks: &[u8]) -> Fault {
         other => other.of_partial(),
     }
 }
+
+#[cfg(test)]
+mod tests {
+    use super::*;
+
+    #[test]
+    fn marks_are_digits_and_nothing_else() {
+        let read = |words: &str| read_marks(Some(OsStr::new(words)));
+        assert_eq!(read("101").unwrap(), [1, 0, 1]);
+        assert_eq!(read("").unwrap(), []);
+        for words in ["1,0", "1 0", "12", "-1", "1\u{661}", "yes"] {
+            let message = read(words).unwrap_err();
+            assert!(message.starts_with("--marks takes 0s and 1s"), "{message}");
+        }
+        assert_eq!(read_marks(None).unwrap_err(), "--marks MARKS is needed");
+    }
+}

@@ -31,3 +31,26 @@ pub fn all(bay: &Bay) -> Vec<Forgetting> {
     }
     steps
 }
+
+#[cfg(test)]
+mod tests {
+    use super::*;
+
+    #[test]
+    fn only_what_is_left_is_forgotten_in_silent_slots() {
+        let bay = Bay {
+            rows: 1,
+            columns: 4,
+            start: vec![0, 1, 2, 3],
+            goal: vec![Some(2), None, Some(0), None],
+        };
+        let steps = all(&bay);
+        let shown: Vec<(usize, usize)> = steps.iter().map(|step| (step.slot, step.label)).collect();
+        assert_eq!(shown, [(1, 1), (1, 3), (3, 1), (3, 3)]);
+        let change = steps[1].change(&bay);
+        assert_eq!(change.before, [Atom::new(1, 3)]);
+        assert_eq!(change.after, [Atom::new(1, 4)]);
+        // Elsewhere anything can be but the label itself, and it may be unknown.
+        assert_eq!(change.elsewhere(&bay), [0, 1, 2, 4]);
+    }
+}

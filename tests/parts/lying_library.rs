@@ -10,34 +10,45 @@ pub extern "C" fn florumeja_check(_: *const u8, _: usize, _: *const u8, _: usize
     2 << 32 | 5
 }
 
-/// Opens everything as the same workspace.
+/// The same with a goal that is its start.
+const ALIKE: [u64; 16] = [2, 2, 2, 0, 1, 0, 1, 0, 0, 0, 0, 0, 0, 0, 0, 0];
+
+/// Opens every task of no bytes as one workspace, and all others as another.
 ///
 /// # Safety
 /// The room has to be writable, for as many words as its length says.
 #[no_mangle]
 pub unsafe extern "C" fn florumeja_open(
     _: *const u8,
-    _: usize,
+    task_length: usize,
     room: *mut u64,
     length: usize,
 ) -> u64 {
-    assert!(length >= WORKSPACE.len());
-    room.copy_from_nonoverlapping(WORKSPACE.as_ptr(), WORKSPACE.len());
-    WORKSPACE.len() as u64
+    let words = match task_length {
+        0 => WORKSPACE,
+        _ => ALIKE,
+    };
+    assert!(length >= words.len());
+    room.copy_from_nonoverlapping(words.as_ptr(), words.len());
+    words.len() as u64
 }
 
-/// Always finds feature 0, which is true at that start and not at that goal.
+/// Finds feature 0, which is true at the start of the one workspace and not at its goal; and none
+/// in the other.
 ///
 /// # Safety
-/// The room has to be writable, for as many words as its length says.
+/// The words have to be readable and the room writable, for as many words as their lengths say.
 #[no_mangle]
 pub unsafe extern "C" fn florumeja_find(
-    _: *const u64,
-    _: usize,
+    words: *const u64,
+    count: usize,
     room: *mut u64,
     length: usize,
 ) -> u64 {
     assert!(length > 0);
+    if std::slice::from_raw_parts(words, count) == ALIKE {
+        return 1 << 32;
+    }
     room.write(1);
     0
 }
@@ -93,4 +104,61 @@ pub unsafe extern "C" fn florumeja_build(
         true => 9 << 32,
         false => 0,
     }
+}
+
+/// The marks in the place of a partial file; refused 2 where the first variable is silent.
+///
+/// # Safety
+/// The marks have to be readable and the room writable, for as many bytes as their lengths say.
+#[no_mangle]
+pub unsafe extern "C" fn florumeja_silence(
+    _: *const u8,
+    _: usize,
+    marks: *const u8,
+    count: usize,
+    room: *mut u8,
+    length: usize,
+) -> u64 {
+    let marks = std::slice::from_raw_parts(marks, count);
+    match marks.first() {
+        Some(0) => 3 << 32 | 2,
+        _ => write(marks, room, length),
+    }
+}
+
+/// Refused 7 where the second variable is silent; a task of no bytes where the third is, of one
+/// byte otherwise.
+///
+/// # Safety
+/// The file has to be readable and the room writable, for as many bytes as their lengths say.
+#[no_mangle]
+pub unsafe extern "C" fn florumeja_build_partial_lean(
+    partial: *const u8,
+    count: usize,
+    room: *mut u8,
+    length: usize,
+) -> u64 {
+    match std::slice::from_raw_parts(partial, count) {
+        [_, 0, ..] => 3 << 32 | 7,
+        [_, _, 0, ..] => 0,
+        _ => write(b"\0", room, length),
+    }
+}
+
+/// An answer outside the table of answers.
+#[no_mangle]
+pub extern "C" fn florumeja_build_partial(_: *const u8, _: usize, _: *mut u8, _: usize) -> u64 {
+    9 << 32
+}
+
+/// The same.
+#[no_mangle]
+pub extern "C" fn florumeja_open_partial(_: *const u8, _: usize, _: *mut u64, _: usize) -> u64 {
+    9 << 32
+}
+
+/// The same.
+#[no_mangle]
+pub extern "C" fn florumeja_check_partial(_: *const u8, _: usize, _: *const u8, _: usize) -> u64 {
+    9 << 32
 }

@@ -134,6 +134,74 @@ static void check_lines(void) {
     expect(is(florumeja_check_line(task_g, sizeof task_g, first, sizeof first, room, sizeof room), FLORUMEJA_DONE, 10) && memcmp(room, "refused 7\n", 10) == 0, "G's line for a checker");
 }
 
+/* Two variables of two values, the first silent, from 0 0 to a 1 for the second; feature 7, which is 1 1, is exclusive. The built task has three values for
+ * each, its goal is 2 1 and the pair's number is 10. By the letter it forgets the first from 0 alone, since 1 is exclusive with the named 1, and the second
+ * from both. The lean one forgets the first from 0 and nothing else. */
+static const uint8_t partial[] = {2, 2, 2, 0, 1, 0, 0, 1, 1, 7, 0};
+static const uint8_t built[] = {2, 3, 3, 0, 0, 2, 1, 1, 10, 3, 1, 0, 0, 2, 1, 1, 0, 2, 1, 1, 1, 2, 7};
+static const uint8_t lean[] = {2, 3, 3, 0, 0, 2, 1, 1, 10, 1, 1, 0, 0, 2, 7};
+
+static void partial_builds(void) {
+    const uint8_t marked[] = {2, 2, 2, 2}, unknown[] = {2, 2, 2, 0, 1, 0, 0, 2}, sized[] = {1, 64};
+    uint8_t room[sizeof partial + FLORUMEJA_BUILT_MORE];
+    memset(room, 7, sizeof room);
+    expect(refused(florumeja_build_partial(partial, sizeof partial, room, 21), FLORUMEJA_SMALL) && room[0] == 7, "21 bytes are too few for the built task");
+    expect(is(florumeja_build_partial(partial, sizeof partial, room, sizeof room), FLORUMEJA_DONE, 22) && SAME(room, built), "the built task by the letter");
+    memset(room, 7, sizeof room);
+    expect(refused(florumeja_build_partial_lean(partial, sizeof partial, room, 13), FLORUMEJA_SMALL) && room[0] == 7, "13 bytes are too few for the lean one");
+    expect(is(florumeja_build_partial_lean(partial, sizeof partial, room, sizeof room), FLORUMEJA_DONE, 14) && SAME(room, lean), "the lean built task");
+    expect(refused(florumeja_build_partial(marked, sizeof marked, room, 0), FLORUMEJA_RANGE), "a mark of 2: refused 3");
+    expect(refused(florumeja_build_partial(unknown, sizeof unknown, room, 0), FLORUMEJA_RANGE), "\"unknown\" can't be named: refused 3");
+    expect(refused(florumeja_build_partial_lean(sized, sizeof sized, room, 0), FLORUMEJA_LIMIT), "a size of 64: refused 2");
+    expect(refused(florumeja_build_partial_lean(partial, sizeof partial - 1, room, sizeof room), FLORUMEJA_BAD_NUMBER) && SAME(room, lean), "a byte short: refused 1");
+}
+
+/* 15 features, so 8 words before 15 slots of one word. The last bytes of both built tasks above are room that stays. */
+static void partial_workspaces(void) {
+    uint64_t room[24], other[24], answer[1] = {9};
+    const uint64_t head[] = {2, 3, 3, 0, 0, 2, 1, 1024};
+    memset(room, 0, sizeof room);
+    memset(other, 0, sizeof other);
+    expect(refused(florumeja_open_partial(partial, sizeof partial, room, 22), FLORUMEJA_SMALL) && room[0] == 0, "22 words are too few");
+    expect(is(florumeja_open_partial(partial, sizeof partial, room, 24), FLORUMEJA_DONE, 23) && SAME(room, head), "a partial file is opened");
+    expect(is(florumeja_open(built, sizeof built - 1, other, 24), FLORUMEJA_DONE, 23) && SAME(room, other), "with the words of its built task");
+    expect(is(florumeja_find(room, 24, answer, 1), FLORUMEJA_NONE, 0) && answer[0] == 9, "by the letter both ends lead to all unknown");
+    expect(is(florumeja_open(lean, sizeof lean - 1, room, 24), FLORUMEJA_DONE, 23), "the lean built task is opened");
+    expect(is(florumeja_find(room, 24, answer, 1), FLORUMEJA_DONE, 0) && answer[0] == 8, "the second variable's 0, feature 3, separates");
+}
+
+/* Operators 1 and 2 forget the second variable. From 1 0 the first is never forgotten. */
+static void partial_checks(void) {
+    const uint8_t held[] = {2, 2, 2, 0, 1, 1, 0, 1, 1, 7, 0}, start[] = {2, 2, 2, 0, 1, 1, 1, 1, 1, 7, 0};
+    const uint8_t first[] = {1, 1}, second[] = {1, 3}, past[] = {1, 15};
+    expect(is(florumeja_check_partial(held, sizeof held, first, sizeof first), FLORUMEJA_DONE, 0), "the first variable's 1 is accepted");
+    expect(is(florumeja_check_partial(partial, sizeof partial, first, sizeof first), FLORUMEJA_ENDS_ALIKE, 0), "ends alike");
+    expect(is(florumeja_check_partial(partial, sizeof partial, second, sizeof second), FLORUMEJA_OPERATOR, 1), "forgetting the second variable's 0");
+    expect(is(florumeja_check(lean, sizeof lean - 1, second, sizeof second), FLORUMEJA_DONE, 0), "which the lean task does not");
+    expect(refused(florumeja_check_partial(partial, sizeof partial, past, sizeof past), FLORUMEJA_RANGE), "feature 15 of 15: refused 3");
+    expect(refused(florumeja_check_partial(start, sizeof start, first, sizeof first), FLORUMEJA_HELD), "a start that holds the pair: refused 6");
+}
+
+/* The operator of `idle` is idle, since the one value of variable 1 is exclusive with what it needs of variable 0. With "unknown" for variable 1 it is not,
+ * and it makes a value of variable 0 that is exclusive with a value of variable 2. */
+static void silences(void) {
+    static const uint8_t task[] = {2, 2, 2, 0, 0, 0, 1, 1, 7, 0}, wide[] = {2, 64, 62, 0, 0, 0, 1, 0, 0};
+    static const uint8_t idle[] = {3, 2, 1, 2, 1, 0, 1, 0, 0, 1, 2, 5, 9, 1, 1, 0, 0, 1};
+    const uint8_t marks[] = {0, 1, 1}, above[] = {0, 2};
+    uint8_t room[sizeof idle + FLORUMEJA_SILENCED_MORE];
+    uint64_t words[1];
+    memset(room, 7, sizeof room);
+    expect(refused(florumeja_silence(task, sizeof task, marks, 2, room, 10), FLORUMEJA_SMALL) && room[0] == 7, "10 bytes are too few for the partial file");
+    expect(is(florumeja_silence(task, sizeof task, marks, 2, room, sizeof room), FLORUMEJA_DONE, 11) && SAME(room, partial), "the partial file");
+    expect(refused(florumeja_silence(task, sizeof task, marks, 1, room, 0), FLORUMEJA_RANGE), "one mark for two variables: refused 3");
+    expect(refused(florumeja_silence(task, sizeof task, marks, 3, room, 0), FLORUMEJA_RANGE), "three marks for two variables: refused 3");
+    expect(refused(florumeja_silence(task, sizeof task, above, 2, room, 0), FLORUMEJA_RANGE), "a mark of 2 beside a task: refused 3");
+    expect(refused(florumeja_silence(task_g, sizeof task_g, above, 2, room, 0), FLORUMEJA_UNCLOSED), "the task is judged before the marks: refused 7");
+    expect(refused(florumeja_silence(wide, sizeof wide, marks, 2, room, 0), FLORUMEJA_LIMIT) && SAME(room, partial), "no room for \"unknown\": refused 2 before 8");
+    expect(is(florumeja_silence(idle, sizeof idle, marks, 3, room, sizeof room), FLORUMEJA_DONE, 20), "a task with an idle operator");
+    expect(refused(florumeja_open_partial(room, 20, words, 1), FLORUMEJA_UNCLOSED), "which is not idle in the built task: refused 7");
+}
+
 /* As many operators as a file can count, 16,383: the last one alone, lift, breaks {0}, and its line is the longest. The others set variable 1 from
  * 0 to 0. */
 static void longest_check_line(void) {
@@ -156,6 +224,10 @@ int main(void) {
     edits();
     builds_and_lines();
     weight_files();
+    partial_builds();
+    partial_workspaces();
+    partial_checks();
+    silences();
     printf("%d passed, %d failed\n", passed, failed);
     return failed != 0;
 }

@@ -1,12 +1,15 @@
 //! The ways to fill the slots that an order does not name.
 
 use super::Bay;
+use std::collections::HashSet;
 
 impl Bay {
     /// The labels that the order does not name, increasing.
     pub fn left(&self) -> Vec<usize> {
-        let named = |label: &usize| self.goal.contains(&Some(*label));
-        (0..self.slots()).filter(|label| !named(label)).collect()
+        // A text may have many rows before the library refuses it.
+        let named: HashSet<usize> = self.goal.iter().copied().flatten().collect();
+        let left = |label: &usize| !named.contains(label);
+        (0..self.slots()).filter(left).collect()
     }
 
     /// The goal with these labels in the silent slots, one after the other.

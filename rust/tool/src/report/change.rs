@@ -22,7 +22,7 @@ impl Change {
     /// How many listed features change that name no slot but those of the step.
     pub fn own(&self, listed: &Listed) -> usize {
         let singles = self.atoms().map(Feature::Single);
-        let pairs = [&self.before, &self.after].into_iter().flat_map(both);
+        let pairs = [&*self.before, &*self.after].into_iter().filter_map(both);
         let changing = singles.chain(pairs);
         changing.filter(|feature| listed.has(*feature)).count()
     }
@@ -41,8 +41,8 @@ impl Change {
 }
 
 // The pair of two atoms; one atom alone has none.
-fn both(atoms: &Vec<Atom>) -> Option<Feature> {
-    match atoms[..] {
+fn both(atoms: &[Atom]) -> Option<Feature> {
+    match *atoms {
         [one, two] => Some(Feature::pair(one, two)),
         _ => None,
     }

@@ -1,5 +1,8 @@
 //! The main question: is the order for a bay impossible?
 
+#[cfg(test)]
+mod tests;
+
 use crate::bay::Bay;
 use crate::bay_text::BayText;
 use crate::fault::Fault;
@@ -76,9 +79,13 @@ pub struct Proof {
     pub true_at_goal: Vec<usize>,
 }
 
-/// Builds, opens, finds and checks; each step is a proved call.
+/// Asks about the bay in a file.
 pub fn ask(name: &OsStr) -> Result<Answered, Fault> {
-    let text = BayText::read(&files::read_text(name)?)?;
+    ask_text(&BayText::read(&files::read_text(name)?)?)
+}
+
+// Builds, opens, finds and checks; each step is a proved call.
+fn ask_text(text: &BayText) -> Result<Answered, Fault> {
     let bay = text.bay();
     let task = library::build(&bay.file()).map_err(|fault| text.place(fault))?;
     if bay.is_full() {

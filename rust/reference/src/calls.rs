@@ -3,9 +3,10 @@
 use crate::bay::read_bay;
 use crate::feature_set::{words_for, FeatureSet};
 use crate::line::{check_line as checker_line, line as finder_line};
+use crate::partial::{read_built, silenced, LeftOut};
 use crate::refusal::Refusal;
-use crate::separation::{judged, Verdict};
-use crate::task::{read_task, MOST_FEATURES};
+use crate::separation::{judged, judged_task, Verdict};
+use crate::task::{read_task, Task, MOST_FEATURES};
 use crate::weights::weight_file as file_of;
 use crate::workspace::{Record, Workspace};
 
@@ -35,33 +36,33 @@ fn settle(result: Result<u64, Refusal>) -> u64 {
     result.unwrap_or_else(refused)
 }
 
-/// Copies what is due into lent room, and leaves the rest of the room.
-fn fill<Item: Copy>(room: &mut [Item], due: &[Item]) -> Result<(), Refusal> {
+/// Copies what is due into lent room, leaves the rest of the room, and tells how much was due.
+fn fill<Item: Copy>(room: &mut [Item], due: &[Item]) -> Result<u64, Refusal> {
     let (filled, _) = room.split_at_mut_checked(due.len()).ok_or(Refusal::Room)?;
     filled.copy_from_slice(due);
-    Ok(())
+    Ok(done(due.len()))
 }
 
 pub fn check(task: &[u8], weights: &[u8]) -> u64 {
-    settle(try_check(task, weights))
+    settle(judged(task, weights).map(told))
 }
 
-fn try_check(task: &[u8], weights: &[u8]) -> Result<u64, Refusal> {
-    Ok(match judged(task, weights)? {
+/// A verdict's number.
+fn told(verdict: Verdict) -> u64 {
+    match verdict {
         Verdict::Accepted => done(0),
         Verdict::EndsAlike => denied(),
         Verdict::Operator(place) => broken(place),
-    })
+    }
 }
 
 pub fn open(task: &[u8], room: &mut [u64]) -> u64 {
-    settle(try_open(task, room))
+    settle(read_task(task).and_then(|task| opened(&task, room)))
 }
 
-fn try_open(task: &[u8], room: &mut [u64]) -> Result<u64, Refusal> {
-    let words = Workspace::of(&read_task(task)?).words();
-    fill(room, &words)?;
-    Ok(done(words.len()))
+/// The words of an accepted task, in lent room.
+fn opened(task: &Task, room: &mut [u64]) -> Result<u64, Refusal> {
+    fill(room, &Workspace::of(task).words())
 }
 
 pub fn find(workspace: &[u64], room: &mut [u64]) -> u64 {
@@ -114,13 +115,32 @@ pub fn replace_goal(words: &mut [u64], values: &[u64]) -> u64 {
 }
 
 pub fn build(bay: &[u8], room: &mut [u8]) -> u64 {
-    settle(try_build(bay, room))
+    settle(read_bay(bay).and_then(|bay| fill(room, &bay.task().file())))
 }
 
-fn try_build(bay: &[u8], room: &mut [u8]) -> Result<u64, Refusal> {
-    let file = read_bay(bay)?.task().file();
-    fill(room, &file)?;
-    Ok(done(file.len()))
+pub fn open_partial(partial: &[u8], room: &mut [u64]) -> u64 {
+    let built = read_built(partial, LeftOut::ByLetter);
+    settle(built.and_then(|task| opened(&task, room)))
+}
+
+pub fn check_partial(partial: &[u8], weights: &[u8]) -> u64 {
+    let built = read_built(partial, LeftOut::ByLetter);
+    settle(built.and_then(|task| judged_task(&task, weights).map(told)))
+}
+
+pub fn build_partial(partial: &[u8], room: &mut [u8]) -> u64 {
+    let built = read_built(partial, LeftOut::ByLetter);
+    settle(built.and_then(|task| fill(room, &task.file())))
+}
+
+pub fn build_partial_lean(partial: &[u8], room: &mut [u8]) -> u64 {
+    let built = read_built(partial, LeftOut::Lean);
+    settle(built.and_then(|task| fill(room, &task.file())))
+}
+
+pub fn silence(task: &[u8], marks: &[u8], room: &mut [u8]) -> u64 {
+    let partial = read_task(task).and_then(|task| silenced(&task, marks));
+    settle(partial.and_then(|partial| fill(room, &partial.file())))
 }
 
 pub fn line(input: &[u8], room: &mut [u8]) -> u64 {
@@ -133,7 +153,7 @@ pub fn check_line(task: &[u8], weights: &[u8], room: &mut [u8]) -> u64 {
 
 /// Puts a line into lent room.
 fn deliver(text: &str, room: &mut [u8]) -> u64 {
-    settle(fill(room, text.as_bytes()).map(|()| done(text.len())))
+    settle(fill(room, text.as_bytes()))
 }
 
 pub fn weight_file(words: &[u64], room: &mut [u8]) -> u64 {
@@ -146,7 +166,5 @@ fn try_weight_file(words: &[u64], room: &mut [u8]) -> Result<u64, Refusal> {
     if weights.highest().is_some_and(|last| last >= MOST_FEATURES) {
         return Err(Refusal::Range);
     }
-    let file = file_of(&weights);
-    fill(room, &file)?;
-    Ok(done(file.len()))
+    fill(room, &file_of(&weights))
 }

@@ -1,4 +1,4 @@
-//! Reference implementation of the task library, written from document 01 alone.
+//! Reference implementation of the task library, written from documents 01 and 02 alone.
 //!
 //! It favours the definitions: small tasks are judged by enumerating states and sets. Larger
 //! tasks use other routes, which the tests hold against the enumerations.
@@ -12,6 +12,7 @@ pub mod forced;
 pub mod line;
 pub mod numbers;
 pub mod operators;
+pub mod partial;
 pub mod refusal;
 pub mod sample;
 pub mod search;

@@ -1,5 +1,7 @@
 //! Breadth-first search, to hold answers against what can be reached.
 
+use crate::operators::Operator;
+use crate::partial::Partial;
 use crate::task::Task;
 use std::collections::{HashSet, VecDeque};
 
@@ -30,7 +32,11 @@ where
 
 /// The states that one operator of a task leads to.
 pub fn successors(task: &Task, state: &[usize]) -> Vec<Vec<usize>> {
-    task.operators
+    led_to(&task.operators, state)
+}
+
+fn led_to(operators: &[Operator], state: &[usize]) -> Vec<Vec<usize>> {
+    operators
         .iter()
         .filter(|operator| operator.applies(state))
         .map(|operator| operator.applied(state))
@@ -39,4 +45,12 @@ pub fn successors(task: &Task, state: &[usize]) -> Vec<Vec<usize>> {
 
 pub fn solvable(task: &Task) -> bool {
     reaches(&task.start, &task.goal, |state| successors(task, state))
+}
+
+/// Whether the operators of a partial file, without any forgetting, lead to a state that meets its
+/// order.
+pub fn can_meet(partial: &Partial) -> bool {
+    reached(&partial.start, |state| led_to(&partial.operators, state))
+        .iter()
+        .any(|state| partial.met_by(state))
 }

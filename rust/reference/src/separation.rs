@@ -1,7 +1,7 @@
 //! When weights separate, and the checker's verdict.
 
 use crate::feature_set::FeatureSet;
-use crate::features::Features;
+use crate::features::{count_features, Features};
 use crate::operators::{
     changes_from, combined_states, deviating_states, few_states, Operator, Pairing,
 };
@@ -74,7 +74,11 @@ pub fn separates(task: &Task, weights: &FeatureSet) -> bool {
 
 /// The verdict on two files: the weights are read after a fully accepted task.
 pub fn judged(task: &[u8], weights: &[u8]) -> Result<Verdict, Refusal> {
-    let task = read_task(task)?;
-    let weights = read_weights(weights, task.pairing().features.count())?;
-    Ok(verdict(&task, &weights))
+    judged_task(&read_task(task)?, weights)
+}
+
+/// The verdict of an accepted task on a weight file.
+pub fn judged_task(task: &Task, weights: &[u8]) -> Result<Verdict, Refusal> {
+    let weights = read_weights(weights, count_features(&task.sizes))?;
+    Ok(verdict(task, &weights))
 }

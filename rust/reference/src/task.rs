@@ -30,21 +30,27 @@ impl Task {
         numbers.extend(&self.sizes);
         numbers.extend(&self.start);
         numbers.extend(&self.goal);
-        numbers.push(self.pairs.len());
-        numbers.extend(&self.pairs);
-        numbers.push(self.operators.len());
-        for operator in &self.operators {
-            numbers.push(operator.entries.len());
-            for entry in &operator.entries {
-                numbers.extend([entry.variable, entry.before, entry.after]);
-            }
-        }
+        numbers.extend(tail_numbers(&self.pairs, &self.operators));
         numbers
     }
 
     pub fn file(&self) -> Vec<u8> {
         encode(&self.numbers())
     }
+}
+
+/// The numbers that stand behind the states: pairs, then operators.
+pub(crate) fn tail_numbers(pairs: &[usize], operators: &[Operator]) -> Vec<usize> {
+    let mut numbers = vec![pairs.len()];
+    numbers.extend(pairs);
+    numbers.push(operators.len());
+    for operator in operators {
+        numbers.push(operator.entries.len());
+        for entry in &operator.entries {
+            numbers.extend([entry.variable, entry.before, entry.after]);
+        }
+    }
+    numbers
 }
 
 /// Reads a task file; the first fault in document 01's order decides.
@@ -84,14 +90,17 @@ fn read_sizes(reader: &mut Reader) -> Result<Vec<usize>, Refusal> {
     Ok(sizes)
 }
 
-fn read_state(reader: &mut Reader, sizes: &[usize]) -> Result<State, Refusal> {
+pub(crate) fn read_state(reader: &mut Reader, sizes: &[usize]) -> Result<State, Refusal> {
     sizes
         .iter()
         .map(|size| reader.number_within(&(0..*size), Refusal::Range))
         .collect()
 }
 
-fn read_operators(reader: &mut Reader, sizes: &[usize]) -> Result<Vec<Operator>, Refusal> {
+pub(crate) fn read_operators(
+    reader: &mut Reader,
+    sizes: &[usize],
+) -> Result<Vec<Operator>, Refusal> {
     let count = reader.number()?;
     (0..count).map(|_| read_operator(reader, sizes)).collect()
 }
@@ -115,7 +124,7 @@ fn read_operator(reader: &mut Reader, sizes: &[usize]) -> Result<Operator, Refus
     Ok(Operator { entries })
 }
 
-fn judge_pairs(task: &Task) -> Result<(), Refusal> {
+pub(crate) fn judge_pairs(task: &Task) -> Result<(), Refusal> {
     let pairing = task.pairing();
     if pairing.held_by(&task.start) {
         return Err(Refusal::StartHoldsPair);

@@ -274,12 +274,10 @@ pub fn loose_task(generator: &mut Generator, sizes: &[usize], most_operators: us
     }
 }
 
-/// Drops the pairs that the start holds.
-fn free_start(task: &mut Task) {
-    let features = Features::new(&task.sizes);
-    let start = task.start.clone();
-    task.pairs
-        .retain(|pair| !features.feature(*pair).holds(&start));
+/// Drops the pairs that a start holds.
+pub(super) fn free_start(sizes: &[usize], start: &[usize], pairs: &mut Vec<usize>) {
+    let features = Features::new(sizes);
+    pairs.retain(|pair| !features.feature(*pair).holds(start));
 }
 
 /// The pairs by which a list isn't closed under an operator.
@@ -306,26 +304,25 @@ fn open_pairs(pairing: &Pairing, operator: &Operator) -> Vec<usize> {
     open
 }
 
+/// The pairs by which a task's list isn't closed under the first such operator.
+pub(super) fn first_open_pairs(task: &Task) -> Option<Vec<usize>> {
+    let pairing = task.pairing();
+    let mut operators = task.operators.iter();
+    let open = operators.find(|operator| !pairing.closed(operator))?;
+    Some(open_pairs(&pairing, open))
+}
+
 /// Drops pairs until the list is closed under every operator.
 fn close_pairs(task: &mut Task) {
-    loop {
-        let pairing = task.pairing();
-        let open = task
-            .operators
-            .iter()
-            .find(|operator| !pairing.closed(operator))
-            .map(|operator| open_pairs(&pairing, operator));
-        match open {
-            Some(open) => task.pairs.retain(|pair| !open.contains(pair)),
-            None => return,
-        }
+    while let Some(open) = first_open_pairs(task) {
+        task.pairs.retain(|pair| !open.contains(pair));
     }
 }
 
 /// A task that is accepted: pairs are dropped, or operators that they aren't closed under.
 pub fn accepted_task(generator: &mut Generator, sizes: &[usize], most_operators: usize) -> Task {
     let mut task = loose_task(generator, sizes, most_operators);
-    free_start(&mut task);
+    free_start(&task.sizes, &task.start, &mut task.pairs);
     if generator.once_in(2) {
         close_pairs(&mut task);
     } else {

@@ -59,34 +59,60 @@ impl Both<'_> {
         self.tally.judge(&comparison, expected, found);
     }
 
-    pub fn check(&mut self, task: &[u8], weights: &[u8]) -> u64 {
-        let expected = Outcome::<u8>::of(&[], |_| calls::check(task, weights));
-        let (lent_task, lent_weights) = (Lent::new(task), Lent::new(weights));
-        let found = Outcome::of(&[], |_| library::check(&lent_task, &lent_weights));
-        let kept = lent_task.still_holds(task) && lent_weights.still_holds(weights);
-        let inputs = || vec![("task", shown(task)), ("weights", shown(weights))];
-        self.judge("check", &inputs, &expected, &found, kept);
+    /// A call that reads two files and hands back a number.
+    fn judged(
+        &mut self,
+        kind: &'static str,
+        names: [&'static str; 2],
+        [one, other]: [&[u8]; 2],
+        reference: fn(&[u8], &[u8]) -> u64,
+        library: fn(&Lent<u8>, &Lent<u8>) -> u64,
+    ) -> u64 {
+        let expected = Outcome::<u8>::of(&[], |_| reference(one, other));
+        let lent = (Lent::new(one), Lent::new(other));
+        let found = Outcome::of(&[], |_| library(&lent.0, &lent.1));
+        let kept = lent.0.still_holds(one) && lent.1.still_holds(other);
+        let inputs = || vec![(names[0], shown(one)), (names[1], shown(other))];
+        self.judge(kind, &inputs, &expected, &found, kept);
         expected.number
     }
 
-    pub fn open(&mut self, task: &[u8], room: &[u64]) -> Outcome<u64> {
-        let expected = Outcome::of(room, |room| calls::open(task, room));
-        let input = Lent::new(task);
-        let (found, guards) = guarded(room, |room| library::open(&input, room));
-        let kept = guards && input.still_holds(task);
-        let inputs = || vec![("task", shown(task)), ("room", shown(room))];
-        self.judge("open", &inputs, &expected, &found, kept);
+    /// A call that reads one slice and writes into room.
+    fn filled<From: Item, Into: Item>(
+        &mut self,
+        kind: &'static str,
+        (name, input): (&'static str, &[From]),
+        room: &[Into],
+        reference: fn(&[From], &mut [Into]) -> u64,
+        library: fn(&Lent<From>, &mut Lent<Into>) -> u64,
+    ) -> Outcome<Into> {
+        let expected = Outcome::of(room, |room| reference(input, room));
+        let lent = Lent::new(input);
+        let (found, guards) = guarded(room, |room| library(&lent, room));
+        let kept = guards && lent.still_holds(input);
+        let inputs = || vec![(name, shown(input)), ("room", shown(room))];
+        self.judge(kind, &inputs, &expected, &found, kept);
         expected
     }
 
+    pub fn check(&mut self, task: &[u8], weights: &[u8]) -> u64 {
+        let names = ["task", "weights"];
+        self.judged(
+            "check",
+            names,
+            [task, weights],
+            calls::check,
+            library::check,
+        )
+    }
+
+    pub fn open(&mut self, task: &[u8], room: &[u64]) -> Outcome<u64> {
+        self.filled("open", ("task", task), room, calls::open, library::open)
+    }
+
     pub fn find(&mut self, workspace: &[u64], room: &[u64]) -> Outcome<u64> {
-        let expected = Outcome::of(room, |room| calls::find(workspace, room));
-        let input = Lent::new(workspace);
-        let (found, guards) = guarded(room, |room| library::find(&input, room));
-        let kept = guards && input.still_holds(workspace);
-        let inputs = || vec![("workspace", shown(workspace)), ("room", shown(room))];
-        self.judge("find", &inputs, &expected, &found, kept);
-        expected
+        let input = ("workspace", workspace);
+        self.filled("find", input, room, calls::find, library::find)
     }
 
     pub fn add_operator(&mut self, workspace: &[u64], record: &Record) -> Outcome<u64> {
@@ -132,13 +158,7 @@ impl Both<'_> {
     }
 
     pub fn build(&mut self, bay: &[u8], room: &[u8]) -> Outcome<u8> {
-        let expected = Outcome::of(room, |room| calls::build(bay, room));
-        let input = Lent::new(bay);
-        let (found, guards) = guarded(room, |room| library::build(&input, room));
-        let kept = guards && input.still_holds(bay);
-        let inputs = || vec![("bay", shown(bay)), ("room", shown(room))];
-        self.judge("build", &inputs, &expected, &found, kept);
-        expected
+        self.filled("build", ("bay", bay), room, calls::build, library::build)
     }
 
     pub fn line(&mut self, input: &[u8], room: &[u8]) -> Outcome<u8> {
@@ -157,13 +177,8 @@ impl Both<'_> {
     }
 
     pub fn weight_file(&mut self, words: &[u64], room: &[u8]) -> Outcome<u8> {
-        let expected = Outcome::of(room, |room| calls::weight_file(words, room));
-        let input = Lent::new(words);
-        let (found, guards) = guarded(room, |room| library::weight_file(&input, room));
-        let kept = guards && input.still_holds(words);
-        let inputs = || vec![("words", shown(words)), ("room", shown(room))];
-        self.judge("weight_file", &inputs, &expected, &found, kept);
-        expected
+        let (reference, library) = (calls::weight_file, library::weight_file);
+        self.filled("weight_file", ("words", words), room, reference, library)
     }
 
     pub fn check_line(&mut self, task: &[u8], weights: &[u8], room: &[u8]) -> Outcome<u8> {
@@ -185,6 +200,67 @@ impl Both<'_> {
             outside_kept: guards && lent.0.still_holds(task) && lent.1.still_holds(weights),
         };
         self.tally.judge(&comparison, &expected, &found);
+        expected
+    }
+
+    pub fn open_partial(&mut self, partial: &[u8], room: &[u64]) -> Outcome<u64> {
+        let (reference, library) = (calls::open_partial, library::open_partial);
+        self.filled(
+            "open_partial",
+            ("partial", partial),
+            room,
+            reference,
+            library,
+        )
+    }
+
+    pub fn check_partial(&mut self, partial: &[u8], weights: &[u8]) -> u64 {
+        let names = ["partial", "weights"];
+        let (reference, library) = (calls::check_partial, library::check_partial);
+        self.judged(
+            "check_partial",
+            names,
+            [partial, weights],
+            reference,
+            library,
+        )
+    }
+
+    pub fn build_partial(&mut self, partial: &[u8], room: &[u8]) -> Outcome<u8> {
+        let (reference, library) = (calls::build_partial, library::build_partial);
+        self.filled(
+            "build_partial",
+            ("partial", partial),
+            room,
+            reference,
+            library,
+        )
+    }
+
+    pub fn build_partial_lean(&mut self, partial: &[u8], room: &[u8]) -> Outcome<u8> {
+        let (reference, library) = (calls::build_partial_lean, library::build_partial_lean);
+        self.filled(
+            "build_partial_lean",
+            ("partial", partial),
+            room,
+            reference,
+            library,
+        )
+    }
+
+    pub fn silence(&mut self, task: &[u8], marks: &[u8], room: &[u8]) -> Outcome<u8> {
+        let expected = Outcome::of(room, |room| calls::silence(task, marks, room));
+        let lent = (Lent::new(task), Lent::new(marks));
+        let (found, guards) = guarded(room, |room| library::silence(&lent.0, &lent.1, room));
+        let kept = guards && lent.0.still_holds(task) && lent.1.still_holds(marks);
+        let inputs = || {
+            vec![
+                ("task", shown(task)),
+                ("marks", shown(marks)),
+                ("room", shown(room)),
+            ]
+        };
+        self.judge("silence", &inputs, &expected, &found, kept);
         expected
     }
 

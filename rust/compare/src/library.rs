@@ -1,6 +1,6 @@
 //! The library's functions as they are exported, and safe wrappers over them.
 
-use crate::lent::Lent;
+use crate::lent::{Item, Lent};
 
 // In C a slice is a pointer and then a length.
 extern "C" {
@@ -67,42 +67,94 @@ extern "C" {
         room: *mut u8,
         room_length: usize,
     ) -> u64;
+    fn florumeja_open_partial(
+        partial: *const u8,
+        partial_length: usize,
+        room: *mut u64,
+        room_length: usize,
+    ) -> u64;
+    fn florumeja_check_partial(
+        partial: *const u8,
+        partial_length: usize,
+        weights: *const u8,
+        weights_length: usize,
+    ) -> u64;
+    fn florumeja_build_partial(
+        partial: *const u8,
+        partial_length: usize,
+        room: *mut u8,
+        room_length: usize,
+    ) -> u64;
+    fn florumeja_build_partial_lean(
+        partial: *const u8,
+        partial_length: usize,
+        room: *mut u8,
+        room_length: usize,
+    ) -> u64;
+    fn florumeja_silence(
+        task: *const u8,
+        task_length: usize,
+        marks: *const u8,
+        marks_length: usize,
+        room: *mut u8,
+        room_length: usize,
+    ) -> u64;
+}
+
+/// A call that reads two slices of bytes.
+type Judging = unsafe extern "C" fn(*const u8, usize, *const u8, usize) -> u64;
+
+/// A call that reads one slice and writes into another.
+type Filling<From, Into> = unsafe extern "C" fn(*const From, usize, *mut Into, usize) -> u64;
+
+/// A call that reads two slices of bytes and writes into a third.
+type Writing = unsafe extern "C" fn(*const u8, usize, *const u8, usize, *mut u8, usize) -> u64;
+
+fn judged(call: Judging, one: &Lent<u8>, other: &Lent<u8>) -> u64 {
+    // SAFETY: both slices are alive, and the call only reads them.
+    unsafe { call(one.pointer(), one.length(), other.pointer(), other.length()) }
+}
+
+fn filled<From: Item, Into: Item>(
+    call: Filling<From, Into>,
+    input: &Lent<From>,
+    room: &mut Lent<Into>,
+) -> u64 {
+    // SAFETY: both slices are alive and apart; only the room is lent for writing.
+    unsafe {
+        call(
+            input.pointer(),
+            input.length(),
+            room.pointer_for_writing(),
+            room.length(),
+        )
+    }
+}
+
+fn written(call: Writing, one: &Lent<u8>, other: &Lent<u8>, room: &mut Lent<u8>) -> u64 {
+    // SAFETY: all slices are alive and apart; only the room is lent for writing.
+    unsafe {
+        call(
+            one.pointer(),
+            one.length(),
+            other.pointer(),
+            other.length(),
+            room.pointer_for_writing(),
+            room.length(),
+        )
+    }
 }
 
 pub fn check(task: &Lent<u8>, weights: &Lent<u8>) -> u64 {
-    // SAFETY: both slices are alive, and the call only reads them.
-    unsafe {
-        florumeja_check(
-            task.pointer(),
-            task.length(),
-            weights.pointer(),
-            weights.length(),
-        )
-    }
+    judged(florumeja_check, task, weights)
 }
 
 pub fn open(task: &Lent<u8>, room: &mut Lent<u64>) -> u64 {
-    // SAFETY: both slices are alive and apart; only the room is lent for writing.
-    unsafe {
-        florumeja_open(
-            task.pointer(),
-            task.length(),
-            room.pointer_for_writing(),
-            room.length(),
-        )
-    }
+    filled(florumeja_open, task, room)
 }
 
 pub fn find(workspace: &Lent<u64>, room: &mut Lent<u64>) -> u64 {
-    // SAFETY: both slices are alive and apart; only the room is lent for writing.
-    unsafe {
-        florumeja_find(
-            workspace.pointer(),
-            workspace.length(),
-            room.pointer_for_writing(),
-            room.length(),
-        )
-    }
+    filled(florumeja_find, workspace, room)
 }
 
 pub fn add_operator(
@@ -153,51 +205,37 @@ pub fn replace_goal(workspace: &mut Lent<u64>, values: &Lent<u64>) -> u64 {
 }
 
 pub fn build(bay: &Lent<u8>, room: &mut Lent<u8>) -> u64 {
-    // SAFETY: both slices are alive and apart; only the room is lent for writing.
-    unsafe {
-        florumeja_build(
-            bay.pointer(),
-            bay.length(),
-            room.pointer_for_writing(),
-            room.length(),
-        )
-    }
+    filled(florumeja_build, bay, room)
 }
 
 pub fn line(input: &Lent<u8>, room: &mut Lent<u8>) -> u64 {
-    // SAFETY: both slices are alive and apart; only the room is lent for writing.
-    unsafe {
-        florumeja_line(
-            input.pointer(),
-            input.length(),
-            room.pointer_for_writing(),
-            room.length(),
-        )
-    }
+    filled(florumeja_line, input, room)
 }
 
 pub fn weight_file(words: &Lent<u64>, room: &mut Lent<u8>) -> u64 {
-    // SAFETY: both slices are alive and apart; only the room is lent for writing.
-    unsafe {
-        florumeja_weight_file(
-            words.pointer(),
-            words.length(),
-            room.pointer_for_writing(),
-            room.length(),
-        )
-    }
+    filled(florumeja_weight_file, words, room)
 }
 
 pub fn check_line(task: &Lent<u8>, weights: &Lent<u8>, room: &mut Lent<u8>) -> u64 {
-    // SAFETY: all slices are alive and apart; only the room is lent for writing.
-    unsafe {
-        florumeja_check_line(
-            task.pointer(),
-            task.length(),
-            weights.pointer(),
-            weights.length(),
-            room.pointer_for_writing(),
-            room.length(),
-        )
-    }
+    written(florumeja_check_line, task, weights, room)
+}
+
+pub fn open_partial(partial: &Lent<u8>, room: &mut Lent<u64>) -> u64 {
+    filled(florumeja_open_partial, partial, room)
+}
+
+pub fn check_partial(partial: &Lent<u8>, weights: &Lent<u8>) -> u64 {
+    judged(florumeja_check_partial, partial, weights)
+}
+
+pub fn build_partial(partial: &Lent<u8>, room: &mut Lent<u8>) -> u64 {
+    filled(florumeja_build_partial, partial, room)
+}
+
+pub fn build_partial_lean(partial: &Lent<u8>, room: &mut Lent<u8>) -> u64 {
+    filled(florumeja_build_partial_lean, partial, room)
+}
+
+pub fn silence(task: &Lent<u8>, marks: &Lent<u8>, room: &mut Lent<u8>) -> u64 {
+    written(florumeja_silence, task, marks, room)
 }

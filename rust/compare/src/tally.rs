@@ -5,7 +5,7 @@ use std::collections::BTreeMap;
 use std::fmt::Write;
 
 /// The kinds of comparison, in the order of the report.
-pub const KINDS: [&str; 11] = [
+pub const KINDS: [&str; 16] = [
     "check",
     "open",
     "find",
@@ -17,6 +17,11 @@ pub const KINDS: [&str; 11] = [
     "weight_file",
     "check_line",
     "fresh",
+    "open_partial",
+    "check_partial",
+    "build_partial",
+    "build_partial_lean",
+    "silence",
 ];
 
 /// More items than this are shown only where they differ.

@@ -84,11 +84,61 @@ pub enum Fault {
     CutsAtRange,
     /// No room is refused before the range of features is judged.
     RoomBeforeRange,
+    /// By the letter a named variable's forgetting is left out where it is exclusive with a goal.
+    NamedForgotten,
+    /// By the letter nothing is left out.
+    ExclusiveKept,
+    /// Forgetting is left out where it is exclusive with a value of the start.
+    StartExclusive,
+    /// The lean call leaves out what the letter does, and no more.
+    LeanAsLetter,
+    /// The lean call leaves out named variables' forgetting only.
+    LeanKeepsExclusive,
+    /// Forgetting operators stand before the file's.
+    ForgettingFirst,
+    /// Forgetting operators stand by value and then by variable.
+    ForgettingByValue,
+    /// Pairs of a partial file keep their numbers.
+    PairsKeepNumbers,
+    /// The goal of a silent variable is its first value.
+    SilentGoalFirst,
+    /// The count of kept operators isn't judged.
+    CountUnjudged,
+    /// The count of kept operators is judged after the pairs.
+    CountAfterPairs,
+    /// Operators that are left out are counted too.
+    CountsLeftOut,
+    /// Pairs of a partial file are judged without "unknown".
+    PairsByOwnSizes,
+    /// Features of a partial file are limited by its own sizes.
+    FeaturesByOwnSizes,
+    /// A named goal value may be "unknown".
+    NamesUnknown,
+    /// A mark above 1 names its variable.
+    AnyMarkNames,
+    /// A refused call on a partial file, or a refused silencing, clears the room.
+    SpoilsRefusedPartial,
+    /// The checker's place leaves a partial file's own operators out.
+    FileUncounted,
+    /// Weights beside a partial file are limited by its own features.
+    WeightsByOwnSizes,
+    /// Marks that are too many are cut, and too few filled up.
+    MarksLengthUnjudged,
+    /// A byte above 1 among the marks names its variable.
+    AnyByteNames,
+    /// Marks are judged before the task.
+    MarksBeforeTask,
+    /// Silencing writes the goal values of silent variables too.
+    SilentGoalsWritten,
+    /// Silencing refuses what would be refused for its pairs.
+    SilencingJudgesBuilt,
+    /// Silencing doesn't judge the limits of what it writes.
+    SilencesTooLarge,
 }
 
 use Fault::*;
 
-pub const FAULTS: [Fault; 39] = [
+pub const FAULTS: [Fault; 64] = [
     AcceptsAlike,
     CountsLiveOperators,
     LastOperator,
@@ -128,6 +178,31 @@ pub const FAULTS: [Fault; 39] = [
     LeavesFeatureOut,
     CutsAtRange,
     RoomBeforeRange,
+    NamedForgotten,
+    ExclusiveKept,
+    StartExclusive,
+    LeanAsLetter,
+    LeanKeepsExclusive,
+    ForgettingFirst,
+    ForgettingByValue,
+    PairsKeepNumbers,
+    SilentGoalFirst,
+    CountUnjudged,
+    CountAfterPairs,
+    CountsLeftOut,
+    PairsByOwnSizes,
+    FeaturesByOwnSizes,
+    NamesUnknown,
+    AnyMarkNames,
+    SpoilsRefusedPartial,
+    FileUncounted,
+    WeightsByOwnSizes,
+    MarksLengthUnjudged,
+    AnyByteNames,
+    MarksBeforeTask,
+    SilentGoalsWritten,
+    SilencingJudgesBuilt,
+    SilencesTooLarge,
 ];
 
 thread_local! {

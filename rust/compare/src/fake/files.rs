@@ -61,13 +61,19 @@ fn lenient_pairs(bytes: &[u8]) -> Option<Task> {
     all.then_some(task)
 }
 
-/// Reads a task whose pairs are at fault, by reading it without them first.
-fn task_with_any_pairs(bytes: &[u8]) -> Option<Task> {
+/// The numbers of a file up to its end, or to the first that is badly formed.
+pub fn numbers_of(bytes: &[u8]) -> Vec<usize> {
     let mut reader = Reader::new(bytes);
     let mut numbers = Vec::new();
     while let Ok(number) = reader.number() {
         numbers.push(number as usize);
     }
+    numbers
+}
+
+/// Reads a task whose pairs are at fault, by reading it without them first.
+fn task_with_any_pairs(bytes: &[u8]) -> Option<Task> {
+    let mut numbers = numbers_of(bytes);
     let head = 1 + 3 * numbers[0];
     let listed: Vec<usize> = numbers.drain(head..=head + numbers[head]).skip(1).collect();
     numbers.insert(head, 0);

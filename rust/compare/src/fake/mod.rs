@@ -2,6 +2,7 @@
 
 mod faults;
 mod files;
+mod partials;
 mod words;
 mod written;
 
@@ -11,6 +12,7 @@ pub use faults::{plant, Fault, FAULTS};
 
 use faults::{planted, Fault::*};
 use files::{check, open};
+use partials::{build_partial, build_partial_lean, check_partial, open_partial, silence};
 use reference::workspace::Record;
 use words::{add_operator, find, replace_goal, replace_start};
 use written::{build, print, print_check, weight_file};
@@ -170,6 +172,71 @@ unsafe extern "C" fn florumeja_check_line(
     print_check(
         lent(task, task_length),
         lent(weights, weights_length),
+        lent_for_writing(room, room_length),
+    )
+}
+
+#[no_mangle]
+unsafe extern "C" fn florumeja_open_partial(
+    partial: *const u8,
+    partial_length: usize,
+    room: *mut u64,
+    room_length: usize,
+) -> u64 {
+    open_partial(
+        lent(partial, partial_length),
+        lent_for_writing(room, room_length),
+    )
+}
+
+#[no_mangle]
+unsafe extern "C" fn florumeja_check_partial(
+    partial: *const u8,
+    partial_length: usize,
+    weights: *const u8,
+    weights_length: usize,
+) -> u64 {
+    check_partial(lent(partial, partial_length), lent(weights, weights_length))
+}
+
+#[no_mangle]
+unsafe extern "C" fn florumeja_build_partial(
+    partial: *const u8,
+    partial_length: usize,
+    room: *mut u8,
+    room_length: usize,
+) -> u64 {
+    build_partial(
+        lent(partial, partial_length),
+        lent_for_writing(room, room_length),
+    )
+}
+
+#[no_mangle]
+unsafe extern "C" fn florumeja_build_partial_lean(
+    partial: *const u8,
+    partial_length: usize,
+    room: *mut u8,
+    room_length: usize,
+) -> u64 {
+    build_partial_lean(
+        lent(partial, partial_length),
+        lent_for_writing(room, room_length),
+    )
+}
+
+#[no_mangle]
+unsafe extern "C" fn florumeja_silence(
+    task: *const u8,
+    task_length: usize,
+    marks: *const u8,
+    marks_length: usize,
+    room: *mut u8,
+    room_length: usize,
+) -> u64 {
+    silence(
+        lent(task, task_length),
+        lent(marks, marks_length),
         lent_for_writing(room, room_length),
     )
 }

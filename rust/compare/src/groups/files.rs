@@ -18,7 +18,7 @@ fn answer(task: &Task) -> Option<FeatureSet> {
 }
 
 /// Right weights in several forms, and wrong ones close to them.
-fn some_weights(generator: &mut Generator, task: &Task) -> FeatureSet {
+pub(super) fn some_weights(generator: &mut Generator, task: &Task) -> FeatureSet {
     let count = count_features(&task.sizes);
     match generator.below(6) {
         0 => loose_weights(generator, count),
@@ -40,7 +40,7 @@ fn some_weights(generator: &mut Generator, task: &Task) -> FeatureSet {
 }
 
 /// Makes the ends differ by a feature that tells them apart, so that operators are judged.
-fn part_ends(generator: &mut Generator, task: &Task, weights: &mut FeatureSet) {
+pub(super) fn part_ends(generator: &mut Generator, task: &Task, weights: &mut FeatureSet) {
     let ends = task.pairing().features.changed(&task.start, &task.goal);
     let telling = ends.members();
     if !weights.meets_oddly(&ends) && !telling.is_empty() {

@@ -5,7 +5,9 @@ mod edits;
 mod files;
 mod large;
 mod lines;
+mod partials;
 mod sets;
+mod silenced;
 mod words;
 
 use crate::both::Both;
@@ -21,8 +23,8 @@ pub struct Group {
     pub run: fn(&mut Both, &mut Generator),
 }
 
-/// The counts make an optimised run take about a minute and a half.
-pub const GROUPS: [Group; 21] = [
+/// The counts make an optimised run take less than two minutes.
+pub const GROUPS: [Group; 32] = [
     Group {
         name: "weights",
         cases: 40_000,
@@ -127,6 +129,61 @@ pub const GROUPS: [Group; 21] = [
         name: "limits-of-sets",
         cases: 4_000,
         run: sets::limits,
+    },
+    Group {
+        name: "partials",
+        cases: 4_000,
+        run: partials::built,
+    },
+    Group {
+        name: "partial-weights",
+        cases: 8_000,
+        run: partials::weights,
+    },
+    Group {
+        name: "partial-answers",
+        cases: 4_000,
+        run: partials::answers,
+    },
+    Group {
+        name: "damaged-partials",
+        cases: 40_000,
+        run: partials::damaged,
+    },
+    Group {
+        name: "unclosed-partials",
+        cases: 15_000,
+        run: partials::unclosed,
+    },
+    Group {
+        name: "silenced-bays",
+        cases: 60,
+        run: partials::bays,
+    },
+    Group {
+        name: "limits-of-partials",
+        cases: 60,
+        run: partials::limits,
+    },
+    Group {
+        name: "kept-operators",
+        cases: 24,
+        run: partials::counted,
+    },
+    Group {
+        name: "silenced",
+        cases: 10_000,
+        run: silenced::good,
+    },
+    Group {
+        name: "damaged-silenced",
+        cases: 20_000,
+        run: silenced::damaged,
+    },
+    Group {
+        name: "limits-of-silenced",
+        cases: 200,
+        run: silenced::limits,
     },
 ];
 

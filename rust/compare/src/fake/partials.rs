@@ -1,0 +1,291 @@
+//! Calls on partial files, and silencing, with faults.
+
+use super::faults::{planted, planted_fault, Fault::*};
+use super::files::numbers_of;
+use reference::calls::{broken, denied, done, refused};
+use reference::features::{count_features, Atom};
+use reference::numbers::{encode, LARGEST};
+use reference::operators::{Operator, Pairing};
+use reference::partial::{read_built, read_partial, silenced, LeftOut, Partial};
+use reference::refusal::Refusal;
+use reference::separation::{verdict, Verdict};
+use reference::task::{read_task, Task};
+use reference::weights::read_weights;
+use reference::workspace::Workspace;
+
+/// A partial file, read as leniently as the planted fault says.
+fn lenient_partial(bytes: &[u8]) -> Result<Partial, Refusal> {
+    let read = read_partial(bytes);
+    let mended = match (planted_fault(), &read) {
+        (AnyMarkNames, Err(Refusal::Range)) => with_any_marks(bytes),
+        (NamesUnknown, Err(Refusal::Range)) => with_unknown_goals(bytes),
+        (FeaturesByOwnSizes, Err(Refusal::Limit)) if fits_by_own_sizes(bytes) => {
+            // Reading goes on, to the end of a file that has no more.
+            return Err(Refusal::Input);
+        }
+        _ => None,
+    };
+    mended.map_or(read, Ok)
+}
+
+fn with_any_marks(bytes: &[u8]) -> Option<Partial> {
+    let mut numbers = numbers_of(bytes);
+    let variables = numbers[0];
+    for mark in numbers.get_mut(1 + variables..1 + 2 * variables)? {
+        *mark = (*mark).min(1);
+    }
+    read_partial(&encode(&numbers)).ok()
+}
+
+/// Reads the goals that are "unknown" as 0 and puts them back.
+fn with_unknown_goals(bytes: &[u8]) -> Option<Partial> {
+    let mut numbers = numbers_of(bytes);
+    let variables = numbers[0];
+    let sizes = numbers.get(1..1 + variables)?.to_vec();
+    let marks = numbers.get(1 + variables..1 + 2 * variables)?.to_vec();
+    let named = (0..variables).filter(|variable| marks[*variable] == 1);
+    let mut unknown = Vec::new();
+    for (place, variable) in named.enumerate() {
+        let goal = numbers.get_mut(1 + 3 * variables + place)?;
+        if *goal == sizes[variable] {
+            unknown.push(variable);
+            *goal = 0;
+        }
+    }
+    let mut partial = read_partial(&encode(&numbers)).ok()?;
+    for variable in unknown {
+        partial.goal[variable] = Some(sizes[variable]);
+    }
+    Some(partial)
+}
+
+fn fits_by_own_sizes(bytes: &[u8]) -> bool {
+    let numbers = numbers_of(bytes);
+    let sizes = numbers.first().and_then(|count| numbers.get(1..=*count));
+    sizes.is_some_and(|sizes| {
+        let in_range = !sizes.is_empty() && sizes.iter().all(|size| (1..64).contains(size));
+        in_range && count_features(sizes) <= 4_096
+    })
+}
+
+/// Whether a value is exclusive with one of the given values of other variables.
+fn exclusive(partial: &Partial, operator: &Operator, others: &[Atom]) -> bool {
+    let own = Pairing::new(&partial.sizes, &partial.pairs);
+    let forgotten = operator.before_atoms()[0];
+    others.iter().any(|other| own.paired(forgotten, *other))
+}
+
+/// The forgetting operators that are kept.
+fn forgetting(partial: &Partial, left_out: LeftOut) -> Vec<Operator> {
+    let lean = left_out == LeftOut::Lean;
+    let named = |operator: &Operator| partial.named(operator.entries[0].variable);
+    let left_out = match planted_fault() {
+        ExclusiveKept if !lean => LeftOut::Nothing,
+        LeanAsLetter => LeftOut::ByLetter,
+        _ => left_out,
+    };
+    let mut operators = partial.forgetting_operators(left_out);
+    match planted_fault() {
+        NamedForgotten if !lean => {
+            operators.retain(|each| !exclusive(partial, each, &partial.goal_atoms()));
+        }
+        StartExclusive => {
+            let start = partial.start.iter().enumerate();
+            let start: Vec<Atom> = start
+                .map(|(variable, value)| Atom {
+                    variable,
+                    value: *value,
+                })
+                .collect();
+            operators.retain(|each| !exclusive(partial, each, &start));
+        }
+        LeanKeepsExclusive if lean => {
+            operators = partial.forgetting_operators(LeftOut::Nothing);
+            operators.retain(|each| !named(each));
+        }
+        ForgettingByValue => operators.sort_by_key(|each| each.entries[0].before),
+        _ => {}
+    }
+    operators
+}
+
+/// The built task of an accepted partial file.
+fn faulty_task(partial: &Partial, left_out: LeftOut) -> Task {
+    let mut task = partial.built(left_out);
+    let forgetting = forgetting(partial, left_out);
+    let lists = if planted(ForgettingFirst) {
+        [forgetting, partial.operators.clone()]
+    } else {
+        [partial.operators.clone(), forgetting]
+    };
+    task.operators = lists.concat();
+    if planted(PairsKeepNumbers) {
+        task.pairs = partial.pairs.clone();
+    }
+    if planted(SilentGoalFirst) {
+        task.goal = partial.goal.iter().map(|goal| goal.unwrap_or(0)).collect();
+    }
+    task
+}
+
+/// Each operator once, so that any number of them can be written.
+fn distinct(operators: &[Operator]) -> Vec<Operator> {
+    let mut distinct: Vec<Operator> = Vec::new();
+    for operator in operators {
+        if !distinct.contains(operator) {
+            distinct.push(operator.clone());
+        }
+    }
+    distinct
+}
+
+/// How a task's pairs are judged.
+fn judged_pairs(mut task: Task) -> Result<(), Refusal> {
+    task.operators = distinct(&task.operators);
+    read_task(&task.file()).map(|_| ())
+}
+
+/// A partial file without "unknown", as a task.
+fn own_task(partial: &Partial) -> Task {
+    Task {
+        sizes: partial.sizes.clone(),
+        start: partial.start.clone(),
+        goal: partial.start.clone(),
+        pairs: partial.pairs.clone(),
+        operators: partial.operators.clone(),
+    }
+}
+
+/// The file's refusal by count and pairs, in the order of the planted fault.
+fn judged(partial: &Partial, left_out: LeftOut) -> Result<(), Refusal> {
+    let pairs = if planted(PairsByOwnSizes) {
+        judged_pairs(own_task(partial))
+    } else {
+        judged_pairs(partial.built(left_out))
+    };
+    let counted = if planted(CountsLeftOut) {
+        LeftOut::Nothing
+    } else {
+        left_out
+    };
+    let many = partial.built(counted).operators.len() as u64 > LARGEST;
+    let unjudged = planted(CountUnjudged) || planted(CountAfterPairs) && pairs.is_err();
+    if many && !unjudged {
+        return Err(Refusal::Limit);
+    }
+    pairs
+}
+
+fn faulty_built(bytes: &[u8], left_out: LeftOut) -> Result<Task, Refusal> {
+    let partial = lenient_partial(bytes)?;
+    judged(&partial, left_out)?;
+    Ok(faulty_task(&partial, left_out))
+}
+
+/// Puts what is due into lent room.
+fn delivered<Item: Copy + Default>(due: Result<Vec<Item>, Refusal>, room: &mut [Item]) -> u64 {
+    let short = |due: Vec<Item>| {
+        (due.len() <= room.len())
+            .then_some(due)
+            .ok_or(Refusal::Room)
+    };
+    match due.and_then(short) {
+        Ok(due) => {
+            room[..due.len()].copy_from_slice(&due);
+            done(due.len())
+        }
+        Err(refusal) => {
+            if planted(SpoilsRefusedPartial) {
+                room.fill(Item::default());
+            }
+            refused(refusal)
+        }
+    }
+}
+
+pub fn open_partial(partial: &[u8], room: &mut [u64]) -> u64 {
+    let task = faulty_built(partial, LeftOut::ByLetter);
+    delivered(task.map(|task| Workspace::of(&task).words()), room)
+}
+
+/// The built file; a count that isn't judged goes as far as it can be written.
+fn built_file(mut task: Task) -> Vec<u8> {
+    task.operators.truncate(LARGEST as usize);
+    task.file()
+}
+
+pub fn build_partial(partial: &[u8], room: &mut [u8]) -> u64 {
+    delivered(
+        faulty_built(partial, LeftOut::ByLetter).map(built_file),
+        room,
+    )
+}
+
+pub fn build_partial_lean(partial: &[u8], room: &mut [u8]) -> u64 {
+    delivered(faulty_built(partial, LeftOut::Lean).map(built_file), room)
+}
+
+pub fn check_partial(partial: &[u8], weights: &[u8]) -> u64 {
+    faulty_verdict(partial, weights).unwrap_or_else(refused)
+}
+
+fn faulty_verdict(bytes: &[u8], weights: &[u8]) -> Result<u64, Refusal> {
+    let task = faulty_built(bytes, LeftOut::ByLetter)?;
+    let partial = lenient_partial(bytes)?;
+    let sizes = if planted(WeightsByOwnSizes) {
+        &partial.sizes
+    } else {
+        &task.sizes
+    };
+    read_weights(weights, count_features(sizes))?;
+    let weights = read_weights(weights, count_features(&task.sizes))?;
+    Ok(match verdict(&task, &weights) {
+        Verdict::Accepted => done(0),
+        Verdict::EndsAlike => denied(),
+        Verdict::Operator(place) if planted(FileUncounted) => {
+            broken(place.saturating_sub(partial.operators.len()))
+        }
+        Verdict::Operator(place) => broken(place),
+    })
+}
+
+/// Marks that the planted fault makes good.
+fn lenient_marks(marks: &[u8], variables: usize) -> Vec<u8> {
+    let mut marks = marks.to_vec();
+    if planted(MarksLengthUnjudged) {
+        marks.resize(variables, 0);
+    }
+    if planted(AnyByteNames) {
+        marks = marks.into_iter().map(|mark| mark.min(1)).collect();
+    }
+    marks
+}
+
+pub fn silence(task: &[u8], marks: &[u8], room: &mut [u8]) -> u64 {
+    delivered(faulty_silence(task, marks), room)
+}
+
+fn faulty_silence(task: &[u8], marks: &[u8]) -> Result<Vec<u8>, Refusal> {
+    if planted(MarksBeforeTask) && marks.iter().any(|mark| *mark > 1) {
+        return Err(Refusal::Range);
+    }
+    let task = read_task(task)?;
+    let marks = lenient_marks(marks, task.sizes.len());
+    let silent = silenced(&task, &marks);
+    if planted(SilencesTooLarge) && silent == Err(Refusal::Limit) {
+        // The file of a task without its goal is a good stand-in for what would be written.
+        return Ok(task.file());
+    }
+    let partial = silent?;
+    if planted(SilencingJudgesBuilt) {
+        read_built(&partial.file(), LeftOut::ByLetter)?;
+    }
+    if planted(SilentGoalsWritten) {
+        let mut numbers = partial.numbers();
+        let states = 1 + 3 * task.sizes.len();
+        let named = partial.goal_atoms().len();
+        numbers.splice(states..states + named, task.goal);
+        return Ok(encode(&numbers));
+    }
+    Ok(partial.file())
+}

@@ -1,0 +1,324 @@
+//! Partial files: built, opened and checked, good ones and damaged ones.
+
+use super::files::{part_ends, some_weights};
+use super::{ample_room, byte_room, room, scale};
+use crate::both::Both;
+use reference::calls::{denied, done};
+use reference::feature_set::{words_for, FeatureSet};
+use reference::features::{count_features, Feature, Features};
+use reference::numbers::{encode, LARGEST};
+use reference::operators::{Entry, Operator};
+use reference::partial::{read_built, LeftOut, Partial};
+use reference::sample::bays::shapes;
+use reference::sample::damage::damaged_file;
+use reference::sample::partials::{
+    accepted_partial, loose_partial, scaled_partial, silenced_bay, sizes, PARTIAL_EDGES,
+    PARTIAL_PAST_EDGES,
+};
+use reference::sample::tasks::{loose_weights, Scale};
+use reference::sample::Generator;
+use reference::search::can_meet;
+use reference::weights::{weight_file, weight_numbers};
+use reference::workspace::words_due;
+
+/// Few enough states to search all of them.
+const SEARCHED: Scale = Scale {
+    most_features: 110,
+    most_variables: 4,
+    most_values: 4,
+    most_operators: 12,
+};
+
+fn some_sizes(generator: &mut Generator) -> Vec<usize> {
+    let scale = scale(generator);
+    sizes(generator, scale)
+}
+
+/// An accepted partial file.
+fn partial(generator: &mut Generator) -> Partial {
+    let sizes = some_sizes(generator);
+    let most_operators = generator.choose(&[4, 10, 16]);
+    accepted_partial(generator, &sizes, most_operators)
+}
+
+/// The bytes that a built file needs, or some where it is refused.
+fn bytes_due(file: &[u8], left_out: LeftOut) -> usize {
+    read_built(file, left_out).map_or(40, |task| task.file().len())
+}
+
+/// The words that an opening needs, or some where it is refused.
+pub(super) fn partial_words_due(file: &[u8]) -> usize {
+    read_built(file, LeftOut::ByLetter).map_or(40, |task| words_due(&task.sizes))
+}
+
+/// One of the calls on a partial file, in all kinds of room.
+pub(super) fn some_call(both: &mut Both, generator: &mut Generator, file: &[u8]) {
+    match generator.below(4) {
+        0 => {
+            both.check_partial(file, &[1, 0]);
+        }
+        1 => {
+            let room = room(generator, partial_words_due(file));
+            both.open_partial(file, &room);
+        }
+        2 => {
+            let room = byte_room(generator, bytes_due(file, LeftOut::ByLetter));
+            both.build_partial(file, &room);
+        }
+        _ => {
+            let room = byte_room(generator, bytes_due(file, LeftOut::Lean));
+            both.build_partial_lean(file, &room);
+        }
+    }
+}
+
+/// A file's built task, by the letter or lean, in exactly the bytes due.
+fn built_file(
+    both: &mut Both,
+    generator: &mut Generator,
+    partial: &Partial,
+    left_out: LeftOut,
+) -> Vec<u8> {
+    let task = partial.built(left_out).file();
+    let room = generator.bytes(task.len());
+    let outcome = match left_out {
+        LeftOut::Lean => both.build_partial_lean(&partial.file(), &room),
+        _ => both.build_partial(&partial.file(), &room),
+    };
+    assert_eq!(outcome.number, done(task.len()), "built files are accepted");
+    outcome.memory
+}
+
+/// Accepted files in all kinds of room; opening one is opening what is built of it.
+pub fn built(both: &mut Both, generator: &mut Generator) {
+    let partial = partial(generator);
+    let file = partial.file();
+    for _ in 0..2 {
+        some_call(both, generator, &file);
+    }
+    let task = built_file(both, generator, &partial, LeftOut::ByLetter);
+    let room = ample_room(generator, partial_words_due(&file));
+    let opened = both.open_partial(&file, &room);
+    let again = both.open(&task, &room);
+    assert_eq!(opened, again, "a partial file opens as its built file does");
+    built_file(both, generator, &partial, LeftOut::Lean);
+}
+
+/// Accepted files with right and wrong weights, and weight files with faults.
+pub fn weights(both: &mut Both, generator: &mut Generator) {
+    let partial = partial(generator);
+    let file = partial.file();
+    let task = partial.built(LeftOut::ByLetter);
+    let count = count_features(&task.sizes);
+    let mut weights = some_weights(generator, &task);
+    if generator.once_in(2) {
+        part_ends(generator, &task, &mut weights);
+    }
+    let verdict = both.check_partial(&file, &weight_file(&weights));
+    let same = both.check(&task.file(), &weight_file(&weights));
+    assert_eq!(
+        verdict, same,
+        "a partial file is checked as its built file is"
+    );
+    let mut numbers = weight_numbers(&loose_weights(generator, count));
+    if generator.once_in(3) {
+        // Features at and past the end of the built task's range.
+        numbers.push(count - 1 + generator.below(3));
+        numbers[0] += 1;
+    }
+    let weights = damaged_file(generator, &numbers);
+    both.check_partial(&file, &weights);
+}
+
+/// From a partial file to the finder's answer and back to the checker; whatever is accepted can't be
+/// met by the file's own operators.
+pub fn answers(both: &mut Both, generator: &mut Generator) {
+    let partial = scaled_partial(generator, SEARCHED);
+    answer(both, generator, &partial, can_meet(&partial));
+}
+
+/// What is found by the letter and by the lean call, for an order that can be met or not.
+fn answer(both: &mut Both, generator: &mut Generator, partial: &Partial, met: bool) {
+    let file = partial.file();
+    let due = partial_words_due(&file);
+    let count = count_features(&partial.built(LeftOut::Nothing).sizes);
+    let room = ample_room(generator, due);
+    let words = both.open_partial(&file, &room).memory;
+    let weights = found(both, generator, &words, count);
+    if let Some(weights) = &weights {
+        assert_eq!(both.check_partial(&file, weights), done(0), "found");
+    }
+    let lean = built_file(both, generator, partial, LeftOut::Lean);
+    let words = both.open(&lean, &room).memory;
+    let lean_weights = found(both, generator, &words, count);
+    assert!(
+        !met || weights.is_none() && lean_weights.is_none(),
+        "a met order is accepted"
+    );
+    // Weights of the lean task are mostly broken by the forgetting operators that it goes without.
+    if let Some(weights) = lean_weights {
+        both.check_partial(&file, &weights);
+    }
+}
+
+/// The weight file of what the finder says to some words.
+fn found(
+    both: &mut Both,
+    generator: &mut Generator,
+    words: &[u64],
+    count: usize,
+) -> Option<Vec<u8>> {
+    let room = generator.words(words_for(count));
+    let found = both.find(words, &room);
+    assert!(found.number <= denied(), "opened words are well formed");
+    (found.number == done(0)).then(|| weight_file(&FeatureSet::from_words(&found.memory)))
+}
+
+/// A file with one number just past its range: a size, mark, value or pair.
+fn past_range(generator: &mut Generator, partial: &Partial) -> Vec<u8> {
+    let mut numbers = partial.numbers();
+    let variables = partial.sizes.len();
+    let variable = generator.below(variables);
+    let named = partial.goal_atoms();
+    let goals = 1 + 3 * variables;
+    match generator.below(5) {
+        0 => numbers[1 + variable] = 64,
+        1 => numbers[1 + variables + variable] = generator.between(2, 3),
+        2 => numbers[1 + 2 * variables + variable] = partial.sizes[variable],
+        3 if !partial.pairs.is_empty() => {
+            let last = goals + named.len() + partial.pairs.len();
+            numbers[last] = count_features(&partial.sizes) + generator.below(2);
+        }
+        _ if !named.is_empty() => {
+            let place = generator.below(named.len());
+            numbers[goals + place] = partial.sizes[named[place].variable];
+        }
+        _ => {}
+    }
+    encode(&numbers)
+}
+
+/// Partial files with faults of one kind or several at once.
+pub fn damaged(both: &mut Both, generator: &mut Generator) {
+    let sizes = some_sizes(generator);
+    let partial = loose_partial(generator, &sizes, 4);
+    let file = if generator.once_in(3) {
+        past_range(generator, &partial)
+    } else {
+        damaged_file(generator, &partial.numbers())
+    };
+    some_call(both, generator, &file);
+}
+
+/// Files whose start may hold a pair and whose pairs may be open in the built task.
+pub fn unclosed(both: &mut Both, generator: &mut Generator) {
+    let sizes = some_sizes(generator);
+    let mut partial = loose_partial(generator, &sizes, 4);
+    if generator.once_in(2) {
+        // A free start lets the question of closed pairs be reached.
+        let features = Features::new(&partial.sizes);
+        let start = partial.start.clone();
+        partial
+            .pairs
+            .retain(|pair| !features.feature(*pair).holds(&start));
+    }
+    some_call(both, generator, &partial.file());
+}
+
+/// Bays with some silent slots, up to six slots.
+pub fn bays(both: &mut Both, generator: &mut Generator) {
+    let few: Vec<_> = shapes()
+        .into_iter()
+        .filter(|(rows, columns)| rows * columns <= 6)
+        .collect();
+    let shape = generator.choose(&few);
+    let silent = generator.below(3);
+    let bay = silenced_bay(generator, shape, silent);
+    answer(both, generator, &bay, can_meet(&bay));
+}
+
+/// Files at the limits of sizes and features and past them, and bays of nine slots.
+pub fn limits(both: &mut Both, generator: &mut Generator) {
+    let file = match generator.below(8) {
+        0 => silenced_bay(generator, (3, 3), 2).file(),
+        1..=4 => {
+            // Too many features, and a mark that must not be judged after them.
+            let sizes = generator.choose(&PARTIAL_PAST_EDGES);
+            let mark = generator.below(3);
+            encode(&[&[sizes.len()], sizes, &[mark]].concat())
+        }
+        _ => {
+            let sizes = generator.choose(&PARTIAL_EDGES);
+            accepted_partial(generator, sizes, 4).file()
+        }
+    };
+    some_call(both, generator, &file);
+}
+
+/// The operator that sets a value to itself; every list of pairs is closed under it.
+fn staying(generator: &mut Generator, sizes: &[usize]) -> Operator {
+    let variable = generator.below(sizes.len());
+    let value = generator.below(sizes[variable]);
+    Operator {
+        entries: vec![Entry {
+            variable,
+            before: value,
+            after: value,
+        }],
+    }
+}
+
+/// Lets the start hold the first listed pair, if there is one.
+fn hold_pair(partial: &mut Partial) {
+    let features = Features::new(&partial.sizes);
+    let first = partial.pairs.first().map(|pair| features.feature(*pair));
+    if let Some(Feature::Mixed(one, other)) = first {
+        partial.start[one.variable] = one.value;
+        partial.start[other.variable] = other.value;
+    }
+}
+
+/// The calls whose count of kept operators is at its limit or past it.
+fn count(both: &mut Both, generator: &mut Generator, partial: &Partial, left_out: LeftOut) {
+    let file = partial.file();
+    both.check_partial(&file, &[1, 0]);
+    let room = generator.bytes(bytes_due(&file, left_out));
+    match left_out {
+        LeftOut::Lean => both.build_partial_lean(&file, &room),
+        _ => both.build_partial(&file, &room),
+    };
+}
+
+/// A small file, mostly one of which even the letter leaves something out.
+fn small_partial(generator: &mut Generator) -> Partial {
+    loop {
+        let sizes = generator.choose(&[vec![60], vec![2, 2], vec![3, 2], vec![1, 2, 1]]);
+        let partial = accepted_partial(generator, &sizes, 3);
+        let kept = partial.forgetting_operators(LeftOut::ByLetter).len();
+        if kept < sizes.iter().sum() || generator.once_in(40) {
+            return partial;
+        }
+    }
+}
+
+/// Files with as many kept operators as a number counts, and with one more.
+pub fn counted(both: &mut Both, generator: &mut Generator) {
+    let mut partial = small_partial(generator);
+    let mut few = partial.operators.clone();
+    few.push(staying(generator, &partial.sizes));
+    let left_out = generator.choose(&[LeftOut::ByLetter, LeftOut::Lean]);
+    let most = LARGEST as usize - partial.forgetting_operators(left_out).len();
+    partial.operators = (0..most).map(|_| generator.choose(&few)).collect();
+    count(both, generator, &partial, left_out);
+    let file = partial.file();
+    let room = ample_room(generator, partial_words_due(&file));
+    both.open_partial(&file, &room);
+    // The file itself can't have more operators than a number counts.
+    if most < LARGEST as usize {
+        partial.operators.push(few[0].clone());
+        count(both, generator, &partial, left_out);
+        // A pair that the start holds is judged after the count.
+        hold_pair(&mut partial);
+        count(both, generator, &partial, left_out);
+    }
+}

@@ -119,7 +119,7 @@ impl Partial {
         operators
     }
 
-    /// The built task, not yet judged: the file's operators, then the forgetting ones that are kept.
+    /// The built task, not yet judged: the file's operators, then the forgetting ones kept.
     pub fn built(&self, left_out: LeftOut) -> Task {
         let ends = self.goal.iter().zip(&self.sizes);
         Task {

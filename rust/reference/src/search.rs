@@ -47,10 +47,14 @@ pub fn solvable(task: &Task) -> bool {
     reaches(&task.start, &task.goal, |state| successors(task, state))
 }
 
-/// Whether the operators of a partial file, without any forgetting, lead to a state that meets its
-/// order.
-pub fn can_meet(partial: &Partial) -> bool {
+/// The states that a partial file's own operators lead to, without any forgetting.
+pub fn own_states(partial: &Partial) -> HashSet<Vec<usize>> {
     reached(&partial.start, |state| led_to(&partial.operators, state))
+}
+
+/// Whether a partial file's own operators lead to a state that meets its order.
+pub fn can_meet(partial: &Partial) -> bool {
+    own_states(partial)
         .iter()
         .any(|state| partial.met_by(state))
 }

@@ -1,14 +1,14 @@
-//! Partial files: built tasks worked out by hand, and what can be reached against breadth-first search.
+//! Partial files: built tasks worked out by hand, and what breadth-first search says of them.
 
 use reference::calls::{self, broken, denied, done};
 use reference::feature_set::FeatureSet;
 use reference::features::Features;
 use reference::operators::{Entry, Operator};
 use reference::partial::{read_built, read_partial, LeftOut, Partial};
-use reference::sample::partials::{accepted_partial, scaled_partial, sizes};
+use reference::sample::partials::{accepted_partial, scaled_partial, silenced_bay, sizes};
 use reference::sample::tasks::{meeting_weights, state, Scale, SMALL};
 use reference::sample::Generator;
-use reference::search::{can_meet, solvable};
+use reference::search::{can_meet, own_states, solvable};
 use reference::separation::separates;
 use reference::task::read_task;
 use reference::weights::weight_file;
@@ -35,9 +35,9 @@ fn built(partial: &[u8], call: fn(&[u8], &mut [u8]) -> u64) -> Vec<u8> {
     room
 }
 
-/// Sizes become 3; feature 7, both digits 1, becomes 6 + 3 + 1; the silent digit's goal is 2. Behind
-/// the file's operator stand both of the named digit and, by the letter, the silent digit's 0 alone:
-/// its 1 is paired with the goal.
+/// Sizes become 3; feature 7, both digits 1, becomes 6 + 3 + 1; the silent digit's goal is 2. After
+/// the file's operator come both of the named digit and, by the letter, the silent digit's 0
+/// alone: its 1 is paired with the goal.
 #[test]
 fn a_built_file() {
     let letter = [
@@ -50,8 +50,8 @@ fn a_built_file() {
     assert_eq!(built(&FRONT, calls::build_partial_lean), lean);
 }
 
-/// The front digit's 0 may not be forgotten, so its atom parts the ends. The operators are: the front
-/// digit's 1, then the back digit's 0 and 1.
+/// The front digit's 0 may not be forgotten, so its atom parts the ends. The operators are the
+/// front digit's 1, then the back digit's 0 and 1.
 #[test]
 fn verdicts_by_hand() {
     let judged: [(&[u8], u64); 7] = [
@@ -82,8 +82,8 @@ fn the_first_forgetting_operator_follows_the_file() {
     assert_eq!(calls::check_partial(&with_two, &[1, 3]), broken(3));
 }
 
-/// Both digits are named and nothing is left out, but the goal, 11, holds pair 7, which is 10 in the
-/// built task: no state that counts has it.
+/// Both digits are named and nothing is left out, but the goal, 11, holds pair 7, which is 10 in
+/// the built task: no state that counts has it.
 #[test]
 fn a_named_goal_that_holds_a_pair() {
     let file = [2, 2, 2, 1, 1, 0, 0, 1, 1, 1, 7, 0];
@@ -324,7 +324,7 @@ fn accepted_weights_leave_orders_unmet() {
             let weights = found.unwrap_or(meeting_weights(&mut generator, &task));
             if separates(&task, &weights) {
                 assert!(!can_meet(&partial), "{partial:?}");
-                // With nothing left out both ends lead to all unknown, unless the goal holds a pair.
+                // Both ends lead to all unknown, but a goal that holds a pair needn't.
                 let parted = left_out != LeftOut::Nothing || task.pairing().held_by(&task.goal);
                 assert!(parted, "{partial:?}");
                 accepted[place] += 1;
@@ -415,5 +415,40 @@ fn all_silent() {
         assert_eq!(task, partial.built(LeftOut::Lean));
         assert_eq!(task.goal, partial.sizes);
         assert_eq!(Workspace::of(&task).find(), None::<FeatureSet>);
+    }
+}
+
+/// The ways to fill a bay's silent slots with the labels that are left.
+fn completions(bay: &Partial) -> Vec<Vec<usize>> {
+    let mut filled = vec![Vec::new()];
+    for goal in &bay.goal {
+        let mut longer = Vec::new();
+        for labels in &filled {
+            for label in 0..bay.sizes.len() {
+                let asked = goal.map_or(!bay.goal.contains(&Some(label)), |asked| asked == label);
+                if asked && !labels.contains(&label) {
+                    longer.push([&labels[..], &[label]].concat());
+                }
+            }
+        }
+        filled = longer;
+    }
+    filled
+}
+
+/// Moves keep the labels, so a bay's order is met exactly when one of its completions is reached.
+#[test]
+fn orders_of_bays_are_met_by_completions() {
+    let mut generator = Generator::new(0x9A4D);
+    let ways = [1, 1, 2, 6, 24];
+    for _ in 0..120 {
+        let shape = generator.choose(&[(2, 2), (1, 4), (2, 3), (5, 1)]);
+        let silent = generator.below(5);
+        let bay = silenced_bay(&mut generator, shape, silent);
+        let completions = completions(&bay);
+        assert_eq!(completions.len(), ways[silent]);
+        let within = own_states(&bay);
+        let met = completions.iter().any(|labels| within.contains(labels));
+        assert_eq!(can_meet(&bay), met, "{bay:?}");
     }
 }

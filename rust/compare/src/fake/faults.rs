@@ -131,14 +131,16 @@ pub enum Fault {
     /// Silencing writes the goal values of silent variables too.
     SilentGoalsWritten,
     /// Silencing refuses what would be refused for its pairs.
-    SilencingJudgesBuilt,
+    SilencingJudgesPairs,
+    /// Silencing refuses what would be refused for its count of kept operators.
+    SilencingCounts,
     /// Silencing doesn't judge the limits of what it writes.
     SilencesTooLarge,
 }
 
 use Fault::*;
 
-pub const FAULTS: [Fault; 64] = [
+pub const FAULTS: [Fault; 65] = [
     AcceptsAlike,
     CountsLiveOperators,
     LastOperator,
@@ -201,7 +203,8 @@ pub const FAULTS: [Fault; 64] = [
     AnyByteNames,
     MarksBeforeTask,
     SilentGoalsWritten,
-    SilencingJudgesBuilt,
+    SilencingJudgesPairs,
+    SilencingCounts,
     SilencesTooLarge,
 ];
 

@@ -265,6 +265,20 @@ pub fn silence(task: &[u8], marks: &[u8], room: &mut [u8]) -> u64 {
     delivered(faulty_silence(task, marks), room)
 }
 
+/// What silencing would make of a task that is too large for it.
+fn too_large(task: Task, marks: &[u8]) -> Partial {
+    let ends = task.goal.iter().zip(marks);
+    Partial {
+        goal: ends
+            .map(|(value, mark)| (*mark == 1).then_some(*value))
+            .collect(),
+        sizes: task.sizes,
+        start: task.start,
+        pairs: task.pairs,
+        operators: task.operators,
+    }
+}
+
 fn faulty_silence(task: &[u8], marks: &[u8]) -> Result<Vec<u8>, Refusal> {
     if planted(MarksBeforeTask) && marks.iter().any(|mark| *mark > 1) {
         return Err(Refusal::Range);
@@ -273,12 +287,14 @@ fn faulty_silence(task: &[u8], marks: &[u8]) -> Result<Vec<u8>, Refusal> {
     let marks = lenient_marks(marks, task.sizes.len());
     let silent = silenced(&task, &marks);
     if planted(SilencesTooLarge) && silent == Err(Refusal::Limit) {
-        // The file of a task without its goal is a good stand-in for what would be written.
-        return Ok(task.file());
+        return Ok(too_large(task, &marks).file());
     }
     let partial = silent?;
-    if planted(SilencingJudgesBuilt) {
-        read_built(&partial.file(), LeftOut::ByLetter)?;
+    let judged = read_built(&partial.file(), LeftOut::ByLetter);
+    match (planted_fault(), judged) {
+        (SilencingJudgesPairs, Err(Refusal::NotClosed)) => return Err(Refusal::NotClosed),
+        (SilencingCounts, Err(Refusal::Limit)) => return Err(Refusal::Limit),
+        _ => {}
     }
     if planted(SilentGoalsWritten) {
         let mut numbers = partial.numbers();

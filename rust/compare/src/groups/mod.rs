@@ -167,7 +167,7 @@ pub const GROUPS: [Group; 32] = [
     },
     Group {
         name: "kept-operators",
-        cases: 24,
+        cases: 16,
         run: partials::counted,
     },
     Group {

@@ -8,7 +8,7 @@ use reference::feature_set::{words_for, FeatureSet};
 use reference::features::{count_features, Feature, Features};
 use reference::numbers::{encode, LARGEST};
 use reference::operators::{Entry, Operator};
-use reference::partial::{read_built, LeftOut, Partial};
+use reference::partial::{built_sizes, read_built, LeftOut, Partial};
 use reference::sample::bays::shapes;
 use reference::sample::damage::damaged_file;
 use reference::sample::partials::{
@@ -18,6 +18,7 @@ use reference::sample::partials::{
 use reference::sample::tasks::{loose_weights, Scale};
 use reference::sample::Generator;
 use reference::search::can_meet;
+use reference::task::Task;
 use reference::weights::{weight_file, weight_numbers};
 use reference::workspace::words_due;
 
@@ -130,8 +131,8 @@ pub fn weights(both: &mut Both, generator: &mut Generator) {
     both.check_partial(&file, &weights);
 }
 
-/// From a partial file to the finder's answer and back to the checker; whatever is accepted can't be
-/// met by the file's own operators.
+/// From a partial file to the finder's answer and back to the checker; an order for which there is
+/// an answer can't be met by the file's own operators.
 pub fn answers(both: &mut Both, generator: &mut Generator) {
     let partial = scaled_partial(generator, SEARCHED);
     answer(both, generator, &partial, can_meet(&partial));
@@ -282,11 +283,35 @@ fn hold_pair(partial: &mut Partial) {
 fn count(both: &mut Both, generator: &mut Generator, partial: &Partial, left_out: LeftOut) {
     let file = partial.file();
     both.check_partial(&file, &[1, 0]);
-    let room = generator.bytes(bytes_due(&file, left_out));
+    // Forgetting operators and longer numbers don't make the file twice as long.
+    let room = generator.bytes(2 * file.len());
     match left_out {
         LeftOut::Lean => both.build_partial_lean(&file, &room),
         _ => both.build_partial(&file, &room),
     };
+}
+
+/// Silences a task of so many operators: what is written is refused where it is read.
+fn silence_many(both: &mut Both, generator: &mut Generator, partial: &Partial) {
+    let task = Task {
+        sizes: partial.sizes.clone(),
+        start: partial.start.clone(),
+        goal: partial.goal.iter().map(|goal| goal.unwrap_or(0)).collect(),
+        pairs: partial.pairs.clone(),
+        operators: partial.operators.clone(),
+    };
+    let marks: Vec<u8> = partial
+        .goal
+        .iter()
+        .map(|goal| u8::from(goal.is_some()))
+        .collect();
+    let room = generator.bytes(partial.file().len());
+    let written = both.silence(&task.file(), &marks, &room).memory;
+    assert_eq!(
+        written,
+        partial.file(),
+        "silencing a task with the same moves"
+    );
 }
 
 /// A small file, mostly one of which even the letter leaves something out.
@@ -310,13 +335,13 @@ pub fn counted(both: &mut Both, generator: &mut Generator) {
     let most = LARGEST as usize - partial.forgetting_operators(left_out).len();
     partial.operators = (0..most).map(|_| generator.choose(&few)).collect();
     count(both, generator, &partial, left_out);
-    let file = partial.file();
-    let room = ample_room(generator, partial_words_due(&file));
-    both.open_partial(&file, &room);
+    let room = ample_room(generator, words_due(&built_sizes(&partial.sizes)));
+    both.open_partial(&partial.file(), &room);
     // The file itself can't have more operators than a number counts.
     if most < LARGEST as usize {
         partial.operators.push(few[0].clone());
         count(both, generator, &partial, left_out);
+        silence_many(both, generator, &partial);
         // A pair that the start holds is judged after the count.
         hold_pair(&mut partial);
         count(both, generator, &partial, left_out);

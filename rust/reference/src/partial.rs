@@ -51,6 +51,12 @@ impl Partial {
         self.goal[variable].is_some()
     }
 
+    /// A mark for each variable: 0 for silent, 1 for named.
+    pub fn marks(&self) -> Vec<u8> {
+        let mark = |goal: &Option<usize>| u8::from(goal.is_some());
+        self.goal.iter().map(mark).collect()
+    }
+
     /// The atoms that the order asks for.
     pub fn goal_atoms(&self) -> Vec<Atom> {
         let named = self.goal.iter().enumerate();
@@ -69,7 +75,7 @@ impl Partial {
     pub fn numbers(&self) -> Vec<usize> {
         let mut numbers = vec![self.sizes.len()];
         numbers.extend(&self.sizes);
-        numbers.extend(self.goal.iter().map(|goal| usize::from(goal.is_some())));
+        numbers.extend(self.marks().into_iter().map(usize::from));
         numbers.extend(&self.start);
         numbers.extend(self.goal.iter().flatten());
         numbers.extend(tail_numbers(&self.pairs, &self.operators));

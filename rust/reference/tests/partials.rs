@@ -5,7 +5,9 @@ use reference::feature_set::FeatureSet;
 use reference::features::Features;
 use reference::operators::{Entry, Operator};
 use reference::partial::{read_built, read_partial, LeftOut, Partial};
-use reference::sample::partials::{accepted_partial, scaled_partial, silenced_bay, sizes};
+use reference::sample::partials::{
+    accepted_partial, completed, scaled_partial, silenced_bay, sizes,
+};
 use reference::sample::tasks::{meeting_weights, state, Scale, SMALL};
 use reference::sample::Generator;
 use reference::search::{can_meet, own_states, solvable};
@@ -360,6 +362,25 @@ fn calls_agree_with_the_built_file() {
             calls::check_partial(&file, &weights),
             calls::check(&task, &weights)
         );
+    }
+}
+
+/// Silencing what completes a partial file gives the file back, whatever goals were filled in.
+#[test]
+fn silencing_gives_the_file_back() {
+    let mut generator = Generator::new(0x9A4E);
+    for _ in 0..500 {
+        let partial = scaled_partial(&mut generator, SMALL);
+        let mut task = completed(&partial);
+        for variable in 0..partial.sizes.len() {
+            if !partial.named(variable) {
+                task.goal[variable] = generator.below(partial.sizes[variable]);
+            }
+        }
+        let mut room = vec![0; partial.file().len()];
+        let length = calls::silence(&task.file(), &partial.marks(), &mut room);
+        assert_eq!(length, done(room.len()));
+        assert_eq!(room, partial.file());
     }
 }
 

@@ -8,6 +8,7 @@ use reference::numbers::{encode, LARGEST};
 use reference::operators::{Operator, Pairing};
 use reference::partial::{read_built, read_partial, silenced, LeftOut, Partial};
 use reference::refusal::Refusal;
+use reference::sample::partials::completed;
 use reference::separation::{verdict, Verdict};
 use reference::task::{read_task, Task};
 use reference::weights::read_weights;
@@ -20,7 +21,7 @@ fn lenient_partial(bytes: &[u8]) -> Result<Partial, Refusal> {
         (AnyMarkNames, Err(Refusal::Range)) => with_any_marks(bytes),
         (NamesUnknown, Err(Refusal::Range)) => with_unknown_goals(bytes),
         (FeaturesByOwnSizes, Err(Refusal::Limit)) if fits_by_own_sizes(bytes) => {
-            // Reading goes on, to the end of a file that has no more.
+            // Reading goes on, and whatever it comes to is another answer.
             return Err(Refusal::Input);
         }
         _ => None,
@@ -145,21 +146,10 @@ fn judged_pairs(mut task: Task) -> Result<(), Refusal> {
     read_task(&task.file()).map(|_| ())
 }
 
-/// A partial file without "unknown", as a task.
-fn own_task(partial: &Partial) -> Task {
-    Task {
-        sizes: partial.sizes.clone(),
-        start: partial.start.clone(),
-        goal: partial.start.clone(),
-        pairs: partial.pairs.clone(),
-        operators: partial.operators.clone(),
-    }
-}
-
 /// The file's refusal by count and pairs, in the order of the planted fault.
 fn judged(partial: &Partial, left_out: LeftOut) -> Result<(), Refusal> {
     let pairs = if planted(PairsByOwnSizes) {
-        judged_pairs(own_task(partial))
+        judged_pairs(completed(partial))
     } else {
         judged_pairs(partial.built(left_out))
     };

@@ -3,6 +3,7 @@
 mod bays;
 mod edits;
 mod files;
+mod kept;
 mod large;
 mod lines;
 mod partials;
@@ -168,7 +169,7 @@ pub const GROUPS: [Group; 32] = [
     Group {
         name: "kept-operators",
         cases: 16,
-        run: partials::counted,
+        run: kept::counted,
     },
     Group {
         name: "silenced",

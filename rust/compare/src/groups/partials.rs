@@ -5,10 +5,9 @@ use super::{ample_room, byte_room, room, scale};
 use crate::both::Both;
 use reference::calls::{denied, done};
 use reference::feature_set::{words_for, FeatureSet};
-use reference::features::{count_features, Feature, Features};
-use reference::numbers::{encode, LARGEST};
-use reference::operators::{Entry, Operator};
-use reference::partial::{built_sizes, read_built, LeftOut, Partial};
+use reference::features::{count_features, Features};
+use reference::numbers::encode;
+use reference::partial::{read_built, LeftOut, Partial};
 use reference::sample::bays::shapes;
 use reference::sample::damage::damaged_file;
 use reference::sample::partials::{
@@ -18,7 +17,6 @@ use reference::sample::partials::{
 use reference::sample::tasks::{loose_weights, Scale};
 use reference::sample::Generator;
 use reference::search::can_meet;
-use reference::task::Task;
 use reference::weights::{weight_file, weight_numbers};
 use reference::workspace::words_due;
 
@@ -48,7 +46,7 @@ fn bytes_due(file: &[u8], left_out: LeftOut) -> usize {
 }
 
 /// The words that an opening needs, or some where it is refused.
-pub(super) fn partial_words_due(file: &[u8]) -> usize {
+fn words_of(file: &[u8]) -> usize {
     read_built(file, LeftOut::ByLetter).map_or(40, |task| words_due(&task.sizes))
 }
 
@@ -59,7 +57,7 @@ pub(super) fn some_call(both: &mut Both, generator: &mut Generator, file: &[u8])
             both.check_partial(file, &[1, 0]);
         }
         1 => {
-            let room = room(generator, partial_words_due(file));
+            let room = room(generator, words_of(file));
             both.open_partial(file, &room);
         }
         2 => {
@@ -98,7 +96,7 @@ pub fn built(both: &mut Both, generator: &mut Generator) {
         some_call(both, generator, &file);
     }
     let task = built_file(both, generator, &partial, LeftOut::ByLetter);
-    let room = ample_room(generator, partial_words_due(&file));
+    let room = ample_room(generator, words_of(&file));
     let opened = both.open_partial(&file, &room);
     let again = both.open(&task, &room);
     assert_eq!(opened, again, "a partial file opens as its built file does");
@@ -141,7 +139,7 @@ pub fn answers(both: &mut Both, generator: &mut Generator) {
 /// What is found by the letter and by the lean call, for an order that can be met or not.
 fn answer(both: &mut Both, generator: &mut Generator, partial: &Partial, met: bool) {
     let file = partial.file();
-    let due = partial_words_due(&file);
+    let due = words_of(&file);
     let count = count_features(&partial.built(LeftOut::Nothing).sizes);
     let room = ample_room(generator, due);
     let words = both.open_partial(&file, &room).memory;
@@ -238,112 +236,31 @@ pub fn bays(both: &mut Both, generator: &mut Generator) {
     answer(both, generator, &bay, can_meet(&bay));
 }
 
+/// A file that is good but for a size or its features, or one that has a bad mark after them.
+fn past_limits(generator: &mut Generator) -> Vec<u8> {
+    let sizes = generator.choose(&PARTIAL_PAST_EDGES).to_vec();
+    let variables = sizes.len();
+    let partial = Partial {
+        sizes,
+        start: vec![0; variables],
+        goal: vec![None; variables],
+        pairs: Vec::new(),
+        operators: Vec::new(),
+    };
+    let mut numbers = partial.numbers();
+    numbers[1 + variables] = generator.below(3);
+    encode(&numbers)
+}
+
 /// Files at the limits of sizes and features and past them, and bays of nine slots.
 pub fn limits(both: &mut Both, generator: &mut Generator) {
     let file = match generator.below(8) {
         0 => silenced_bay(generator, (3, 3), 2).file(),
-        1..=4 => {
-            // Too many features, and a mark that must not be judged after them.
-            let sizes = generator.choose(&PARTIAL_PAST_EDGES);
-            let mark = generator.below(3);
-            encode(&[&[sizes.len()], sizes, &[mark]].concat())
-        }
+        1..=4 => past_limits(generator),
         _ => {
             let sizes = generator.choose(&PARTIAL_EDGES);
             accepted_partial(generator, sizes, 4).file()
         }
     };
     some_call(both, generator, &file);
-}
-
-/// The operator that sets a value to itself; every list of pairs is closed under it.
-fn staying(generator: &mut Generator, sizes: &[usize]) -> Operator {
-    let variable = generator.below(sizes.len());
-    let value = generator.below(sizes[variable]);
-    Operator {
-        entries: vec![Entry {
-            variable,
-            before: value,
-            after: value,
-        }],
-    }
-}
-
-/// Lets the start hold the first listed pair, if there is one.
-fn hold_pair(partial: &mut Partial) {
-    let features = Features::new(&partial.sizes);
-    let first = partial.pairs.first().map(|pair| features.feature(*pair));
-    if let Some(Feature::Mixed(one, other)) = first {
-        partial.start[one.variable] = one.value;
-        partial.start[other.variable] = other.value;
-    }
-}
-
-/// The calls whose count of kept operators is at its limit or past it.
-fn count(both: &mut Both, generator: &mut Generator, partial: &Partial, left_out: LeftOut) {
-    let file = partial.file();
-    both.check_partial(&file, &[1, 0]);
-    // Forgetting operators and longer numbers don't make the file twice as long.
-    let room = generator.bytes(2 * file.len());
-    match left_out {
-        LeftOut::Lean => both.build_partial_lean(&file, &room),
-        _ => both.build_partial(&file, &room),
-    };
-}
-
-/// Silences a task of so many operators: what is written is refused where it is read.
-fn silence_many(both: &mut Both, generator: &mut Generator, partial: &Partial) {
-    let task = Task {
-        sizes: partial.sizes.clone(),
-        start: partial.start.clone(),
-        goal: partial.goal.iter().map(|goal| goal.unwrap_or(0)).collect(),
-        pairs: partial.pairs.clone(),
-        operators: partial.operators.clone(),
-    };
-    let marks: Vec<u8> = partial
-        .goal
-        .iter()
-        .map(|goal| u8::from(goal.is_some()))
-        .collect();
-    let room = generator.bytes(partial.file().len());
-    let written = both.silence(&task.file(), &marks, &room).memory;
-    assert_eq!(
-        written,
-        partial.file(),
-        "silencing a task with the same moves"
-    );
-}
-
-/// A small file, mostly one of which even the letter leaves something out.
-fn small_partial(generator: &mut Generator) -> Partial {
-    loop {
-        let sizes = generator.choose(&[vec![60], vec![2, 2], vec![3, 2], vec![1, 2, 1]]);
-        let partial = accepted_partial(generator, &sizes, 3);
-        let kept = partial.forgetting_operators(LeftOut::ByLetter).len();
-        if kept < sizes.iter().sum() || generator.once_in(40) {
-            return partial;
-        }
-    }
-}
-
-/// Files with as many kept operators as a number counts, and with one more.
-pub fn counted(both: &mut Both, generator: &mut Generator) {
-    let mut partial = small_partial(generator);
-    let mut few = partial.operators.clone();
-    few.push(staying(generator, &partial.sizes));
-    let left_out = generator.choose(&[LeftOut::ByLetter, LeftOut::Lean]);
-    let most = LARGEST as usize - partial.forgetting_operators(left_out).len();
-    partial.operators = (0..most).map(|_| generator.choose(&few)).collect();
-    count(both, generator, &partial, left_out);
-    let room = ample_room(generator, words_due(&built_sizes(&partial.sizes)));
-    both.open_partial(&partial.file(), &room);
-    // The file itself can't have more operators than a number counts.
-    if most < LARGEST as usize {
-        partial.operators.push(few[0].clone());
-        count(both, generator, &partial, left_out);
-        silence_many(both, generator, &partial);
-        // A pair that the start holds is judged after the count.
-        hold_pair(&mut partial);
-        count(both, generator, &partial, left_out);
-    }
 }

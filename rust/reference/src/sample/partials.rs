@@ -5,7 +5,7 @@ use super::tasks::{self, first_open_pairs, free_start, loose_task, Scale};
 use super::Generator;
 use crate::features::{count_features, Atom, Features};
 use crate::partial::{built_sizes, silenced, LeftOut, Partial};
-use crate::task::MOST_VALUES;
+use crate::task::{Task, MOST_VALUES};
 
 /// Sizes of partial files whose built tasks have 4,094, 4,095, 4,096 and 4,050 features.
 pub const PARTIAL_EDGES: [&[usize]; 4] = [&[63, 61], &[62, 62], &[35, 23, 51], &[1; 45]];
@@ -118,4 +118,15 @@ pub fn silenced_bay(generator: &mut Generator, shape: (usize, usize), silent: us
     marks[..silent].fill(0);
     generator.shuffle(&mut marks);
     silenced(&task, &marks).expect("bays keep the limits")
+}
+
+/// A task that silencing turns into a partial file: silent variables get their first value as goal.
+pub fn completed(partial: &Partial) -> Task {
+    Task {
+        sizes: partial.sizes.clone(),
+        start: partial.start.clone(),
+        goal: partial.goal.iter().map(|goal| goal.unwrap_or(0)).collect(),
+        pairs: partial.pairs.clone(),
+        operators: partial.operators.clone(),
+    }
 }

@@ -1,0 +1,88 @@
+//! Partial files whose kept operators are about as many as a number counts.
+
+use super::ample_room;
+use crate::both::Both;
+use reference::features::{Feature, Features};
+use reference::numbers::LARGEST;
+use reference::operators::{Entry, Operator};
+use reference::partial::{built_sizes, LeftOut, Partial};
+use reference::sample::partials::{accepted_partial, completed};
+use reference::sample::Generator;
+use reference::workspace::words_due;
+
+/// The operator that sets a value to itself; every list of pairs is closed under it.
+fn staying(generator: &mut Generator, sizes: &[usize]) -> Operator {
+    let variable = generator.below(sizes.len());
+    let value = generator.below(sizes[variable]);
+    Operator {
+        entries: vec![Entry {
+            variable,
+            before: value,
+            after: value,
+        }],
+    }
+}
+
+/// Lets the start hold the first listed pair, if there is one.
+fn hold_pair(partial: &mut Partial) {
+    let features = Features::new(&partial.sizes);
+    let first = partial.pairs.first().map(|pair| features.feature(*pair));
+    if let Some(Feature::Mixed(one, other)) = first {
+        partial.start[one.variable] = one.value;
+        partial.start[other.variable] = other.value;
+    }
+}
+
+/// The calls whose count of kept operators is at its limit or past it.
+fn judge_count(both: &mut Both, generator: &mut Generator, partial: &Partial, left_out: LeftOut) {
+    let file = partial.file();
+    both.check_partial(&file, &[1, 0]);
+    // Forgetting operators and longer numbers don't make the file twice as long.
+    let room = generator.bytes(2 * file.len());
+    match left_out {
+        LeftOut::Lean => both.build_partial_lean(&file, &room),
+        _ => both.build_partial(&file, &room),
+    };
+}
+
+/// Silences a task of so many operators, though what is written is refused where it is read.
+fn silence(both: &mut Both, generator: &mut Generator, partial: &Partial) {
+    let file = partial.file();
+    let room = generator.bytes(file.len());
+    let written = both.silence(&completed(partial).file(), &partial.marks(), &room);
+    assert_eq!(written.memory, file, "silencing asks for no count");
+}
+
+/// A small file, mostly one of which even the letter leaves something out.
+fn small_partial(generator: &mut Generator) -> Partial {
+    loop {
+        let sizes = generator.choose(&[vec![60], vec![2, 2], vec![3, 2], vec![1, 2, 1]]);
+        let partial = accepted_partial(generator, &sizes, 3);
+        let kept = partial.forgetting_operators(LeftOut::ByLetter).len();
+        if kept < sizes.iter().sum() || generator.once_in(40) {
+            return partial;
+        }
+    }
+}
+
+/// Files with as many kept operators as a number counts, and with one more.
+pub fn counted(both: &mut Both, generator: &mut Generator) {
+    let mut partial = small_partial(generator);
+    let mut few = partial.operators.clone();
+    few.push(staying(generator, &partial.sizes));
+    let left_out = generator.choose(&[LeftOut::ByLetter, LeftOut::Lean]);
+    let most = LARGEST as usize - partial.forgetting_operators(left_out).len();
+    partial.operators = (0..most).map(|_| generator.choose(&few)).collect();
+    judge_count(both, generator, &partial, left_out);
+    let room = ample_room(generator, words_due(&built_sizes(&partial.sizes)));
+    both.open_partial(&partial.file(), &room);
+    // The file itself can't have more operators than a number counts.
+    if most < LARGEST as usize {
+        partial.operators.push(few[0].clone());
+        judge_count(both, generator, &partial, left_out);
+        silence(both, generator, &partial);
+        // A pair that the start holds is judged after the count.
+        hold_pair(&mut partial);
+        judge_count(both, generator, &partial, left_out);
+    }
+}

@@ -16,3 +16,4 @@ pub mod Line
 pub mod History
 pub mod Facts
 pub mod FactsOfA
+pub mod PartialFacts

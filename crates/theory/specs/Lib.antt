@@ -51,6 +51,7 @@ pub mod PartialTask
 pub mod PartialPlans
 pub mod PartialFile
 pub mod PartialParts
+pub mod PartialNamed
 pub mod PartialDemands
 pub mod Silence
 pub mod BayOrders

@@ -4,16 +4,16 @@ use Prim.Native.Nat.{ℕ, suc, _<_, _≤_}
 use mathlib.Core.Path.{_≡_, refl, ap, sym, _∙_, subst}
 use mathlib.Core.Logic.{_≢_, _↔_, Iff·rfl, Iff·trans}
 use mathlib.Core.Bool.{Bool, true, false, not, cond}
-use mathlib.Core.List.{List, _++_}
+use mathlib.Core.List.{List, _++_, List·Memᴰ as In}
 use native.Mathlib.Omega.{arith}
 use lib.Dec.{ltb}
 use lib.ListN.{length, take, drop}
 use borrow.Author.Tests.{ltb-false, le-ltb}
 use Rattle.meaning.specs.Sets.{Set, listed, allOf}
 use Rattle.meaning.specs.Limits.{numberEnd}
-use Rattle.meaning.specs.Task.{Task, size, Run}
+use Rattle.meaning.specs.Task.{Operator, Task, size, Run}
 use Rattle.meaning.specs.Feature.{atoms, features}
-use Rattle.meaning.specs.Pair.{paired, closed, holds}
+use Rattle.meaning.specs.Pair.{paired, stuck, closed, holds}
 use Rattle.meaning.specs.Weight.{Separates, LeastOf, Unsolvable}
 use Rattle.meaning.specs.Number.{Held, Unclosed, Outgrown, Read, got, fault, onRead}
 use Rattle.meaning.specs.File.{judgedPairs, judgedTask, judgedWeights, weightBytes, taskBytes}
@@ -34,7 +34,7 @@ use Rattle.theory.specs.Demands.{Afresh, accepts-exactly, accepted-unsol
 use Rattle.theory.specs.PartialPairs.{built-run, built-count, paired-known, paired-unknown}
 use Rattle.theory.specs.PartialPlans.{Permitted, letter-permitted, lean-permitted}
 use Rattle.theory.specs.PartialFile.{AcceptedPartial, accepted-partial}
-use Rattle.theory.specs.PartialParts.{partial-back}
+use Rattle.theory.specs.PartialParts.{partial-back, partial-accepted}
 use Rattle.theory.specs.Silence.{FineMarks, marks-fine, MetWhere, silenced-met, silenced-ordered}
 
 -- ---- demand 1: refusals
@@ -246,6 +246,10 @@ pub record SilencedFile (file marks room lent : List ℕ) (k : ℕ) : Type 0 whe
   -- and so is the goal of the task that is built for it, whatever permitted operators are left out, where that is accepted.
   pub built : (out : Partial → ℕ → ℕ → Bool) (U : Task) (next : ℕ) → judgedPartial out (take k lent) ≡ got U next → Permitted (silenced task marks) (out (silenced task marks))
       → Reaches (U .operators) (U .start) (U .goal) ↔ MetWhere task marks
+  -- It is accepted, unless too many operators are kept (2), or an operator of the task was idle for want of a possible value (7).
+  pub passes : (out : Partial → ℕ → ℕ → Bool) → length (builtTask (silenced task marks) (out (silenced task marks)) .operators) < numberEnd
+      → ((o : Operator) → In o (task .operators) → stuck (task .sizes) (listed (task .pairs)) o ≡ false)
+      → judgedPartial out (take k lent) ≡ got (builtTask (silenced task marks) (out (silenced task marks))) k
 
 pub silenced-file : (file marks room lent : List ℕ) (k : ℕ) → Silences file marks room (record { answer = done k; lent = lent }) → SilencedFile file marks room lent k
 unfolding silenced
@@ -255,10 +259,9 @@ silenced-file file marks room lent k silences =
     let ok = Files.accepted file T end e in
     let marked = marks-fine T marks good in
     let P = silenced T marks in
+    let ordered = silenced-ordered T marks (ok .acceptable) (marked .small) (marked .total) in
     let read : partialOf (take k lent) 0 ≡ got P k =
-        ap (λ bytes. partialOf bytes 0) (left .front)
-        ∙ Back.whole partialOf P (partialBytes P) (partial-back P (silenced-ordered T marks (ok .acceptable) (marked .small) (marked .total)) (ok .countable))
-        ∙ ap (got P) (left .width) in
+        ap (λ bytes. partialOf bytes 0) (left .front) ∙ Back.whole partialOf P (partialBytes P) (partial-back P ordered (ok .countable)) ∙ ap (got P) (left .width) in
     let met = silenced-met T marks (ok .acceptable) in
     record {
       task = T;
@@ -269,6 +272,9 @@ silenced-file file marks room lent k silences =
       others = left .others;
       met = met;
       built = λ out U next judged permitted. Iff·trans (built-met (take k lent) out U next judged P k read permitted) met;
+      passes = λ out few free. ap (judgedPartial out) (left .front)
+          ∙ partial-accepted P ordered out few (ok .acceptable .free) (λ o m. (ok .acceptable .closed-under o m, free o m))
+          ∙ ap (got (builtTask P (out P))) (left .width);
     }
   where
     by : (judged : Judged) (P : Partial) → record { answer = done k; lent = lent } ≡ silencesBy judged P room → (judged ≡ fine) × Leaves (partialBytes P) room lent k

@@ -20,26 +20,38 @@ use Rattle.condition.specs.Holds.{Holds, held-sizes, held-rows}
 abbrev pub Workable : ℕ → ℕ → List ℕ → Type 0
 Workable v n ws = (c : Content) × (further : List ℕ) × Holds v n c further ws
 
+-- One whose content has these sizes.
+pub record Sized (v n : ℕ) (sizes ws : List ℕ) : Type 0 where
+  pub workable : Workable v n ws
+  pub sizes-are : sizes ≡ sizesPart v ws
+
+-- Rows leave one of the same sizes.
+pub sized-rows : {v n : ℕ} {sizes ws : List ℕ} → Sized v n sizes ws → (o : Operator) → Sized v n sizes (withRows v n ws o)
+sized-rows {v} {n} {ws = ws} sized o =
+    let (c, further, held) = sized .workable in
+    let more = held-rows v n c further ws held o in
+    record { workable = (_, further, more); sizes-are = sized .sizes-are ∙ held-sizes v n c further ws held ∙ sym (held-sizes v n _ further (withRows v n ws o) more) }
+
 -- The rows of so many operators inserted, as far as they can be read.
 abbrev pub addedFrom : ℕ → ℕ → ℕ → List ℕ → ℕ → List ℕ → List ℕ
 addedFrom v n count bytes at ws = walked (withRows v n) (sizesPart v ws) count bytes at ws
 
 module _ (v n : ℕ) (bytes : List ℕ) where
-  -- Rows leave a workspace that holds a content with the same sizes.
-  added-keeps : (count at : ℕ) (ws : List ℕ) → Workable v n ws → Workable v n (addedFrom v n count bytes at ws) × (sizesPart v (addedFrom v n count bytes at ws) ≡ sizesPart v ws)
-  added-keeps count at ws w = walk-keeps (withRows v n) (sizesPart v ws) bytes (λ l. Workable v n l × (sizesPart v l ≡ sizesPart v ws)) (λ l o h.
-      let (c, further, held) = h .0 in let more = held-rows v n c further l held o in
-      ((_, further, more), held-sizes v n _ further (withRows v n l o) more ∙ sym (held-sizes v n c further l held) ∙ h .1)) count at ws (w, refl)
+  pub added-sized : (count at : ℕ) (sizes ws : List ℕ) → Sized v n sizes ws → Sized v n sizes (addedFrom v n count bytes at ws)
+  added-sized count at sizes ws sized = walk-keeps (withRows v n) (sizesPart v ws) bytes (Sized v n sizes) (λ l o h. sized-rows h o) count at ws sized
 
   -- A turn that inserts the rows of one operator.
   module _ (count k at : ℕ) (ws : List ℕ) (workable : Workable v n ws) (answer : Step) (left : List ℕ) (more : k < count)
       (place : answer ≡ placeOf (operatorOf (sizesPart v ws) bytes at)) (rows : left ≡ addedFrom v n 1 bytes at ws) where
+    same : Sized v n (sizesPart v ws) left
+    same = rw rows (added-sized 1 at (sizesPart v ws) ws (record { workable = workable; sizes-are = refl }))
+
     pub added-workable : Workable v n left
-    added-workable = rw rows (added-keeps 1 at ws workable .0)
+    added-workable = same .workable
 
     pub added-more : (next : ℕ) → answer ≡ Next next → addedFrom v n (count - k) bytes at ws ≡ addedFrom v n (count - (k + 1)) bytes next left
     added-more next e = turn-more (withRows v n) (sizesPart v ws) bytes count k at ws answer left more place rows next e
-        ∙ ap (λ sizes. walked (withRows v n) sizes (count - (k + 1)) bytes next left) (sym (ap (sizesPart v) rows ∙ added-keeps 1 at ws workable .1))
+        ∙ ap (λ sizes. walked (withRows v n) sizes (count - (k + 1)) bytes next left) (same .sizes-are)
 
 -- Where a content is held, the rows of operators one after another are inserted into its slots.
 pub fold-rows : (v n : ℕ) (os : List Operator) (c : Content) (further ws : List ℕ) → Holds v n c further ws

@@ -31,7 +31,7 @@ use Rattle.operator.specs.Fold.{walk-all}
 use Rattle.task.specs.Answer.{KnownAs, known-headed, known-header}
 use Rattle.condition.specs.Slotted.{withRows}
 use Rattle.condition.specs.Holds.{Holds, held-sizes}
-use Rattle.opening.specs.Adding.{Workable, addedFrom, fold-rows}
+use Rattle.opening.specs.Adding.{Sized, addedFrom, fold-rows}
 
 -- ---- two parts written one after the other
 
@@ -104,13 +104,13 @@ module _ (judging : Read Task) (words left room : List ℕ) (v n : ℕ) (known :
       total = known .total;
     }
 
-    pub begun-workable : Workable v n ws
-    begun-workable = (contentOf task bare, drop due room, holds)
+    pub begun-sized : Sized v n (task .sizes) ws
+    begun-sized = record { workable = (contentOf task bare, drop due room, holds); sizes-are = sym (held-sizes v n (contentOf task bare) (drop due room) ws holds) }
 
     -- The rows of operators that are read by its sizes.
     pub begun-added : (bytes : List ℕ) (count at next : ℕ) (os : List Operator) → operatorsOf (task .sizes) count bytes at ≡ got os next
         → (exit : List ℕ) → exit ≡ addedFrom v n count bytes at ws → exit ≡ foldl (withRows v n) ws os
-    begun-added bytes count at next os e exit q = q ∙ walk-all (withRows v n) (sizesPart v ws) bytes count at os next ws (rw (held-sizes v n (contentOf task bare) (drop due room) ws holds) e)
+    begun-added bytes count at next os e exit q = q ∙ walk-all (withRows v n) (sizesPart v ws) bytes count at os next ws (rw (← (begun-sized .sizes-are)) e)
 
     -- With the rows of all its operators it is the task's workspace.
     pub begun-rows : (exit : List ℕ) → exit ≡ foldl (withRows v n) ws (task .operators) → exit ≡ wordsOf (contentOf task operatorSlots) ++ drop due room

@@ -3,3 +3,5 @@ pub mod Answer
 pub mod Adding
 pub mod Step
 pub mod Begin
+pub mod Forgotten
+pub mod Built

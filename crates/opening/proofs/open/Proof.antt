@@ -10,7 +10,7 @@ use Rattle.meaning.specs.Limits.{mostVariables, mostFeatures}
 use Rattle.meaning.specs.Workspace.{slotsAt, wordsDue}
 use Rattle.layout.specs.Places.{places-are}
 use Rattle.task.specs.Answer.{Known, judged-accepted, judged-refused, known-room}
-use Rattle.opening.specs.Begin.{begun-workable, begun-added, begun-rows, opens-small, opens-done, opens-refused}
+use Rattle.opening.specs.Begin.{begun-sized, begun-added, begun-rows, opens-small, opens-done, opens-refused}
 use Rattle.opening.proofs.open.Statement.{statement}
 use Rattle.opening.proofs.open.Tie as tie
 
@@ -61,7 +61,8 @@ begin-requires : tie.Need-begin-requires
 begin-requires c κs = let p = c .before .before .before .before in (simp length-take (omega (arith, due p, slots p)), c .before .before .if1 .left)
 
 add-operators-requires : tie.Need-add-operators-requires
-add-operators-requires c κs = let p = c .before .before .before .before .before .before .before .before in begun-workable _ _ _ (lent p) _ _ (known (task p) .accepted) _ _ _ (due p) (slots p) (c .before .before .before .begin .ensures)
+add-operators-requires c κs = let p = c .before .before .before .before .before .before .before .before in
+    begun-sized _ _ _ (lent p) _ _ (known (task p) .accepted) _ _ _ (due p) (slots p) (c .before .before .before .begin .ensures) .workable
 
 enum-known-reason : tie.Need-enum-known-reason
 enum-known-reason c = search needs

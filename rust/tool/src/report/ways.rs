@@ -10,13 +10,12 @@ pub fn proved(answered: &Answered) -> String {
     format!(
         "<section>\n<h2>The proof, way by way</h2>\n\
          <p>No pallet comes or goes, so the slots with a question mark can only hold what is left, \
-         and there are {} to put it there. Each of these is a full order. Each was asked by \
-         itself, and each is impossible: there is a list of <em>features</em>, statements about \
-         what one slot or two slots hold, of which an odd number is true in the one bay and an \
-         even number in the other, while no move can change odd to even. Beside the number of \
-         each way stand both counts, and below it the list. A page about one of them, made by \
-         <code>florumeja report</code>, shows why no move can change its count from odd to \
-         even.</p>\n</section>\n{}{BY_PROGRAM}",
+         which can be put there in {}. Each way is a full order. Each was asked by itself, and each \
+         is impossible: there is a list of <em>features</em>, statements about what one slot or two \
+         slots hold, of which an odd number is true in the one bay and an even number in the other, \
+         while no move can change odd to even. Below, each way has its pictures, both counts and \
+         its list. A page about one of these full orders, made by <code>florumeja report</code>, \
+         also shows move by move why its count cannot change from odd to even.</p>\n</section>\n{}{BY_PROGRAM}",
         counted(answered.ways.len(), "way"),
         all(&answered.ways)
     )

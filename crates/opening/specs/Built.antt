@@ -8,7 +8,7 @@ use Rattle.meaning.specs.Sets.{listed}
 use Rattle.meaning.specs.Task.{Task, State}
 use Rattle.meaning.specs.Workspace.{has, slotsAt, wordsDue}
 use Rattle.meaning.specs.Answer.{done}
-use Rattle.meaning.specs.Partial.{forgettings, builtTask, leftOut, OpensPartial}
+use Rattle.meaning.specs.Partial.{Partial, Ordered, builtTask, leftOut, OpensPartial}
 use Rattle.layout.specs.Parts.{sizesPart, goalPart, pairsPart}
 use Rattle.pairs.specs.Ready.{Listed}
 use Rattle.forgetting.specs.Kept.{keptIn, kept-forgettings}
@@ -17,6 +17,11 @@ use Rattle.task.specs.Answer.{known-parts, known-ready}
 use Rattle.order.specs.Answer.{KnownPartial}
 use Rattle.opening.specs.Adding.{Sized, addedFrom, added-sized}
 use Rattle.opening.specs.Begin.{begun-sized, begun-added, begun-rows, opens-done}
+
+-- Its operators are the file's, then the forgetting ones that its header keeps.
+built-operators : (P : Partial) → Ordered P → let T = builtTask P (leftOut P) in T .operators ≡ P .operators ++ keptIn (T .sizes) (listed (T .pairs)) (T .goal) false
+unfolding builtTask
+built-operators P ok = ap (_++_ (P .operators)) (sym (kept-forgettings P ok false))
 
 module _ (bytes old header room : List ℕ) (v n count kept at : ℕ) (known : KnownPartial false bytes old header v n count kept at) where
   abbrev task : Task
@@ -33,16 +38,9 @@ module _ (bytes old header room : List ℕ) (v n count kept at : ℕ) (known : K
       rw (sizes-are, goal-is) (ready .2),
     )
 
-    -- What the header keeps are the forgetting operators of the built task.
-    kept-built : keptIn sizes (has pairs) goal false ≡ forgettings (known .partial .sizes) (leftOut (known .partial))
-    unfolding builtTask
-    kept-built = let parts = known-parts (known .accepted) in
-        rw (sizes-are ∙ parts .0 ∙ ap (λ T. T .sizes) (known .built), ap has pairs-are ∙ parts .3 ∙ ap (λ T. listed (T .pairs)) (known .built), goal-is ∙ parts .2 ∙ ap (λ T. T .goal) (known .built))
-        (kept-forgettings (known .partial) (known .ordered) false)
-
     operators-are : task .operators ≡ known .partial .operators ++ keptIn sizes (has pairs) goal false
-    unfolding builtTask
-    operators-are = ap (λ T. T .operators) (known .built) ∙ ap (_++_ (known .partial .operators)) (sym kept-built)
+    operators-are = let parts = known-parts (known .accepted) in
+        rw (sizes-are ∙ parts .0, ap has pairs-are ∙ parts .3, goal-is ∙ parts .2, known .built) (built-operators (known .partial) (known .ordered))
 
     pub built-opened : due ≤ length room → (exit : List ℕ) → exit ≡ foldl (withRows v n) added (keptIn sizes (has pairs) goal false)
         → OpensPartial bytes room (record { answer = done due; lent = exit })

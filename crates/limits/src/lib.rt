@@ -1,4 +1,4 @@
-// The limits and offsets of document 01 that several crates use, each under one name.
+// The limits and offsets of the documents that several crates use, each under one name.
 
 // "v 1 to 64"
 pub const LEAST_VARIABLES: usize = 1;
@@ -9,6 +9,11 @@ pub const MOST_VARIABLES: usize = 64;
 pub const LEAST_SIZE: usize = 1;
 
 pub const MOST_SIZE: usize = 64;
+
+// A partial task file: "Its sizes, 1 to 63, are the old ones".
+pub const LEAST_PARTIAL_SIZE: usize = 1;
+
+pub const MOST_PARTIAL_SIZE: usize = 63;
 
 // "N at most 4,096"
 pub const MOST_FEATURES: usize = 4096;

@@ -1,22 +1,20 @@
 -- The sizes with their count, as the code reads and judges them; and the end of a weight file.
-use Prim.Native.Nat.{ℕ, suc, _+_, _-_, _<_, _≤_}
+use Prim.Native.Nat.{ℕ, suc, _+_, _<_, _≤_}
 use mathlib.Core.Path.{_≡_, refl, sym, ap, _∙_}
 use mathlib.Core.Bool.{Bool, true, false, cond}
 use mathlib.Core.List.{List, [], _∷_, _++_, append-nil}
 use native.Mathlib.Omega.{arith}
 use native.Mathlib.Numerals.{add-one}
-use lib.ListN.{length, getD, set, take, drop, replicate, length-append, length-drop, length-set, length-replicate}
-use lib.Seq.{take-at, drop-at, length-take-le}
+use lib.ListN.{length, getD, set, drop, replicate}
 use lib.Dec.{leb}
 use borrow.Author.Tests.{le-leb, lt-leb}
 use Rattle.meaning.specs.Limits.{leastVariables, mostVariables, mostSize, mostFeatures}
-use Rattle.meaning.specs.Feature.{features}
+use Rattle.meaning.specs.Task.{size}
 use Rattle.meaning.specs.Number as meaning
 use Rattle.meaning.specs.Number.{Limit, Read, got, fault, numbersOn}
-use Rattle.meaning.specs.File.{Parser, inside, item, judge, limited, itemsOf, sizesOf, sizeList, header, featureList, ended, judgedWeights}
+use Rattle.meaning.specs.File.{Parser, inside, item, judge, limited, itemsOf, sizesOf, sizeList, featureList, ended, judgedWeights}
 use Rattle.meaning.specs.Workspace.{sizesAt, startAt}
 use Rattle.theory.specs.Parts.{item-said, sizes-said, size-list-said}
-use Rattle.theory.specs.Flat.{take-replicate}
 use Rattle.number.specs.Answers.{placeOf}
 use Rattle.number.specs.declared.Reason.{Reason}
 use Rattle.number.specs.declared.Reason.the-variants as code
@@ -34,38 +32,19 @@ countAt = item (inside leastVariables (suc mostVariables)) Limit
 abbrev pub featuresJudged : List ℕ → ℕ → ℕ → ℕ → ℕ → Read (Unit {0})
 featuresJudged bytes at v n next = cond (leb n mostFeatures) (got tt next) (fault Limit (numbersOn v bytes at))
 
+-- No more variables than there may be, and no larger sizes than this.
+pub record Within (most : ℕ) (sizes : List ℕ) : Type 0 where
+  pub few : length sizes ≤ mostVariables
+  pub small : (i : ℕ) → i < length sizes → size sizes i ≤ most
+
+pub within-small : (most : ℕ) (sizes : List ℕ) → Within most sizes → most ≤ mostSize → SmallSizes sizes
+within-small most sizes known h = record { few = known .few; small = λ i l. omega (arith, known .small i l) }
+
 -- What is known once v and the sizes were read.
 abbrev pub Sized : List ℕ → ℕ → ℕ → ℕ → List ℕ → List ℕ → ℕ → Type 0
-Sized bytes at least most = After (sizeList least most bytes at) (λ sizes. (length sizes ≤ mostVariables) × (most ≤ mostSize → SmallSizes sizes)) (λ sizes. sizes) sizedWords
+Sized bytes at least most = After (sizeList least most bytes at) (Within most) (λ sizes. sizes) sizedWords
 
 -- ---- v and the sizes
-
--- Words in which v is written, and behind it a part for v numbers.
-abbrev pub laid : List ℕ → ℕ → List ℕ → List ℕ
-laid old v part = take sizesAt (set old 0 v) ++ (part ++ drop (sizesAt + v - sizesAt) (drop sizesAt (set old 0 v)))
-
-laid-are : (old : List ℕ) (v : ℕ) (part : List ℕ) → startAt v ≤ length old → laid old v part ≡ v ∷ (part ++ drop (startAt v) old)
-laid-are [] v part h = absurd (omega arith)
-laid-are (x ∷ old) v part h = let k : sizesAt + v - sizesAt ≡ v = omega arith in let s : sizesAt + v ≡ suc v = omega arith in rw (k, s) refl
-
--- The same bound for each of v numbers, out of as many as there may be.
-abbrev pub bounds : ℕ → ℕ → List ℕ
-bounds v most = take v (replicate mostVariables (most + 1))
-
-bounds-are : (v most : ℕ) → v ≤ mostVariables → bounds v most ≡ replicate v (suc most)
-bounds-are v most h = take-replicate v mostVariables (most + 1) h ∙ ap (replicate v) (add-one most)
-
-bounds-length : (v most : ℕ) → v ≤ mostVariables → length (bounds v most) ≡ v
-bounds-length v most h = ap length (bounds-are v most h) ∙ length-replicate v (suc most)
-
-module _ (old : List ℕ) (v most : ℕ) (room : startAt mostVariables ≤ length old) (few : v ≤ mostVariables) where
-  -- There is room for them.
-  pub bounds-room : length (take (sizesAt + v - sizesAt) (drop sizesAt (set old 0 v))) ≡ length (bounds v most)
-  bounds-room = length-take-le (sizesAt + v - sizesAt) (drop sizesAt (set old 0 v)) (omega (arith, length-drop sizesAt (set old 0 v), length-set old 0 v))
-      ∙ omega (arith, bounds-length v most few)
-
-  pub laid-length : (part : List ℕ) → part ≡ bounds v most → length (laid old v part) ≡ length old
-  laid-length part e = omega (arith, ap length (laid-are old v part (omega arith)), length-append part (drop (startAt v) old), length-drop (startAt v) old, ap length e, bounds-length v most few)
 
 module _ (bytes : List ℕ) (at least most : ℕ) where
   pub count-fault : (reason : meaning.Reason) (there : ℕ) → countAt bytes at ≡ fault reason there → sizeList least most bytes at ≡ fault reason there
@@ -75,49 +54,41 @@ module _ (bytes : List ℕ) (at least most : ℕ) where
   pub count-known : (v next : ℕ) → countAt bytes at ≡ got v next → (leastVariables ≤ v) × (v ≤ mostVariables)
   count-known v next e = let known = item-said bytes leastVariables (suc mostVariables) Limit .gives at v next e .known in (known .0, omega (arith, known .1))
 
-  -- The sizes are read over their bounds.
-  pub sizes-over : (v next : ℕ) (old part : List ℕ) (answer : Step) (left : List ℕ) → startAt mostVariables ≤ length old → countAt bytes at ≡ got v next → part ≡ bounds v most
-      → ReadsInto (itemsOf least Limit (take v (drop sizesAt (laid old v part))) bytes next) (written (laid old v part) sizesAt) answer left
+  -- The sizes are read behind v.
+  pub sizes-behind : (v next : ℕ) (old : List ℕ) (answer : Step) (left : List ℕ) → startAt mostVariables ≤ length old → countAt bytes at ≡ got v next
+      → ReadsInto (itemsOf least Limit (replicate v (most + 1)) bytes next) (written (set old 0 v) sizesAt) answer left
       → ReadsInto (sizeList least most bytes at) (λ sizes. begun old (sizedWords sizes)) answer left
   unfolding sizeList
-  sizes-over v next old part answer left h counted e read =
-      reads-same (sizeList least most bytes at) (written (laid old v part) sizesAt) (λ sizes. begun old (sizedWords sizes)) answer left
-      (λ sizes after r. same sizes (sizes-said bytes least most v .gives next sizes after (sym begins ∙ r) .known .0))
-      (rw begins (rw are at read))
+  sizes-behind v next old answer left h counted read =
+      reads-same (sizeList least most bytes at) (written (set old 0 v) sizesAt) (λ sizes. begun old (sizedWords sizes)) answer left
+      (λ sizes after r. same old h sizes (sizes-said bytes least most v .gives next sizes after (sym begins ∙ r) .known .0))
+      (rw begins (rw (add-one most) at read))
     where
-      few : v ≤ mostVariables
-      few = count-known v next counted .1
-
-      long : length part ≡ v
-      long = ap length e ∙ bounds-length v most few
-
       begins : sizeList least most bytes at ≡ sizesOf least most v bytes next
       begins = rw counted
 
-      are : take v (drop sizesAt (laid old v part)) ≡ replicate v (suc most)
-      are = rw (laid-are old v part (omega (arith, few))) (take-at part _ v long ∙ e ∙ bounds-are v most few)
-
-      same : (sizes : List ℕ) → length sizes ≡ v → written (laid old v part) sizesAt sizes ≡ begun old (sizedWords sizes)
-      same sizes q =
-          let s : sizesAt + length sizes ≡ suc v = omega arith in
-          let t : startAt v ≡ suc v = omega arith in
-          rw (laid-are old v part (omega (arith, few)), s, drop-at part (drop (startAt v) old) v long, t) (ap (λ k. k ∷ (sizes ++ drop (suc k) old)) (sym q))
+      same : (old : List ℕ) → startAt mostVariables ≤ length old → (sizes : List ℕ) → length sizes ≡ v → written (set old 0 v) sizesAt sizes ≡ begun old (sizedWords sizes)
+      same [] h sizes q = absurd (omega arith)
+      same (x ∷ old) h sizes q = let s : sizesAt + length sizes ≡ suc (length sizes) = omega arith in rw s (ap (λ k. k ∷ (sizes ++ drop (length sizes) old)) (sym q))
 
   -- ---- N
+
+  abbrev judgedBy : (List ℕ → ℕ) → Read (List ℕ)
+  judgedBy count = limited (sizeList least most) (λ sizes. leb (count sizes) mostFeatures) length bytes at
 
   pub sizes-known : (old : List ℕ) (answer : Step) (words : List ℕ) (next : ℕ) → ReadsInto (sizeList least most bytes at) (λ sizes. begun old (sizedWords sizes)) answer words
       → answer ≡ Next next → Sized bytes at least most old words next
   sizes-known old answer words next = after (sizeList least most bytes at) _ (λ sizes. sizes) sizedWords (λ sizes. ([], sym (append-nil (sizedWords sizes)))) old answer words next
-      (λ sizes r. let said = size-list-said bytes least most .gives at sizes next r .known in
-      (said .1, λ h. record { few = said .1; small = λ i l. omega (arith, said .2 i l) }))
+      (λ sizes r. let said = size-list-said bytes least most .gives at sizes next r .known in record { few = said .1; small = λ i l. said .2 i l .1 })
 
-  pub sizes-judged : (old words : List ℕ) (next n : ℕ) (answer : Step) (known : Sized bytes at least most old words next) → n ≡ features (known .value)
-      → answer ≡ placeOf (featuresJudged bytes at (getD words 0 0) n next) → ReadsInto (header least most bytes at) (λ sizes. begun old (sizedWords sizes)) answer words
-  unfolding ReadsInto header limited
-  sizes-judged old words next n answer known total told = rw told (by (leb (features (known .value)) mostFeatures) refl)
+  -- N is counted by the sizes, as the kind of file says.
+  pub sizes-judged : (count : List ℕ → ℕ) (old words : List ℕ) (next n : ℕ) (answer : Step) (known : Sized bytes at least most old words next) → n ≡ count (known .value)
+      → answer ≡ placeOf (featuresJudged bytes at (getD words 0 0) n next) → ReadsInto (judgedBy count) (λ sizes. begun old (sizedWords sizes)) answer words
+  unfolding ReadsInto limited
+  sizes-judged count old words next n answer known total told = rw told (by (leb (count (known .value)) mostFeatures) refl)
     where
-      by : (b : Bool) → leb (features (known .value)) mostFeatures ≡ b
-          → ReadsInto (header least most bytes at) (λ sizes. begun old (sizedWords sizes)) (placeOf (featuresJudged bytes at (getD words 0 0) n next)) words
+      by : (b : Bool) → leb (count (known .value)) mostFeatures ≡ b
+          → ReadsInto (judgedBy count) (λ sizes. begun old (sizedWords sizes)) (placeOf (featuresJudged bytes at (getD words 0 0) n next)) words
       by true e = rw (total, known .is, e) (refl, known .are)
       by false e = rw (total, known .is, e, known .count) refl
 

@@ -1,16 +1,19 @@
 -- The lists of a file as the code reads them: what is still to be read, after each turn, goes into the words as they are then.
 use Prim.Native.Nat.{ℕ, suc, _+_, _-_, _<_, _≤_}
-use mathlib.Core.Path.{_≡_, refl, _∙_}
+use mathlib.Core.Path.{_≡_, refl, sym, ap, _∙_}
 use mathlib.Core.Logic.{_≢_}
-use mathlib.Core.List.{List}
+use mathlib.Core.List.{List, _++_}
 use native.Mathlib.Omega.{arith}
 use native.Mathlib.Numerals.{add-one}
-use lib.ListN.{length, getD, set, take, drop, length-drop, drop-of-length-le}
-use lib.Seq.{sets, drop-cons, getD-set-other, getD-take, getD-drop, length-take-le}
+use lib.ListN.{length, getD, set, take, drop, replicate, length-append, length-drop, length-replicate, drop-of-length-le}
+use lib.Seq.{sets, drop-cons, drop-drop, take-at, drop-at, getD-set-other, getD-take, getD-drop, length-take-le}
+use Rattle.meaning.specs.Limits.{mostVariables}
 use Rattle.meaning.specs.Number as meaning
 use Rattle.meaning.specs.Number.{got, fault}
 use Rattle.meaning.specs.File.{Parser, inside, item, itemsOf, rising, featuresOf}
+use Rattle.theory.specs.Flat.{take-replicate}
 use Rattle.theory.specs.Parts.{items-said, rising-said}
+use Rattle.layout.specs.Parts.{lent, length-part}
 use Rattle.number.specs.Laws.{sets-all}
 use Rattle.number.specs.declared.Step.{Step}
 use Rattle.words.specs.Change.{toggled}
@@ -89,6 +92,59 @@ module _ (old : List ℕ) (bounds to count : ℕ) (within : bounds + count ≤ l
   items-written bytes place answer left =
       reads-same (itemsOf low reason (take count (drop bounds old)) bytes place) (sets old to) (written old to) answer left
       (λ ns next e. sets-all old to _ ns refl (omega (arith, bounds-length, items-said bytes low reason (take count (drop bounds old)) .gives place ns next e .known .0)))
+
+-- ---- numbers below one bound
+
+-- What is written over a part is written over what was there before it.
+pub written-over : (old part values : List ℕ) (to : ℕ) → to + length part ≤ length old → length values ≡ length part → written (written old to part) to values ≡ written old to values
+written-over old part values to room e =
+    let first = length-take-le to old (omega arith) in
+    let behind = part ++ drop (to + length part) old in
+    rw (take-at (take to old) behind to first, ← drop-drop (length values) to (written old to part), drop-at (take to old) behind to first)
+    (rw (drop-at part (drop (to + length part) old) (length values) (omega arith), e) refl)
+
+-- Words with another part from a place on.
+abbrev pub laid : List ℕ → ℕ → ℕ → List ℕ → List ℕ
+laid old to count part = take to old ++ (part ++ drop (to + count - to) (drop to old))
+
+-- The same bound for each of so many numbers, out of as many as there may be.
+abbrev pub bounds : ℕ → ℕ → List ℕ
+bounds count bound = take count (replicate mostVariables bound)
+
+module _ (old : List ℕ) (to count bound : ℕ) (few : count ≤ mostVariables) (room : to + count ≤ length old) where
+  bounds-are : bounds count bound ≡ replicate count bound
+  bounds-are = take-replicate count mostVariables bound few
+
+  bounds-count : length (bounds count bound) ≡ count
+  bounds-count = ap length bounds-are ∙ length-replicate count bound
+
+  -- There is room for them.
+  pub bounds-room : length (take (to + count - to) (drop to old)) ≡ length (bounds count bound)
+  bounds-room = ap length (lent to count old) ∙ length-part to count old room ∙ sym bounds-count
+
+  module _ (part : List ℕ) (e : part ≡ bounds count bound) where
+    long : length part ≡ count
+    long = ap length e ∙ bounds-count
+
+    laid-written : laid old to count part ≡ written old to part
+    laid-written = let k : to + count - to ≡ length part = omega (arith, long) in rw (k, drop-drop (length part) to old) refl
+
+    pub laid-length : length (laid old to count part) ≡ length old
+    laid-length = rw (laid-written, length-append (take to old) (part ++ drop (to + length part) old), length-append part (drop (to + length part) old), length-drop (to + length part) old)
+        (omega (arith, long, length-take-le to old (omega arith)))
+
+    -- The numbers are read over their bounds.
+    pub items-over : (low : ℕ) (reason : meaning.Reason) (bytes : List ℕ) (place : ℕ) (answer : Step) (left : List ℕ)
+        → ReadsInto (itemsOf low reason (take count (drop to (laid old to count part))) bytes place) (written (laid old to count part) to) answer left
+        → ReadsInto (itemsOf low reason (replicate count bound) bytes place) (written old to) answer left
+    items-over low reason bytes place answer left read =
+        reads-same (itemsOf low reason (replicate count bound) bytes place) (written (written old to part) to) (written old to) answer left
+        (λ ns next r. written-over old part ns to (omega (arith, long))
+        (items-said bytes low reason (replicate count bound) .gives place ns next r .known .0 ∙ length-replicate count bound ∙ sym long))
+        (rw (are, laid-written) at read)
+      where
+        are : take count (drop to (laid old to count part)) ≡ replicate count bound
+        are = rw (drop-at (take to old) (part ++ drop (to + count - to) (drop to old)) to (length-take-le to old (omega arith)), take-at part (drop (to + count - to) (drop to old)) count long) (e ∙ bounds-are)
 
 -- ---- features
 

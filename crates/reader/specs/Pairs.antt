@@ -8,9 +8,8 @@ use lib.ListN.{length, getD, take, drop, replicate}
 use lib.Seq.{drop-at, drop-drop}
 use Rattle.meaning.specs.Limits.{mostVariables, mostFeatures}
 use Rattle.meaning.specs.Feature.{atoms, features}
-use Rattle.meaning.specs.Number as meaning
-use Rattle.meaning.specs.Number.{got, fault, number}
-use Rattle.meaning.specs.File.{give, then, featureList, InLimits}
+use Rattle.meaning.specs.Number.{Read, got, fault, onRead, number}
+use Rattle.meaning.specs.File.{Parser, give, then, featureList, InLimits}
 use Rattle.meaning.specs.Workspace.{pairsAt, slotsAt, wordsFor}
 use Rattle.theory.specs.Numbering.{atoms-room}
 use Rattle.theory.specs.Words.{length-packed}
@@ -22,13 +21,15 @@ use Rattle.layout.specs.Parts.{sizesPart, pairsPart, Headed, sizes-first, lent-
 use Rattle.number.specs.Answers.{reasonOf, declared-reason}
 use Rattle.number.specs.declared.Reason.{Reason}
 use Rattle.number.specs.declared.Step.{Step}
+use Rattle.number.specs.declared.Step.the-variants as code
 use Rattle.number.specs.declared.Step.the-variants.{Next}
 use Rattle.numbering.specs.Sizes.{SmallSizes, limits-small}
+use Rattle.reader.specs.declared.Header.{Header}
 use Rattle.reader.specs.declared.Header.the-variants.{Got, Fault}
-use Rattle.reader.specs.Answer.{written, featureWords, ReadsInto, reads-next, reads-put}
+use Rattle.reader.specs.Answer.{written, begun, featureWords, ReadsInto, reads-next, reads-fault, reads-put, unread}
 use Rattle.reader.specs.After.{begun-more}
-use Rattle.reader.specs.Front.{stateWords, behindStates, frontOf, frontWords, HeaderInto}
-use Rattle.reader.specs.States.{AfterGoal}
+use Rattle.reader.specs.Front.{States, stateWords, Front, behindStates, frontWords, HeaderInto}
+use Rattle.reader.specs.States.{AfterStates}
 
 -- Words that begin with sizes within the limits, have n features, and have none yet among the words of the pairs.
 pub record Cleared (words : List ℕ) (n : ℕ) : Type 0 where
@@ -71,57 +72,88 @@ zeros-left zero m = rw (sub-zero m)
 zeros-left (suc k) zero = let q : zero - suc k ≡ 0 = omega arith in rw q
 zeros-left (suc k) (suc m) = let q : suc m - suc k ≡ m - k = omega arith in rw q (zeros-left k m)
 
-module _ (bytes : List ℕ) (from : ℕ) (words : List ℕ) where
-  pub header-fault : (reason : Reason) (place : ℕ) (left : List ℕ) → frontOf bytes from ≡ fault (reasonOf reason) place
-      → HeaderInto (frontOf bytes from) words (Fault reason place) left
-  unfolding HeaderInto
-  header-fault reason place left e = rw e (ap (λ r. Fault r place) (sym (declared-reason reason)))
+-- Words that begin with those of states; the others are as they were.
+pub record Holds (states : States) (old words : List ℕ) : Type 0 where
+  pub are : words ≡ begun old (stateWords states)
+  pub count : getD words 0 0 ≡ length (states .sizes)
+  pub same : sizesIn words ≡ states .sizes
+  pub ends : length (stateWords states) ≡ pairsAt (length (states .sizes))
 
-  module _ (old : List ℕ) (next : ℕ) (known : AfterGoal bytes from words old next) where
-    module _ (n : ℕ) (total : n ≡ features (known .value .sizes)) where
-      pub cleared : words ≡ replicate (length words) 0 → slotsAt mostVariables mostFeatures ≤ length words → length old ≡ length words → Cleared old n
-      cleared none room same =
-          let front = stateWords (known .value) in
-          let v : getD old 0 0 ≤ mostVariables = omega (arith, known .count, known .known .0 .variables) in
-          let most : n ≤ mostFeatures = omega (arith, total, known .known .0 .total) in
-          record {
-            limits = rw (known .same) (known .known .0);
-            total = total ∙ ap features (sym (known .same));
-            headed = record { variables = v; features = most; words = omega arith };
-            none = rw (known .count, known .are, drop-at front (drop (length front) words) _ (known .known .1)) (
-                rw none (rw (zeros-left (length front) (length words))
-                (take-replicate (wordsFor n) (length words - length front) 0 (omega (arith, known .known .1, known .count)))));
-          }
+-- What is read behind the states that the words hold, whichever they are.
+pub record BehindInto (bytes : List ℕ) (at : ℕ) (words : List ℕ) (answer : Header) (left : List ℕ) : Type 0 where
+  pub into : (states : States) (old : List ℕ) → Holds states old words → HeaderInto (behindStates states bytes at) old answer left
 
-      -- What is left to be read.
-      front-rest : frontOf bytes from ≡ then (featureList (atoms (sizesIn old)) n)
-          (λ pairs. then number (λ count. give (record { states = known .value; pairs = pairs; count = count }))) bytes next
-      unfolding frontOf behindStates
-      front-rest = rw (known .same, total, known .is) refl
+header-fault : (read : Read Front) (words : List ℕ) (reason : Reason) (place : ℕ) (left : List ℕ) → read ≡ fault (reasonOf reason) place → HeaderInto read words (Fault reason place) left
+unfolding HeaderInto
+header-fault read words reason place left e = rw e (ap (λ r. Fault r place) (sym (declared-reason reason)))
 
-      pub pairs-unread : (reason : meaning.Reason) (place : ℕ) → featureList (atoms (sizesIn old)) n bytes next ≡ fault reason place
-          → frontOf bytes from ≡ fault reason place
-      pairs-unread reason place e = front-rest ∙ rw e
+module _ (bytes : List ℕ) (at : ℕ) (words : List ℕ) (n : ℕ) (total : n ≡ features (sizesIn words)) where
+  -- What the pairs are read as, and the words with them.
+  abbrev pairsRead : Read (List ℕ)
+  pairsRead = featureList (atoms (sizesIn words)) n bytes at
 
-      module _ (answer : Step) (left : List ℕ) (after : ℕ)
-          (read : ReadsInto (featureList (atoms (sizesIn old)) n bytes next) (λ pairs. written old (pairsAt (getD old 0 0)) (featureWords n pairs)) answer left) (e : answer ≡ Next after) where
-        pairs-read : (pairs : List ℕ) × (featureList (atoms (sizesIn old)) n bytes next ≡ got pairs after) × (left ≡ written old (pairsAt (getD old 0 0)) (featureWords n pairs))
-        pairs-read = reads-next (featureList (atoms (sizesIn old)) n bytes next) (λ pairs. written old (pairsAt (getD old 0 0)) (featureWords n pairs)) answer after left read e
+  abbrev withPairs : List ℕ → List ℕ
+  withPairs pairs = written words (pairsAt (getD words 0 0)) (featureWords n pairs)
 
-        pub count-unread : (reason : meaning.Reason) (place : ℕ) → number bytes after ≡ fault reason place → frontOf bytes from ≡ fault reason place
-        count-unread reason place f = front-rest ∙ rw (pairs-read .1, f)
+  -- What is left to be read.
+  behind-rest : (states : States) → sizesIn words ≡ states .sizes
+      → behindStates states bytes at ≡ onRead pairsRead (λ pairs next. then number (λ count. give (record { states = states; pairs = pairs; count = count })) bytes next)
+  unfolding behindStates
+  behind-rest states same = rw (total, same) refl
 
-        pub header-got : (v operators last : ℕ) → v ≡ getD old 0 0 → number bytes after ≡ got operators last
-            → HeaderInto (frontOf bytes from) words (Got v n operators last) left
-        unfolding frontWords HeaderInto
-        header-got v operators last same f = made (pairs-read .0) (pairs-read .1) (pairs-read .2)
-          where
-            made : (pairs : List ℕ) → featureList (atoms (sizesIn old)) n bytes next ≡ got pairs after
-                → left ≡ written old (pairsAt (getD old 0 0)) (featureWords n pairs)
-                → HeaderInto (frontOf bytes from) words (Got v n operators last) left
-            made pairs r w =
-                let front : frontOf bytes from ≡ got (record { states = known .value; pairs = pairs; count = operators }) last = front-rest ∙ rw (r, f) in
-                rw front (
-                  rw (same, known .count, total) refl,
-                  w ∙ rw (known .count, known .are, total) (begun-more words (stateWords (known .value)) (featureWords (features (known .value .sizes)) pairs) _ (known .known .1)),
-                )
+  module _ (answer : Step) (left : List ℕ) (read : ReadsInto pairsRead withPairs answer left) where
+    pub pairs-unread : (reason : Reason) (place : ℕ) → answer ≡ code.Fault reason place → BehindInto bytes at words (Fault reason place) left
+    pairs-unread reason place e = record {
+      into = λ states old holds. header-fault _ old reason place left (behind-rest states (holds .same) ∙ rw (reads-fault pairsRead withPairs answer reason place left read e));
+    }
+
+    module _ (next : ℕ) (e : answer ≡ Next next) where
+      pairs-read : (pairs : List ℕ) × (pairsRead ≡ got pairs next) × (left ≡ withPairs pairs)
+      pairs-read = reads-next pairsRead withPairs answer next left read e
+
+      pub count-unread : (reason : Reason) (place : ℕ) → number bytes next ≡ fault (reasonOf reason) place → BehindInto bytes at words (Fault reason place) left
+      count-unread reason place f = record { into = λ states old holds. header-fault _ old reason place left (behind-rest states (holds .same) ∙ rw (pairs-read .1, f)) }
+
+      pub header-got : (v operators last : ℕ) → v ≡ getD words 0 0 → number bytes next ≡ got operators last → BehindInto bytes at words (Got v n operators last) left
+      unfolding frontWords HeaderInto
+      header-got v operators last same f = record { into = λ states old holds. made states old holds (pairs-read .0) (pairs-read .1) (pairs-read .2) }
+        where
+          made : (states : States) (old : List ℕ) → Holds states old words → (pairs : List ℕ) → pairsRead ≡ got pairs next → left ≡ withPairs pairs
+              → HeaderInto (behindStates states bytes at) old (Got v n operators last) left
+          made states old holds pairs r w =
+              let count : n ≡ features (states .sizes) = total ∙ ap features (holds .same) in
+              let front : behindStates states bytes at ≡ got (record { states = states; pairs = pairs; count = operators }) last = behind-rest states (holds .same) ∙ rw (r, f) in
+              rw front (
+                rw (same, holds .count, count) refl,
+                w ∙ rw (holds .count, holds .are, count) (begun-more old (stateWords states) (featureWords (features (states .sizes)) pairs) _ (holds .ends)),
+              )
+
+-- ---- behind states that were read
+
+module _ (read : Parser States) (bytes : List ℕ) (from : ℕ) (words : List ℕ) where
+  pub states-unread : (answer : Step) (reason : Reason) (place : ℕ) (left : List ℕ) → ReadsInto (read bytes from) (λ states. begun words (stateWords states)) answer left
+      → answer ≡ code.Fault reason place → HeaderInto (then read behindStates bytes from) words (Fault reason place) left
+  states-unread answer reason place left reads e = header-fault _ words reason place left (unread _ _ _ _ (reads-fault _ _ answer reason place left reads e))
+
+  module _ (old : List ℕ) (next : ℕ) (known : AfterStates read bytes from words old next) where
+    pub cleared : words ≡ replicate (length words) 0 → slotsAt mostVariables mostFeatures ≤ length words → length old ≡ length words → Cleared old (features (sizesIn old))
+    cleared none room long =
+        let v : getD old 0 0 ≤ mostVariables = omega (arith, known .count, known .known .0 .variables) in
+        let most : features (sizesIn old) ≤ mostFeatures = rw (known .same) (known .known .0 .total) in
+        record {
+          limits = rw (known .same) (known .known .0);
+          total = refl;
+          headed = record { variables = v; features = most; words = omega arith };
+          none = none-yet (features (sizesIn old)) most;
+        }
+      where
+        none-yet : (n : ℕ) → n ≤ mostFeatures → pairsPart (getD old 0 0) n old ≡ replicate (wordsFor n) 0
+        none-yet n most =
+            let front = stateWords (known .value) in
+            rw (known .count, known .are, drop-at front (drop (length front) words) _ (known .known .1)) (
+            rw none (rw (zeros-left (length front) (length words))
+            (take-replicate (wordsFor n) (length words - length front) 0 (omega (arith, known .known .1, known .known .0 .variables)))))
+
+    pub header-behind : (answer : Header) (left : List ℕ) → BehindInto bytes next old answer left → HeaderInto (then read behindStates bytes from) words answer left
+    header-behind answer left behind = rw (known .is)
+        (behind .into (known .value) words (record { are = known .are; count = known .count; same = known .same; ends = known .known .1 }))

@@ -7,6 +7,7 @@ use lib.ListN.{length, getD, length-append}
 use Rattle.meaning.specs.Limits.{leastSize, mostSize}
 use Rattle.meaning.specs.Task.{State, Run}
 use Rattle.meaning.specs.Feature.{atoms, features}
+use Rattle.meaning.specs.Number.{got}
 use Rattle.meaning.specs.File.{Parser, give, then, header, valuesOf, InLimits}
 use Rattle.meaning.specs.Workspace.{startAt, goalAt, pairsAt}
 use Rattle.theory.specs.Spent.{Gives, gives-then, gives-map}
@@ -58,15 +59,27 @@ module _ {A B : Type 0} (first : Parser A) (sizes words : A → List ℕ) (at : 
 
 -- ---- after each part
 
+-- The words of states end where the pairs begin.
+pub states-end : (states : States) → length (states .start) ≡ length (states .sizes) → length (states .goal) ≡ length (states .sizes) → length (stateWords states) ≡ pairsAt (length (states .sizes))
+unfolding stateWords
+states-end states h k = omega (arith, length-append (states .sizes) (states .start ++ states .goal), length-append (states .start) (states .goal))
+
+-- After sizes, start and goal, whatever reads them.
+abbrev pub AfterStates : Parser States → List ℕ → ℕ → List ℕ → List ℕ → ℕ → Type 0
+AfterStates read bytes from = After (read bytes from) (Ends (λ states. states .sizes) stateWords pairsAt) (λ states. states .sizes) stateWords
+
+pub after-states : (read : Parser States) (bytes : List ℕ) (from : ℕ) (old : List ℕ) (answer : Step) (left : List ℕ) (next : ℕ)
+    → ((states : States) → read bytes from ≡ got states next → Ends (λ states. states .sizes) stateWords pairsAt states)
+    → ReadsInto (read bytes from) (λ states. begun old (stateWords states)) answer left → answer ≡ Next next → AfterStates read bytes from old left next
+unfolding stateWords
+after-states read bytes from old answer left next = after _ _ _ stateWords (λ states. (states .start ++ states .goal, refl)) old answer left next
+
 module _ (bytes : List ℕ) (from : ℕ) (old : List ℕ) where
   abbrev pub AfterSizes : List ℕ → ℕ → Type 0
   AfterSizes = After (header leastSize mostSize bytes from) (Ends (λ sizes. sizes) sizedWords startAt) (λ sizes. sizes) sizedWords old
 
   abbrev pub AfterStart : List ℕ → ℕ → Type 0
   AfterStart = After (startOf bytes from) (Ends (λ started. started .sizes) startWords goalAt) (λ started. started .sizes) startWords old
-
-  abbrev pub AfterGoal : List ℕ → ℕ → Type 0
-  AfterGoal = After (statesOf bytes from) (Ends (λ states. states .sizes) stateWords pairsAt) (λ states. states .sizes) stateWords old
 
   module _ (answer : Step) (left : List ℕ) (next : ℕ) where
     pub after-header : ReadsInto (header leastSize mostSize bytes from) (λ sizes. begun old (sizedWords sizes)) answer left → answer ≡ Next next → AfterSizes left next
@@ -78,11 +91,9 @@ module _ (bytes : List ℕ) (from : ℕ) (old : List ℕ) where
     after-start = after _ _ _ startWords (λ started. (started .start, refl)) old answer left next
         (λ started r. let said = start-said bytes .gives from started next r .known in (said .0, omega (arith, length-append (started .sizes) (started .start), said .1 .full)))
 
-    pub after-goal : ReadsInto (statesOf bytes from) (λ states. begun old (stateWords states)) answer left → answer ≡ Next next → AfterGoal left next
-    unfolding stateWords
-    after-goal = after _ _ _ stateWords (λ states. (states .start ++ states .goal, refl)) old answer left next
-        (λ states r. let said = states-said bytes .gives from states next r .known in
-        (said .0, omega (arith, length-append (states .sizes) (states .start ++ states .goal), length-append (states .start) (states .goal), said .1 .full, said .2 .full)))
+    pub after-goal : ReadsInto (statesOf bytes from) (λ states. begun old (stateWords states)) answer left → answer ≡ Next next → AfterStates statesOf bytes from old left next
+    after-goal = after-states statesOf bytes from old answer left next
+        (λ states r. let said = states-said bytes .gives from states next r .known in (said .0, states-end states (said .1 .full) (said .2 .full)))
 
   module _ (new : List ℕ) (next : ℕ) where
     pub start-behind : AfterSizes new next → (answer : Step) (left : List ℕ) → ReadsInto (valuesOf (sizesIn new) bytes next) (written new (startAt (getD new 0 0))) answer left

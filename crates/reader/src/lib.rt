@@ -5,7 +5,7 @@ ghost use lib.ListN.{length, getD, take, drop, replicate};
 ghost use Rattle.meaning.specs.Limits.{wordBits, mostVariables, mostSize, mostFeatures};
 ghost use Rattle.meaning.specs.File.{header as headerOf, itemsOf, sizeList, featuresOf, featureList, judgedWeights};
 ghost use Rattle.meaning.specs.Workspace.{startAt, pairsAt, slotsAt, wordsFor};
-ghost use Rattle.meaning.specs.Feature.{atoms};
+ghost use Rattle.meaning.specs.Feature.{atoms, features};
 ghost use Rattle.theory.specs.Contents.{sizesIn};
 ghost use Rattle.number.specs.Answers.{reasonOf, placeOf};
 ghost use Rattle.reader.specs.Lists.{Apart};
@@ -13,7 +13,7 @@ ghost use Rattle.reader.specs.Header.{featuresJudged};
 ghost use Rattle.reader.specs.Answer.{written, featureWords, begun, sizedWords, ReadsInto};
 ghost use Rattle.words.specs.Toggled.{toggledAll};
 ghost use Rattle.reader.specs.Front.{statesOf, stateWords, frontOf, HeaderInto};
-ghost use Rattle.reader.specs.Pairs.{Cleared};
+ghost use Rattle.reader.specs.Pairs.{Cleared, BehindInto};
 use limits::LEAST_SIZE;
 use limits::LEAST_VARIABLES;
 use limits::MOST_FEATURES;
@@ -69,6 +69,25 @@ pub fn items_at(
     Step::Next(next)
 }
 
+// Reads so many numbers from `low` on, all below one bound, into the words from `to` on.
+pub fn items_below(
+    bytes: &[u8],
+    at: usize,
+    words: &mut [u64],
+    to: usize,
+    count: usize,
+    low: usize,
+    bound: usize,
+    reason: Reason,
+) -> Step
+    requires { ⌜ (count ≤ mostVariables) × (to + count ≤ length (now words)) ⌝ }
+    ensures { λ r. ⌜ ReadsInto (itemsOf low (reasonOf reason) (replicate count bound) (now (bytes .entry)) at) (written (now (words .entry)) to) r (now (words .exit)) ⌝ }
+{
+    let bounds = [bound as u64; MOST_VARIABLES];
+    words::copy(&mut words[to..to + count], &bounds[..count]);
+    items_at(bytes, at, words, to, to, count, low, reason)
+}
+
 // Reads v and v sizes, each from `least` to `most`; N is not judged yet.
 pub fn read_sizes(bytes: &[u8], at: usize, header: &mut [u64], least: usize, most: usize) -> Step
     requires { ⌜ (startAt mostVariables ≤ length (now header)) × (most ≤ mostSize) ⌝ }
@@ -83,16 +102,14 @@ pub fn read_sizes(bytes: &[u8], at: usize, header: &mut [u64], least: usize, mos
     ) {
         Number::Got(v, next) => {
             header[0] = v as u64;
-            let bounds = [(most + 1) as u64; MOST_VARIABLES];
-            words::copy(&mut header[SIZES_AT..SIZES_AT + v], &bounds[..v]);
-            items_at(
+            items_below(
                 bytes,
                 next,
                 header,
                 SIZES_AT,
-                SIZES_AT,
                 v,
                 least,
+                most + 1,
                 Reason::Limit,
             )
         }
@@ -233,28 +250,34 @@ pub fn read_weights(bytes: &[u8], n: usize, words: &mut [u64]) -> Step
     }
 }
 
+// Reads the pairs and the count of operators behind sizes, start and goal.
+pub fn read_behind(bytes: &[u8], at: usize, header: &mut [u64]) -> Header
+    requires { ⌜ Cleared (now header) (features (sizesIn (now header))) ⌝ }
+    ensures { λ r. ⌜ BehindInto (now (bytes .entry)) at (now (header .entry)) r (now (header .exit)) ⌝ }
+{
+    let v = header[0] as usize;
+    let n = numbering::features(layout::sizes(header, v));
+    match read_pairs(bytes, at, &mut *header, n) {
+        Step::Next(next) => match number::number_at(bytes, next) {
+            Number::Got(operators, after) => Header::Got {
+                variables: v,
+                features: n,
+                operators: operators,
+                next: after,
+            },
+            Number::Fault(reason, place) => Header::Fault(reason, place),
+        },
+        Step::Fault(reason, place) => Header::Fault(reason, place),
+    }
+}
+
 // Reads what stands before the operators of a task file, from a place on, into words that are all 0.
 pub fn read_header(bytes: &[u8], at: usize, header: &mut [u64]) -> Header
     requires { ⌜ (slotsAt mostVariables mostFeatures ≤ length (now header)) × (now header ≡ replicate (length (now header)) 0) ⌝ }
     ensures { λ r. ⌜ HeaderInto (frontOf (now (bytes .entry)) at) (now (header .entry)) r (now (header .exit)) ⌝ }
 {
     match read_states(bytes, at, &mut *header) {
-        Step::Next(next) => {
-            let v = header[0] as usize;
-            let n = numbering::features(layout::sizes(header, v));
-            match read_pairs(bytes, next, &mut *header, n) {
-                Step::Next(after) => match number::number_at(bytes, after) {
-                    Number::Got(operators, last) => Header::Got {
-                        variables: v,
-                        features: n,
-                        operators: operators,
-                        next: last,
-                    },
-                    Number::Fault(reason, place) => Header::Fault(reason, place),
-                },
-                Step::Fault(reason, place) => Header::Fault(reason, place),
-            }
-        }
+        Step::Next(next) => read_behind(bytes, next, header),
         Step::Fault(reason, place) => Header::Fault(reason, place),
     }
 }

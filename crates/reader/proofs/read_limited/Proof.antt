@@ -9,7 +9,7 @@ use Rattle.meaning.specs.File.{header, limited}
 use Rattle.numbering.specs.Sizes.{SmallSizes}
 use Rattle.reader.specs.Answer.{reads-unread}
 use Rattle.reader.specs.After.{after-sizes}
-use Rattle.reader.specs.Header.{Sized, sizes-known, sizes-judged}
+use Rattle.reader.specs.Header.{Sized, within-small, sizes-known, sizes-judged}
 use borrow.Author.Needs.{needs}
 use Rattle.reader.proofs.read_limited.Statement.{statement}
 use Rattle.reader.proofs.read_limited.Tie as tie
@@ -24,7 +24,7 @@ sized : (c : tie.After-next) → let a = start c .args in
 sized c = sizes-known _ _ _ _ _ _ _ _ (c .before .before .before .before .read-sizes .ensures) (c .next .given .1)
 
 few : (c : tie.After-next) → getD (c .before .before .before .before .read-sizes .last .1 .1 .0) 0 0 ≤ mostVariables
-few c = omega (arith, sized c .count, sized c .known .0)
+few c = omega (arith, sized c .count, sized c .known .few)
 
 read-sizes-requires : tie.Need-read-sizes-requires
 read-sizes-requires c κs = search needs
@@ -39,7 +39,7 @@ sizes-requires : tie.Need-sizes-requires
 sizes-requires c κs = let k = few (c .before .before .before) in (k, omega (arith, k))
 
 features-requires : tie.Need-features-requires
-features-requires c κs = let s = c .before .before .before .before in subst SmallSizes (sym (after-sizes (sized s) (c .sizes .ensures))) (sized s .known .1 (start s .pre .1))
+features-requires c κs = let s = c .before .before .before .before in subst SmallSizes (sym (after-sizes (sized s) (c .sizes .ensures))) (within-small _ _ (sized s .known) (start s .pre .1))
 
 judge-features-requires : tie.Need-judge-features-requires
 judge-features-requires c κs = search needs
@@ -51,8 +51,9 @@ same-length : tie.Need-same-length
 same-length c = search needs
 
 returns : tie.Need-returns
+unfolding header
 returns c = let s = c .before .before .before .before .before .before in
-    sizes-judged _ _ _ _ _ _ _ _ _ (sized s) (c .before .features .ensures ∙ ap features (after-sizes (sized s) (c .before .before .sizes .ensures))) (c .judge-features .ensures)
+    sizes-judged _ _ _ _ features _ _ _ _ _ (sized s) (c .before .features .ensures ∙ ap features (after-sizes (sized s) (c .before .before .sizes .ensures))) (c .judge-features .ensures)
 
 same-length-2 : tie.Need-same-length-2
 same-length-2 c = search needs

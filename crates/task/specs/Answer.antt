@@ -61,7 +61,7 @@ pub record Known (bytes words left : List ℕ) (v n count at : ℕ) : Type 0 whe
 
 module _ {judging : Read Task} {words left : List ℕ} {v n : ℕ} (known : KnownAs judging words left v n) where
   pub known-headed : Headed (known .task)
-  known-headed = let a = known .writable .acceptable in record { limits = a .limits; start = a .start; goal = a .goal; pairs = a .pairs }
+  known-headed = let a = known .writable .acceptable in record { limits = a .limits; start = a .start; even = refl; goal = a .goal; pairs = a .pairs }
 
   -- The front of the words that are left is the header, and all before the slots is there.
   pub known-header : take (slotsAt v n) left ≡ headerWords (known .task)
@@ -112,44 +112,52 @@ module _ (bytes words : List ℕ) (answer : Judged) (left : List ℕ) where
 
 -- ---- what makes an answer
 
--- What is known once the front was read, by the counts and the place that the reader answers.
-pub record Fronted (bytes : List ℕ) (from : ℕ) (words left : List ℕ) (v n count at : ℕ) : Type 0 where
+-- What is known once a front was read, by the counts and the place that its reader answers.
+pub record FrontedAs (reading : Read Front) (words left : List ℕ) (v n count at : ℕ) : Type 0 where
   pub front : Front
-  pub read : frontOf bytes from ≡ got front at
+  pub read : reading ≡ got front at
   pub variables : v ≡ length (front .states .sizes)
   pub total : n ≡ features (front .states .sizes)
   pub many : count ≡ front .count
   pub words-are : left ≡ begun words (frontWords front)
+
+-- That of a task file.
+abbrev pub Fronted : List ℕ → ℕ → List ℕ → List ℕ → ℕ → ℕ → ℕ → ℕ → Type 0
+Fronted bytes from = FrontedAs (frontOf bytes from)
+
+-- What the reader of a front tells.
+module _ (reading : Read Front) (words : List ℕ) (answer : Header) (left : List ℕ) (h : HeaderInto reading words answer left) where
+  pub front-told : (v n count at : ℕ) → answer ≡ Got v n count at → FrontedAs reading words left v n count at
+  unfolding HeaderInto
+  front-told v n count at e = by reading refl h
+    where
+      by : (read : Read Front) → reading ≡ read → HeaderInto read words answer left → FrontedAs reading words left v n count at
+      by (got front next) q k =
+          let same : Got (length (front .states .sizes)) (features (front .states .sizes)) (front .count) next ≡ Got v n count at = sym (k .0) ∙ e in
+          let fourth : next ≡ at = cc in
+          record { front = front; read = q ∙ ap (got front) fourth; variables = cc; total = cc; many = cc; words-are = k .1 }
+      by (fault reason place) q k = absurd (let same : Fault (declaredOf reason) place ≡ Got v n count at = sym k ∙ e in let z : _≡_ {A = ℕ} 0 1 = cc in omega arith)
+
+  pub front-faulted : (reason : Reason) (place : ℕ) → answer ≡ Fault reason place → reading ≡ fault (reasonOf reason) place
+  unfolding HeaderInto
+  front-faulted reason place e = by reading h
+    where
+      by : (read : Read Front) → HeaderInto read words answer left → read ≡ fault (reasonOf reason) place
+      by (got front next) k =
+          absurd (let same : Got (length (front .states .sizes)) (features (front .states .sizes)) (front .count) next ≡ Fault reason place = sym (k .0) ∙ e in
+          let z : _≡_ {A = ℕ} 0 1 = cc in omega arith)
+      by (fault other there) k =
+          let same : Fault (declaredOf other) there ≡ Fault reason place = sym k ∙ e in
+          let found : step.Fault (declaredOf other) there ≡ step.Fault reason place = cc in
+          place-faulted (fault other there) reason place found
 
 module _ (bytes : List ℕ) (from : ℕ) (words left : List ℕ) where
   pub answer-refused : (reason : Reason) (place : ℕ) → judgedFrom bytes from ≡ fault (reasonOf reason) place → JudgedInto (judgedFrom bytes from) bytes words (Refused reason place) left
   unfolding JudgedInto
   answer-refused reason place e = rw e (ap (λ r. Refused r place) (sym (declared-reason reason)))
 
-  module _ (answer : Header) (h : HeaderInto (frontOf bytes from) words answer left) where
-    pub front-told : (v n count at : ℕ) → answer ≡ Got v n count at → Fronted bytes from words left v n count at
-    unfolding HeaderInto
-    front-told v n count at e = by (frontOf bytes from) refl h
-      where
-        by : (read : Read Front) → frontOf bytes from ≡ read → HeaderInto read words answer left → Fronted bytes from words left v n count at
-        by (got front next) q k =
-            let same : Got (length (front .states .sizes)) (features (front .states .sizes)) (front .count) next ≡ Got v n count at = sym (k .0) ∙ e in
-            let fourth : next ≡ at = cc in
-            record { front = front; read = q ∙ ap (got front) fourth; variables = cc; total = cc; many = cc; words-are = k .1 }
-        by (fault reason place) q k = absurd (let same : Fault (declaredOf reason) place ≡ Got v n count at = sym k ∙ e in let z : _≡_ {A = ℕ} 0 1 = cc in omega arith)
-
-    pub front-refused : (reason : Reason) (place : ℕ) → answer ≡ Fault reason place → JudgedInto (judgedFrom bytes from) bytes words (Refused reason place) left
-    unfolding HeaderInto
-    front-refused reason place e = answer-refused reason place (front-unread bytes from (reasonOf reason) place (by (frontOf bytes from) h))
-      where
-        by : (read : Read Front) → HeaderInto read words answer left → read ≡ fault (reasonOf reason) place
-        by (got front next) k =
-            absurd (let same : Got (length (front .states .sizes)) (features (front .states .sizes)) (front .count) next ≡ Fault reason place = sym (k .0) ∙ e in
-            let z : _≡_ {A = ℕ} 0 1 = cc in omega arith)
-        by (fault other there) k =
-            let same : Fault (declaredOf other) there ≡ Fault reason place = sym k ∙ e in
-            let found : step.Fault (declaredOf other) there ≡ step.Fault reason place = cc in
-            place-faulted (fault other there) reason place found
+  pub front-refused : (reason : Reason) (place : ℕ) → frontOf bytes from ≡ fault (reasonOf reason) place → JudgedInto (judgedFrom bytes from) bytes words (Refused reason place) left
+  front-refused reason place e = answer-refused reason place (front-unread bytes from (reasonOf reason) place e)
 
   module _ (v n count at : ℕ) (known : Fronted bytes from words left v n count at) where
     -- A task with this front, and its header.

@@ -41,18 +41,25 @@ header-content T slots = simp append-assoc
 part-at : (left front part rest : List ℕ) (a k : ℕ) → left ≡ front ++ (part ++ rest) → length front ≡ a → length part ≡ k → take k (drop a left) ≡ part
 part-at left front part rest a k e h l = rw (e, drop-at front (part ++ rest) a h) (take-at part rest k l)
 
--- What is known of the header of a task that is read, before its operators are.
-pub record Headed (T : Task) : Type 0 where
+-- What is known of a header that is read, before its operators are. The goal's values are below those of a list: below the sizes in a task file.
+pub record HeadedFor (above : List ℕ) (T : Task) : Type 0 where
   pub limits : InLimits (T .sizes)
   pub start : State (T .sizes) (T .start)
-  pub goal : State (T .sizes) (T .goal)
+  pub even : length above ≡ length (T .sizes)
+  pub goal : State above (T .goal)
   pub pairs : Run (atoms (T .sizes)) (T .pairs) (features (T .sizes))
+
+abbrev pub Headed : Task → Type 0
+Headed T = HeadedFor (T .sizes) T
 
 -- The words of its pairs.
 abbrev pairWords : Task → List ℕ
 pairWords T = featureWords (features (T .sizes)) (T .pairs)
 
-module _ (T : Task) (known : Headed T) where
+module _ {above : List ℕ} (T : Task) (known : HeadedFor above T) where
+  goal-long : length (T .goal) ≡ length (T .sizes)
+  goal-long = known .goal .full ∙ known .even
+
   header-listed : Listed (T .sizes) (pairWords T)
   header-listed = record { limits = known .limits; due = length-packed (features (T .sizes)) (listed (T .pairs)) }
 
@@ -65,7 +72,7 @@ module _ (T : Task) (known : Headed T) where
   pub header-length : length (headerWords T) ≡ slotsAt (length (T .sizes)) (features (T .sizes))
   unfolding headerWords
   header-length = rw (length-append (T .sizes) (T .start ++ (T .goal ++ pairWords T)), length-append (T .start) (T .goal ++ pairWords T), length-append (T .goal) (pairWords T))
-      (omega (arith, known .start .full, known .goal .full, length-packed (features (T .sizes)) (listed (T .pairs))))
+      (omega (arith, known .start .full, goal-long, length-packed (features (T .sizes)) (listed (T .pairs))))
 
   -- Words that begin with the header, part by part.
   module _ (words left : List ℕ) (e : left ≡ begun words (headerWords T)) (v n : ℕ) (many : v ≡ length (T .sizes)) (total : n ≡ features (T .sizes)) where
@@ -91,26 +98,28 @@ module _ (T : Task) (known : Headed T) where
       part-at left (length (T .sizes) ∷ T .sizes) (T .start) ((T .goal ++ pairWords T) ++ further) (startAt v) v (e ∙ simp append-assoc) (omega arith)
           (omega (arith, known .start .full)),
       part-at left (length (T .sizes) ∷ (T .sizes ++ T .start)) (T .goal) (pairWords T ++ further) (goalAt v) v (e ∙ simp append-assoc)
-          (omega (arith, known .start .full, length-append (T .sizes) (T .start))) (omega (arith, known .goal .full)),
+          (omega (arith, known .start .full, length-append (T .sizes) (T .start))) (omega (arith, goal-long)),
       part-at left (length (T .sizes) ∷ (T .sizes ++ (T .start ++ T .goal))) (pairWords T) further (pairsAt v) (wordsFor n) (e ∙ simp append-assoc)
-          (omega (arith, known .start .full, known .goal .full, length-append (T .sizes) (T .start ++ T .goal), length-append (T .start) (T .goal)))
+          (omega (arith, known .start .full, goal-long, length-append (T .sizes) (T .start ++ T .goal), length-append (T .start) (T .goal)))
           (length-packed (features (T .sizes)) (listed (T .pairs)) ∙ ap wordsFor (sym total)),
     )
 
-    -- What is known of the parts as they are lent.
-    pub header-ready : Listed (sizesPart v left) (pairsPart v n left) × State (sizesPart v left) (startPart v left) × State (sizesPart v left) (goalPart v left)
-    header-ready = rw (header-parts .0, header-parts .1, header-parts .2, header-parts .3) (header-listed, known .start, known .goal)
-
     pub header-has : has (pairsPart v n left) ≡ listed (T .pairs)
     header-has = ap has (header-parts .3) ∙ pairs-has
+
+-- What is known of the parts as they are lent.
+pub header-ready : (T : Task) (known : Headed T) (words left : List ℕ) → left ≡ begun words (headerWords T) → (v n : ℕ) → v ≡ length (T .sizes) → n ≡ features (T .sizes)
+    → Listed (sizesPart v left) (pairsPart v n left) × State (sizesPart v left) (startPart v left) × State (sizesPart v left) (goalPart v left)
+header-ready T known words left e v n many total = let parts = header-parts T known words left e v n many total in
+    rw (parts .0, parts .1, parts .2, parts .3) (header-listed T known, known .start, known .goal)
 
 -- ---- a front that was read
 
 front-said : (bytes : List ℕ) → Gives bytes frontOf (λ front l. Headed (taskWith front []))
 unfolding frontOf
 front-said bytes = gives-then _ _ (states-said bytes)
-    (λ states l s. behind-said bytes states (λ front. Headed (taskWith front [])) (λ pairs count p. record { limits = s .0; start = s .1; goal = s .2; pairs = p }))
+    (λ states l s. behind-said bytes states (λ front. Headed (taskWith front [])) (λ pairs count p. record { limits = s .0; start = s .1; even = refl; goal = s .2; pairs = p }))
 
 pub front-headed : (bytes : List ℕ) (from : ℕ) (front : Front) (at : ℕ) (operators : List Operator) → frontOf bytes from ≡ got front at → Headed (taskWith front operators)
 front-headed bytes from front at operators e = let known = front-said bytes .gives from front at e .known in
-    record { limits = known .limits; start = known .start; goal = known .goal; pairs = known .pairs }
+    record { limits = known .limits; start = known .start; even = refl; goal = known .goal; pairs = known .pairs }

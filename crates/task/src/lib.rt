@@ -29,7 +29,7 @@ pub enum Judged {
 }
 
 // Reads so many operators.
-fn operators_at(bytes: &[u8], at: usize, count: usize, sizes: &[u64]) -> Step
+pub fn operators_at(bytes: &[u8], at: usize, count: usize, sizes: &[u64]) -> Step
     requires { ⌜ length (now sizes) ≤ mostVariables ⌝ }
     ensures { λ r. ⌜ r ≡ placeOf (operatorsOf (now (sizes .entry)) count (now (bytes .entry)) at) ⌝ }
 {
@@ -53,7 +53,7 @@ fn operators_at(bytes: &[u8], at: usize, count: usize, sizes: &[u64]) -> Step
 
 // Whether the list is closed under each of so many operators, as far as they can be read: a walk over the operators that are not idle, and for each over the
 // listed pairs, to the first that is unclosed.
-fn are_closed(bytes: &[u8], at: usize, count: usize, sizes: &[u64], pairs: &[u64]) -> bool
+pub fn are_closed(bytes: &[u8], at: usize, count: usize, sizes: &[u64], pairs: &[u64]) -> bool
     requires { ⌜ Listed (now sizes) (now pairs) ⌝ }
     ensures { λ r. ⌜ r ≡ closedFrom (now (sizes .entry)) (has (now (pairs .entry))) count (now (bytes .entry)) at ⌝ }
 {

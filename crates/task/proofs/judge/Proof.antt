@@ -2,7 +2,7 @@
 use borrow.Author.Needs.{needs}
 use Rattle.meaning.specs.File.{judgedTask}
 use Rattle.layout.specs.Parts.{headed-sizes}
-use Rattle.task.specs.Answer.{Fronted, front-told, front-refused, fronted-room, lent-ready, rest-refused, rest-accepted}
+use Rattle.task.specs.Answer.{Fronted, front-told, front-faulted, front-refused, fronted-room, lent-ready, rest-refused, rest-accepted}
 use Rattle.task.proofs.judge.Statement.{statement}
 use Rattle.task.proofs.judge.Tie as tie
 
@@ -14,7 +14,7 @@ start c = c .before .before .before .before .before .before .before .before
 known : (c : tie.After-variables) → let told = c .variables .given .0 in
     Fronted (start c .args .bytes .now) 0 (start c .args .header .now)
     (c .before .before .before .before .read-header .last .1 .1 .0) (told .0) (told .1 .0) (told .1 .1 .0) (told .1 .1 .1 .0)
-known c = front-told _ _ _ _ _ (c .before .before .before .before .read-header .ensures) _ _ _ _ (c .variables .given .1)
+known c = front-told _ _ _ _ (c .before .before .before .before .read-header .ensures) _ _ _ _ (c .variables .given .1)
 
 abbrev front : tie.After-pairs → tie.After-variables
 front c = c .before .before .before .before .before
@@ -69,7 +69,7 @@ same-length-3 c = search needs
 
 returns-3 : tie.Need-returns-3
 unfolding judgedTask
-returns-3 c = front-refused _ _ _ _ _ (c .before .before .before .before .before .read-header .ensures) _ _ (c .before .reason2 .given .1)
+returns-3 c = front-refused _ _ _ _ _ _ (front-faulted _ _ _ _ (c .before .before .before .before .before .read-header .ensures) _ _ (c .before .reason2 .given .1))
 
 pub judge-spec : {M : Type 1} → statement M
 judge-spec =

@@ -2,11 +2,11 @@
 use Prim.Native.Nat.{ℕ, zero, suc, _+_, _-_, _*_, _<_, _≤_}
 use mathlib.Core.Path.{_≡_, refl, sym, ap, _∙_}
 use mathlib.Core.Bool.{Bool, true, false, cond}
-use mathlib.Core.List.{List, [], _∷_, _++_, append-nil, List·Memᴰ as In, List·Memᴰ·head as here, List·Memᴰ·tail as there}
+use mathlib.Core.List.{List, [], _∷_, _++_, append-nil, List·Memᴰ as In}
 use native.Mathlib.Omega.{arith}
-use native.Mathlib.Nat.{mul-suc, ne-of-lt}
+use native.Mathlib.Nat.{ne-of-lt}
 use native.Mathlib.Numerals.{add-one}
-use lib.ListN.{length, take, replicate, length-append, length-replicate}
+use lib.ListN.{length, take, replicate, length-replicate}
 use lib.Dec.{ltb}
 use borrow.Author.Tests.{lt-ltb, le-ltb}
 use Rattle.meaning.specs.Sets.{flat, table}
@@ -24,6 +24,7 @@ use Rattle.theory.specs.Numbering.{both-below}
 use Rattle.theory.specs.BayMoves.{operator-slide, bay-size, bay-length, bay-value}
 use Rattle.theory.specs.BayPairs.{pairs-run}
 use Rattle.theory.specs.NumberBack.{number-bytes-length}
+use Rattle.theory.specs.BytesOf.{bytes-each}
 use Rattle.theory.specs.BayTask.{bay-limits}
 use Rattle.numbering.specs.Sizes.{SmallSizes}
 use Rattle.theory.specs.Slices.{entriesIn}
@@ -131,13 +132,6 @@ slide-width p q t hp hq ht = by (ltb p q)
 -- So has the one that is measured.
 pub one-width : length (operatorBytes (entriesIn (0 ∷ 1 ∷ []) (0 ∷ 1 ∷ []) (1 ∷ 0 ∷ []))) ≡ operatorWidth
 one-width = ap (λ o. length (operatorBytes o)) (sym (slide-ordered 0 1 1 (omega arith))) ∙ slide-width 0 1 1 (omega arith) (omega arith) (omega arith)
-
--- Things of k bytes each.
-bytes-each : {A : Type 0} (write : A → List ℕ) (k : ℕ) (l : List A) → ((a : A) → In a l → length (write a) ≡ k) → length (bytesOf write l) ≡ k * length l
-unfolding bytesOf
-bytes-each write k [] h = omega arith
-bytes-each write k (a ∷ l) h =
-    omega (arith, length-append (write a) (bytesOf write l), h a (here refl), bytes-each write k l (λ b m. h b (there m)), mul-suc k (length l))
 
 pub operators-length : (n : ℕ) (near : ℕ → ℕ → Bool) → n ≤ mostSlots
     → length (counted operatorBytes (bayOperators n near)) ≡ length (numberBytes (length (bayOperators n near))) + operatorWidth * length (bayOperators n near)

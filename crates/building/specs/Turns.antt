@@ -1,12 +1,13 @@
 -- A list that is made number by number, in the turns of a loop: what is left from a number on, and how it is written.
 use Prim.Native.Nat.{ℕ, zero, suc, _+_, _-_, _<_, _≤_}
 use mathlib.Core.Path.{_≡_, refl, sym, ap, ap₂, _∙_}
-use mathlib.Core.List.{List, [], _∷_, _++_, append-nil, append-assoc}
+use mathlib.Core.List.{List, [], _++_, append-nil, append-assoc}
 use native.Mathlib.Omega.{arith}
 use native.Mathlib.Nat.{sub-zero, zero-add}
 use lib.ListN.{length, take, drop}
 use Rattle.meaning.specs.Sets.{flat}
 use Rattle.meaning.specs.File.{bytesOf}
+use Rattle.theory.specs.BytesOf.{bytes-join}
 use Rattle.writer.specs.Remains.{Remains, remains-all, remains-none}
 
 -- The lists for so many numbers from i on, one after another.
@@ -48,13 +49,7 @@ nothing-due room at due h e = remains-none (remains-all room at due h) e
 
 -- ---- the bytes of such a list
 
-module _ {A : Type 0} (write : A → List ℕ) where
-  bytes-join : (l m : List A) → bytesOf write (l ++ m) ≡ bytesOf write l ++ bytesOf write m
-  unfolding bytesOf
-  bytes-join [] m = refl
-  bytes-join (a ∷ l) m = ap (_++_ (write a)) (bytes-join l m) ∙ sym (append-assoc (write a) (bytesOf write l) (bytesOf write m))
-
-  pub bytes-flat : (n : ℕ) (lists : ℕ → List A) → bytesOf write (flat n lists) ≡ flat n (λ i. bytesOf write (lists i))
-  unfolding flat bytesOf
-  bytes-flat zero lists = refl
-  bytes-flat (suc n) lists = bytes-join (flat n lists) (lists n) ∙ ap (λ l. l ++ bytesOf write (lists n)) (bytes-flat n lists)
+pub bytes-flat : {A : Type 0} (write : A → List ℕ) (n : ℕ) (lists : ℕ → List A) → bytesOf write (flat n lists) ≡ flat n (λ i. bytesOf write (lists i))
+unfolding flat bytesOf
+bytes-flat write zero lists = refl
+bytes-flat write (suc n) lists = bytes-join write (flat n lists) (lists n) ∙ ap (λ l. l ++ bytesOf write (lists n)) (bytes-flat write n lists)

@@ -1,32 +1,32 @@
 -- Partial files: what is read is in order; what is in order is written and read back; the built task can be written; its bytes in parts.
-use Prim.Native.Nat.{ℕ, zero, suc, _+_, _*_, _<_, _≤_}
-use mathlib.Core.Path.{_≡_, refl, ap, ap₂, sym, _∙_, subst}
-use mathlib.Core.Logic.{_≢_, _⊎_, _↔_, inl, inr}
-use mathlib.Core.Bool.{Bool, true, false, not, _&&_, _||_, cond}
-use mathlib.Core.List.{List, [], _∷_, _++_, map, append-assoc, append-nil, List·Memᴰ as In, Memᴰ·append-left as append-left}
+use Prim.Native.Nat.{ℕ, zero, suc, _<_, _≤_}
+use mathlib.Core.Path.{_≡_, refl, ap, ap₂, sym, _∙_}
+use mathlib.Core.Logic.{_↔_}
+use mathlib.Core.Bool.{Bool, true, false, cond}
+use mathlib.Core.List.{List, [], _∷_, _++_, append-nil, Memᴰ·append-left as append-left}
 use native.Mathlib.Omega.{arith}
 use lib.Dec.{eqb, leb, ltb}
-use lib.ListN.{length, replicate, length-replicate, length-append}
-use borrow.Author.Tests.{eqb-true, eqb-false, eq-eqb, leb-true, ltb-true, ltb-false, lt-ltb, le-ltb, le-leb}
-use Rattle.meaning.specs.Sets.{Set, flat, listed, allOf}
+use lib.ListN.{length, replicate}
+use borrow.Author.Tests.{eqb-true, eqb-false, leb-true, ltb-true, lt-ltb, le-ltb}
+use Rattle.meaning.specs.Sets.{listed, allOf}
 use Rattle.meaning.specs.Limits.{leastVariables, mostVariables, leastPartialSize, mostPartialSize, mostFeatures, numberEnd}
-use Rattle.meaning.specs.Task.{Entry, Operator, Task, State, Entries, IsOperator, value, size, Run}
+use Rattle.meaning.specs.Task.{Task, State, value, size}
 use Rattle.meaning.specs.Feature.{atoms, features}
 use Rattle.meaning.specs.Pair.{closed, holds}
 use Rattle.meaning.specs.Number.{Reason, Limit, Range, Outgrown, Held, Unclosed, got, numberBytes, number, numbersOn}
-use Rattle.meaning.specs.File.{Parser, give, then, inside, item, limited, rising, valuesOf, featureList, entriesOf, operatorOf, operatorsOf, Writable, bytesOf, counted, operatorBytes, weightBytes, taskBytes}
-use Rattle.meaning.specs.Weight.{Separates}
-use Rattle.meaning.specs.Partial.{Partial, Ordered, Reaches, Met, builtSizes, builtPairs, forgetting, forgettings, builtTask, partialHeader, marksOf, goalOf, partialOf, judgedPartial, marksIn, namedIn, partialBytes}
-use Rattle.theory.specs.Truth.{on, off, test, clash}
+use Rattle.meaning.specs.File.{Parser, give, then, inside, item, limited, rising, valuesOf, featureList, entriesOf, operatorOf, operatorsOf, Writable, bytesOf, counted}
+use Rattle.meaning.specs.Partial.{Partial, Ordered, Reaches, Met, builtSizes, builtPairs, forgettings, builtTask, partialHeader, marksOf, goalOf, partialOf, judgedPartial, marksIn, namedIn, partialBytes}
+use Rattle.theory.specs.Truth.{on, off, test}
 use Rattle.theory.specs.Search.{and-left, and-right, and-both, all-at, all-each}
 use Rattle.theory.specs.Numbering.{atoms-room}
 use Rattle.theory.specs.Reading.{on-got, test-passed, test-failed, got-value, got-next}
 use Rattle.theory.specs.Spent.{Bytes, Gives, Ends, gives-known, gives-then, gives-map, gives-give, gives-tested, gives-ended, ends-then, ends-ended}
 use Rattle.theory.specs.Parts.{Exact, exact-counted, each-more, number-said, item-said, size-list-said, values-said, feature-list-said, operators-said}
+use Rattle.theory.specs.BytesOf.{bytes-join}
 use Rattle.theory.specs.Accepted.{whole-said}
-use Rattle.theory.specs.PartialPairs.{built-length, built-size}
-use Rattle.theory.specs.PartialTask.{built-acceptable, forgettings-in, forgetting-closed}
-use Rattle.theory.specs.PartialPlans.{Permitted, reached-exactly, order-unmet}
+use Rattle.theory.specs.PartialPairs.{built-length}
+use Rattle.theory.specs.PartialTask.{built-acceptable}
+use Rattle.theory.specs.PartialPlans.{Permitted, reached-exactly}
 
 -- ---- the file's operators, read again with sizes that are no smaller
 
@@ -81,11 +81,6 @@ pub operators-built : (bytes sizes : List ℕ) (k : ℕ) → Follows bytes (oper
 operators-built bytes sizes k = operators-again sizes (builtSizes sizes) (built-length sizes) (built-room sizes) k
 
 -- ---- what is read is in order
-
-pub bytes-join : {A : Type 0} (write : A → List ℕ) (l m : List A) → bytesOf write (l ++ m) ≡ bytesOf write l ++ bytesOf write m
-unfolding bytesOf
-bytes-join write [] m = refl
-bytes-join write (x ∷ l) m = ap (_++_ (write x)) (bytes-join write l m) ∙ sym (append-assoc (write x) (bytesOf write l) (bytesOf write m))
 
 module _ (bytes : List ℕ) where
   pub partial-header-said : Gives bytes partialHeader (λ sizes l. ((leastVariables ≤ length sizes) × (length sizes ≤ mostVariables))

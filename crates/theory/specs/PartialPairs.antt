@@ -3,23 +3,23 @@ use Prim.Native.Nat.{ℕ, zero, suc, _+_, _*_, _<_, _≤_}
 use mathlib.Core.Path.{_≡_, refl, ap, ap₂, sym, _∙_}
 use mathlib.Core.Logic.{_≢_, inl, inr}
 use mathlib.Core.Bool.{Bool, true, false, cond}
-use mathlib.Core.List.{List, [], _∷_, _++_, map, List·Memᴰ as In, List·Memᴰ·head as here, List·Memᴰ·eq-of-singleton as eq-of-singleton, List·Memᴰ·append-cases as append-cases}
+use mathlib.Core.List.{List, [], _∷_, List·Memᴰ as In, List·Memᴰ·head as here, List·Memᴰ·eq-of-singleton as eq-of-singleton, List·Memᴰ·append-cases as append-cases}
 use native.Mathlib.Omega.{arith}
 use native.Mathlib.Nat.{mul-le-mul-right}
 use lib.Dec.{ltb}
 use lib.ListN.{length, length-map, length-append}
 use borrow.Author.Tests.{ltb-true, lt-ltb}
-use Rattle.meaning.specs.Sets.{Set, flat, table, listed}
+use Rattle.meaning.specs.Sets.{Set, flat, listed}
 use Rattle.meaning.specs.Task.{size, Run}
-use Rattle.meaning.specs.Feature.{atoms, features, pairStart, single, double, both}
+use Rattle.meaning.specs.Feature.{atoms, features, pairStart, single, double}
 use Rattle.meaning.specs.Pair.{paired}
 use Rattle.meaning.specs.Partial.{builtSizes, eachPair, builtPairs}
-use Rattle.theory.specs.Truth.{on, off, test, less, same, more, order, clash}
+use Rattle.theory.specs.Truth.{on, off, test, less, same, more, order}
 use Rattle.theory.specs.Search.{true-together, listed-in, in-listed}
 use Rattle.theory.specs.Flat.{in-flat, flat-in, in-when, when-in, table-in}
-use Rattle.theory.specs.Run.{run-one, run-none, run-when, run-wider, run-flat, run-same, run-in}
+use Rattle.theory.specs.Run.{run-one, run-when, run-wider, run-flat, run-same, run-in}
 use Rattle.theory.specs.TrueList.{run-pairs}
-use Rattle.theory.specs.Numbering.{double-only, single-below, both-less, both-mirror}
+use Rattle.theory.specs.Numbering.{double-only, single-below, both-less}
 use Rattle.theory.specs.NumberOrder.{allFeatures, all-features}
 use Rattle.theory.specs.Sound.{paired-mirror}
 

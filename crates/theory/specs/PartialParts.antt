@@ -1,25 +1,23 @@
 -- Partial tasks in order are written and read back; the built task's file in parts; the tests of what is left out, on the built task.
 use Prim.Native.Nat.{ℕ, zero, suc, _+_, _*_, _<_, _≤_}
-use mathlib.Core.Path.{_≡_, refl, ap, ap₂, sym, _∙_, subst}
-use mathlib.Core.Logic.{_≢_, _⊎_, _↔_, inl, inr}
-use mathlib.Core.Bool.{Bool, true, false, not, _&&_, _||_, cond}
-use mathlib.Core.List.{List, [], _∷_, _++_, map, append-assoc, append-nil, List·Memᴰ as In, List·Memᴰ·head as here, List·Memᴰ·tail as there}
+use mathlib.Core.Path.{_≡_, refl, ap, sym, _∙_}
+use mathlib.Core.Bool.{Bool, true, false, _&&_, cond}
+use mathlib.Core.List.{List, [], _∷_, _++_, append-assoc, append-nil, List·Memᴰ as In, List·Memᴰ·tail as there}
 use native.Mathlib.Omega.{arith}
 use native.Mathlib.Nat.{mul-le-mul-left, suc-mul}
-use lib.Dec.{eqb, leb, ltb}
+use lib.Dec.{leb, ltb}
 use lib.ListN.{length, replicate, drop, length-replicate, getD-replicate, length-append, drop-of-length-le}
-use borrow.Author.Tests.{eqb-true, eqb-false, eq-eqb, leb-true, ltb-true, ltb-false, lt-ltb, le-ltb, le-leb}
-use Rattle.meaning.specs.Sets.{Set, some, flat, count, listed, allOf}
+use borrow.Author.Tests.{ltb-true, ltb-false, lt-ltb, le-leb}
+use Rattle.meaning.specs.Sets.{some, listed, allOf}
 use Rattle.meaning.specs.Limits.{mostVariables, leastPartialSize, mostPartialSize, mostFeatures, group, numberEnd}
-use Rattle.meaning.specs.Task.{Entry, Operator, Task, State, IsOperator, value, size, Run}
+use Rattle.meaning.specs.Task.{Operator, State, value, size}
 use Rattle.meaning.specs.Feature.{sumOf, pairsOf, atoms, features}
 use Rattle.meaning.specs.Pair.{paired, stuck, closed, holds}
-use Rattle.meaning.specs.Number.{Reason, Limit, Range, got, groupBytes, numberBytes, number}
-use Rattle.meaning.specs.File.{Parser, give, then, inside, item, valuesOf, operatorsOf, Acceptable, Writable, bytesOf, counted, entryBytes, operatorBytes, weightBytes, taskBytes}
-use Rattle.meaning.specs.Partial.{Partial, Ordered, named, builtSizes, builtPairs, forgetting, forgettings, builtTask, againstGoal, leftOut, leftOutLean, partialHeader, marksOf, goalOf, partialOf, judgedPartial, marksIn, namedIn, partialBytes}
+use Rattle.meaning.specs.Number.{Range, got, groupBytes, numberBytes}
+use Rattle.meaning.specs.File.{operatorsOf, bytesOf, counted, entryBytes, operatorBytes, weightBytes, taskBytes}
+use Rattle.meaning.specs.Partial.{Partial, Ordered, named, builtSizes, builtPairs, forgetting, forgettings, builtTask, againstGoal, leftOut, leftOutLean, partialHeader, goalOf, partialOf, judgedPartial, marksIn, namedIn, partialBytes}
 use Rattle.theory.specs.Truth.{on, off, test, clash}
-use Rattle.theory.specs.Search.{and-left, and-right, and-both, true-together, some-cong, all-at, all-each}
-use Rattle.theory.specs.Flat.{flat-cong}
+use Rattle.theory.specs.Search.{true-together, some-cong, all-each}
 use Rattle.theory.specs.Reading.{Reads, reads-give, reads-then, reads-map}
 use Rattle.theory.specs.ReadBack.{between-back, limited-back, size-list-back, ended-back, values-back, feature-list-back, operators-back, whole, Sayable}
 use Rattle.theory.specs.NumberBack.{number-back}
@@ -27,7 +25,7 @@ use Rattle.theory.specs.Spent.{Bytes}
 use Rattle.theory.specs.Parts.{operators-said}
 use Rattle.theory.specs.PartialPairs.{built-length, built-size, paired-known}
 use Rattle.theory.specs.PartialTask.{forgettings-in, closed-built, holds-built, all-closed}
-use Rattle.theory.specs.PartialFile.{bytes-join}
+use Rattle.theory.specs.BytesOf.{bytes-join, bytes-each}
 
 -- ---- written and read back
 
@@ -150,18 +148,13 @@ pub forgetting-bytes : (sizes : List ℕ) (i x : ℕ) → i < group → x < grou
 unfolding operatorBytes counted bytesOf entryBytes
 forgetting-bytes sizes i x h k l = rw (small-bytes 1 (omega arith), small-bytes i h, small-bytes x k, small-bytes (size sizes i) l) refl
 
--- Things that have so many bytes each.
-bytes-each : {A : Type 0} (write : A → List ℕ) (k : ℕ) (l : List A) → ((a : A) → In a l → length (write a) ≡ k) → length (bytesOf write l) ≡ length l * k
-unfolding bytesOf
-bytes-each write k [] h = omega arith
-bytes-each write k (a ∷ l) h = omega (arith, length-append (write a) (bytesOf write l), h a (here refl), bytes-each write k l (λ b m. h b (there m)), suc-mul (length l) k)
-
 pub forgettings-width : (sizes : List ℕ) (out : ℕ → ℕ → Bool) → length sizes ≤ mostVariables → ((i : ℕ) → i < length sizes → size sizes i ≤ mostPartialSize)
     → length (bytesOf operatorBytes (forgettings sizes out)) ≡ length (forgettings sizes out) * 4
-forgettings-width sizes out few small = bytes-each operatorBytes 4 (forgettings sizes out) (λ o m.
+forgettings-width sizes out few small =
+    omega (arith, bytes-each operatorBytes 4 (forgettings sizes out) (λ o m.
     let (i, x, l, h, _, q) = forgettings-in sizes out o m in
     let t = small i l in
-    ap length (ap operatorBytes q ∙ forgetting-bytes sizes i x (omega arith) (omega arith) (omega arith)))
+    ap length (ap operatorBytes q ∙ forgetting-bytes sizes i x (omega arith) (omega arith) (omega arith))))
 
 -- ---- the tests on the built task's sizes and pairs, which a header has
 

@@ -1,26 +1,25 @@
 -- The built goal is reached exactly when the partial goal is; leaving out what may be left out loses no plan.
-use Prim.Native.Nat.{ℕ, zero, suc, _+_, _*_, _<_, _≤_}
-use mathlib.Core.Path.{_≡_, refl, ap, sym, _∙_}
-use mathlib.Core.Logic.{_≢_, _⊎_, _↔_, inl, inr}
-use mathlib.Core.Bool.{Bool, true, false, not, _&&_, _||_, cond}
-use mathlib.Core.List.{List, [], _∷_, _++_, map, List·Memᴰ as In, List·Memᴰ·head as here, List·Memᴰ·tail as there, List·Memᴰ·not-nil as not-nil, List·Memᴰ·cases-cons as cases-cons, List·Memᴰ·append-cases as append-cases}
+use Prim.Native.Nat.{ℕ, zero, suc, _<_, _≤_}
+use mathlib.Core.Path.{_≡_, refl, sym, _∙_}
+use mathlib.Core.Logic.{_≢_, _↔_, inl, inr}
+use mathlib.Core.Bool.{Bool, true, false, not}
+use mathlib.Core.List.{List, [], _∷_, _++_, List·Memᴰ as In, List·Memᴰ·head as here, List·Memᴰ·tail as there, List·Memᴰ·not-nil as not-nil, List·Memᴰ·cases-cons as cases-cons, List·Memᴰ·append-cases as append-cases}
 use mathlib.Core.List.{Memᴰ·append-left as append-left, Memᴰ·append-right as append-right}
 use native.Mathlib.Omega.{arith}
-use lib.Dec.{eqb, ltb}
 use lib.ListN.{length, set, length-set}
 use lib.Seq.{getD-set-same, getD-set-other, ext-getD}
-use borrow.Author.Tests.{eqb-true, eq-eqb, ltb-true, ltb-false}
-use Rattle.meaning.specs.Sets.{Set, some, anyOf, allOf, listed}
-use Rattle.meaning.specs.Task.{Entry, Operator, Task, State, Entries, IsOperator, names, applies, applied, value, size}
+use borrow.Author.Tests.{eq-eqb, ltb-true, ltb-false}
+use Rattle.meaning.specs.Sets.{Set, allOf, listed}
+use Rattle.meaning.specs.Task.{Operator, Task, State, Entries, names, applies, applied, value, size}
 use Rattle.meaning.specs.Pair.{paired, closed, holds}
-use Rattle.meaning.specs.Weight.{Leads, Separates, Unsolvable}
+use Rattle.meaning.specs.Weight.{Leads}
 use Rattle.meaning.specs.Partial.{Partial, named, MeetsGoal, Reaches, Met, builtSizes, builtPairs, forgetting, forgettings, builtTask, againstGoal, leftOut, leftOutLean, Ordered}
 use Rattle.theory.specs.Truth.{on, off, test, less, same, more, order, clash}
 use Rattle.theory.specs.Search.{and-left, and-right, or-either, or-right, some-get, all-at}
-use Rattle.theory.specs.Operators.{beforeOf, afterOf, length-applied, before-range, applies-value, value-applies, applied-value, state-applied}
-use Rattle.theory.specs.Sound.{none-paired, kept-along, sound}
+use Rattle.theory.specs.Operators.{length-applied, before-range, applies-value, value-applies, applied-value, state-applied}
+use Rattle.theory.specs.Sound.{none-paired, kept-along}
 use Rattle.theory.specs.PartialPairs.{built-length, built-size, paired-known}
-use Rattle.theory.specs.PartialTask.{entries-built, state-built, forgettings-in, in-forgettings, built-acceptable}
+use Rattle.theory.specs.PartialTask.{entries-built, state-built, forgettings-in, in-forgettings}
 
 -- ---- plans
 
@@ -201,7 +200,3 @@ module _ (P : Partial) (ok : Ordered P) where
             (λ o u m _ _ _ h. state-applied ds 0 o u (fine o m) h) plan from (P .start) s (state-built ds (P .start) (ok .start)) free (ok .start) leads in
             reaches-join _ (P .start) s (P .goal) (reaches-more _ _ _ _ (λ o m. append-left _ m) (plan, from, leads))
             (reaches-more _ _ _ _ (λ o m. append-right (P .operators) m) (forgot-goal out s t (never-out s t clean meets) meets))
-
-    -- Accepted weights mean that no sequence of the file's moves meets the order.
-    pub order-unmet : (w : Set) → Separates T w → (s : List ℕ) → Reaches (P .operators) (P .start) s → MeetsGoal P s → ⊥
-    order-unmet w good s r meets = let (plan, from, leads) = reached-exactly .1 (s, r, meets) in sound T w (built-acceptable P ok out free shut) good plan from leads

@@ -1,23 +1,19 @@
 -- The task that is built for a partial one keeps every rule of tasks. Forgetting operators are never idle and always closed.
-use Prim.Native.Nat.{ℕ, zero, suc, _+_, _*_, _<_, _≤_}
+use Prim.Native.Nat.{ℕ, suc, _<_}
 use mathlib.Core.Path.{_≡_, refl, ap, ap₂, sym, _∙_}
-use mathlib.Core.Logic.{_≢_, _⊎_, inl, inr}
-use mathlib.Core.Bool.{Bool, true, false, not, _&&_, _||_, cond, or-false}
-use mathlib.Core.List.{List, [], _∷_, _++_, map, List·Memᴰ as In, List·Memᴰ·head as here, List·Memᴰ·eq-of-singleton as eq-of-singleton, List·Memᴰ·not-nil as not-nil, List·Memᴰ·append-cases as append-cases}
-use mathlib.Core.List.{Memᴰ·append-left as append-left, Memᴰ·append-right as append-right}
+use mathlib.Core.Logic.{_≢_, inl, inr}
+use mathlib.Core.Bool.{Bool, true, false, not, _&&_, cond, or-false}
+use mathlib.Core.List.{List, [], _∷_, _++_, List·Memᴰ as In, List·Memᴰ·head as here, List·Memᴰ·eq-of-singleton as eq-of-singleton, List·Memᴰ·not-nil as not-nil, List·Memᴰ·append-cases as append-cases}
 use native.Mathlib.Omega.{arith}
 use native.Mathlib.Nat.{ne-of-lt}
-use lib.Dec.{eqb, ltb}
 use lib.ListN.{length}
-use borrow.Author.Tests.{eqb-false, ne-eqb}
-use Rattle.meaning.specs.Sets.{Set, some, anyOf, twoOf, allOf, listed, flat}
-use Rattle.meaning.specs.Task.{Entry, Operator, Task, State, Entries, IsOperator, names, value, size, Run}
-use Rattle.meaning.specs.Feature.{atoms, features}
+use Rattle.meaning.specs.Sets.{Set, some, anyOf, twoOf, allOf, listed}
+use Rattle.meaning.specs.Task.{Entry, Operator, State, Entries, IsOperator, names, value, size}
 use Rattle.meaning.specs.Pair.{paired, possible, clashing, stuck, idle, clashingAfter, uncovered, closed, holds}
 use Rattle.meaning.specs.File.{InLimits, Acceptable}
 use Rattle.meaning.specs.Partial.{Partial, builtSizes, builtPairs, forgetting, forgettings, builtTask, Ordered}
 use Rattle.theory.specs.Truth.{on, off, test, clash}
-use Rattle.theory.specs.Search.{any-cong, some-cong, two-cong, and-none-left, and-none-right, or-neither, or-right, true-together, some-at, some-not, any-not, all-each, all-at, two-get, two-at, earlier-left, earlier-right}
+use Rattle.theory.specs.Search.{any-cong, some-cong, two-cong, and-none-left, and-none-right, or-right, some-at, some-not, any-not, all-at, earlier-left, earlier-right}
 use Rattle.theory.specs.Flat.{flat-in, in-flat}
 use Rattle.theory.specs.Operators.{names-in, in-fine, entries-rise}
 use Rattle.theory.specs.PartialPairs.{built-length, built-size, built-run, paired-known, paired-unknown}

@@ -126,7 +126,8 @@ edits-only workspace edit = formed-or workspace _ (refuses Malformed workspace) 
 -- ---- calls that write a file
 
 -- What was read fixes the outcome: `build`, `build_partial` and `build_partial_lean`, `silence`.
-pub writes-only : {A : Type 0} (read : Read A) (due : A → Outcome ℕ) (room : List ℕ) → AtMostOne (λ outcome. byRead read (λ a. outcome ≡ due a) (λ reason. outcome ≡ refuses reason room))
+pub writes-only : {A : Type 0} (read : Read A) (due : A → Outcome ℕ) (room : List ℕ)
+    → AtMostOne (λ outcome. byRead read (λ a. outcome ≡ due a) (λ reason. outcome ≡ refuses reason room))
 writes-only read due room = read-only read _ (λ reason. refuses reason room) (λ a. is-only (due a))
 
 pub builds-only : (bay room : List ℕ) → AtMostOne (Builds bay room)

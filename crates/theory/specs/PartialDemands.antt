@@ -20,7 +20,8 @@ use Rattle.meaning.specs.File.{judgedPairs, judgedTask, judgedWeights, weightBy
 use Rattle.meaning.specs.Workspace.{wordsFor, has, packed}
 use Rattle.meaning.specs.Answer.{Answer, done, refused, Outcome, Verdict, accepted, ChecksAs, Checks, OpensAs, Opens, Finding, none, separated, Finds, Judged, fine, faulty, need}
 use Rattle.meaning.specs.History.{Event, Edited, taskAfter, SameTask}
-use Rattle.meaning.specs.Partial.{Partial, Reaches, Met, Ordered, builtSizes, builtPairs, builtTask, leftOut, leftOutLean, partialOf, partialBytes, judgedPartial, OpensPartial, ChecksPartial, BuildsBy, silenced, marksJudged, silencesBy, Silences}
+use Rattle.meaning.specs.Partial.{Partial, Reaches, Met, Ordered, builtSizes, builtPairs, builtTask, leftOut, leftOutLean, partialOf, partialBytes, judgedPartial}
+use Rattle.meaning.specs.Partial.{OpensPartial, ChecksPartial, BuildsBy, silenced, marksJudged, silencesBy, Silences}
 use Rattle.theory.specs.Truth.{on, off, test}
 use Rattle.theory.specs.Run.{members}
 use Rattle.theory.specs.Reading.{got-value, by-got}
@@ -28,7 +29,8 @@ use Rattle.theory.specs.ReadBack as Back
 use Rattle.theory.specs.Accepted as Files
 use Rattle.theory.specs.Operands.{unless}
 use Rattle.theory.specs.Determined.{silences-only}
-use Rattle.theory.specs.Refusals.{Faulty, RefusesExactly, refuses-exactly, fileJudged, openJudged, checkJudged, buildJudged, silenceJudged, opens-exactly, checks-exactly, builds-exactly, silences-refused}
+use Rattle.theory.specs.Refusals.{Faulty, RefusesExactly, refuses-exactly, fileJudged, openJudged, checkJudged, buildJudged, silenceJudged}
+use Rattle.theory.specs.Refusals.{opens-exactly, checks-exactly, builds-exactly, silences-refused}
 use Rattle.theory.specs.Delivered.{Leaves, not-refused, delivered-leaves}
 use Rattle.theory.specs.Demands.{Afresh, accepts-exactly, accepted-unsolvable, none-exactly, some-found, least-given, found-accepted, written-afresh}
 use Rattle.theory.specs.PartialPairs.{built-run, built-count, paired-known, paired-unknown}
@@ -95,7 +97,8 @@ pub check-partial-refuses : (file weights : List ℕ) (answer : Answer Verdict) 
 check-partial-refuses file = checks-exactly (judgedPartial leftOut file)
 
 -- build_partial, build_partial_lean: the partial file's first fault; then 8.
-pub build-partial-refuses : (out : Partial → ℕ → ℕ → Bool) (file room : List ℕ) → RefusesExactly (BuildsBy out file room) room (Faulty (buildJudged (judgedPartial out file) taskBytes room))
+pub build-partial-refuses : (out : Partial → ℕ → ℕ → Bool) (file room : List ℕ)
+    → RefusesExactly (BuildsBy out file room) room (Faulty (buildJudged (judgedPartial out file) taskBytes room))
 build-partial-refuses out file = builds-exactly (judgedPartial out file) taskBytes
 
 -- silence: the task's first fault; that of the marks; then 8.
@@ -212,8 +215,8 @@ module _ (file : List ℕ) (out : Partial → ℕ → ℕ → Bool) (T : Task) (
         written-afresh T U (taskBytes T) room workspace lent edited (length (taskBytes T)) k events built-accepted as-built begins edits same
 
 -- The same of the partial task that a file was read as.
-pub built-met : (file : List ℕ) (out : Partial → ℕ → ℕ → Bool) (T : Task) (next : ℕ) → judgedPartial out file ≡ got T next → (P : Partial) (end : ℕ) → partialOf file 0 ≡ got P end
-    → Permitted P (out P) → Reaches (T .operators) (T .start) (T .goal) ↔ Met P
+pub built-met : (file : List ℕ) (out : Partial → ℕ → ℕ → Bool) (T : Task) (next : ℕ) → judgedPartial out file ≡ got T next
+    → (P : Partial) (end : ℕ) → partialOf file 0 ≡ got P end → Permitted P (out P) → Reaches (T .operators) (T .start) (T .goal) ↔ Met P
 built-met file out T next judged P end read =
     let w = accepted-partial file out T next judged in
     subst (λ Q. Permitted Q (out Q) → Reaches (T .operators) (T .start) (T .goal) ↔ Met Q) (got-value (sym (w .read) ∙ read)) (w .reached)

@@ -1,6 +1,6 @@
 -- Partial files: what is read is in order; what is in order is written and read back; the built task can be written; its bytes in parts.
 use Prim.Native.Nat.{ℕ, zero, suc, _<_, _≤_}
-use mathlib.Core.Path.{_≡_, refl, ap, ap₂, sym, _∙_}
+use mathlib.Core.Path.{_≡_, refl, ap, ap₂, sym, _∙_, subst}
 use mathlib.Core.Logic.{_↔_}
 use mathlib.Core.Bool.{Bool, true, false, cond}
 use mathlib.Core.List.{List, [], _∷_, _++_, append-nil, Memᴰ·append-left as append-left}
@@ -15,7 +15,8 @@ use Rattle.meaning.specs.Feature.{atoms, features}
 use Rattle.meaning.specs.Pair.{closed, holds}
 use Rattle.meaning.specs.Number.{Reason, Limit, Range, Outgrown, Held, Unclosed, got, numberBytes, number, numbersOn}
 use Rattle.meaning.specs.File.{Parser, give, then, inside, item, limited, rising, valuesOf, featureList, entriesOf, operatorOf, operatorsOf, Writable, bytesOf, counted}
-use Rattle.meaning.specs.Partial.{Partial, Ordered, Reaches, Met, builtSizes, builtPairs, forgettings, builtTask, partialHeader, marksOf, goalOf, partialOf, judgedPartial, marksIn, namedIn, partialBytes}
+use Rattle.meaning.specs.Partial.{Partial, Ordered, Reaches, Met, builtSizes, builtPairs, forgettings, builtTask}
+use Rattle.meaning.specs.Partial.{partialHeader, marksOf, goalOf, partialOf, judgedPartial, marksIn, namedIn, partialBytes}
 use Rattle.theory.specs.Truth.{on, off, test}
 use Rattle.theory.specs.Search.{and-left, and-right, and-both, all-at, all-each}
 use Rattle.theory.specs.Numbering.{atoms-room}
@@ -102,7 +103,8 @@ module _ (bytes : List ℕ) where
     | off e ↦ rw e (gives-give _ (rw (le-ltb d d (omega arith)) (omega arith, omega (arith, eqb-false m 1 e), λ small. refl)))
   ]
 
-  pub goal-said : (sizes marks : List ℕ) → State (replicate (length sizes) 2) marks → Gives bytes (goalOf sizes marks) (λ goal l. State (builtSizes sizes) goal × (marksIn sizes goal ≡ marks)
+  pub goal-said : (sizes marks : List ℕ) → State (replicate (length sizes) 2) marks
+      → Gives bytes (goalOf sizes marks) (λ goal l. State (builtSizes sizes) goal × (marksIn sizes goal ≡ marks)
       × (Bytes bytes → l ≡ bytesOf numberBytes (namedIn sizes goal)))
   unfolding goalOf marksIn namedIn bytesOf
   goal-said [] [] t = gives-give _ (record { full = refl; values = λ i l. absurd (omega arith) }, refl, λ small. refl)
@@ -149,31 +151,33 @@ module _ (bytes : List ℕ) where
     -- "Such a goal is reached exactly when the partial goal is"; leaving out what is permitted loses no plan.
     pub reached : Permitted partial (out partial) → Reaches (T .operators) (T .start) (T .goal) ↔ Met partial
 
+  -- What was read passed the count, 6 and 7.
+  accepted-as : (out : Partial → ℕ → ℕ → Bool) (P : Partial) (next : ℕ) → partialOf bytes 0 ≡ got P next → length (P .operators ++ forgettings (P .sizes) (out P)) < numberEnd
+      → holds (builtSizes (P .sizes)) (listed (builtPairs (P .sizes) (listed (P .pairs)))) (P .start) ≡ false
+      → allOf (closed (builtSizes (P .sizes)) (listed (builtPairs (P .sizes) (listed (P .pairs))))) (P .operators ++ forgettings (P .sizes) (out P)) ≡ true
+      → AcceptedPartial out (builtTask P (out P)) next
+  unfolding builtTask
+  accepted-as out P next read few free shut =
+      let (end, (ok, exact)) = whole-said bytes partialOf _ P next partial-said partial-ends read in
+      let file-shut = all-each _ (P .operators) (λ o m. all-at _ _ shut o (append-left _ m)) in
+      record {
+        partial = P;
+        read = read;
+        ordered = ok;
+        task = refl;
+        writable = record { acceptable = built-acceptable P ok (out P) free file-shut; countable = few };
+        end = end;
+        exact = exact;
+        reached = reached-exactly P ok free file-shut (out P);
+      }
+
   pub accepted-partial : (out : Partial → ℕ → ℕ → Bool) (T : Task) (next : ℕ) → judgedPartial out bytes ≡ got T next → AcceptedPartial out T next
   unfolding judgedPartial builtTask
   accepted-partial out T next e =
-      let (P, middle, p, q) = on-got (partialOf bytes 0) _ T next e in
+      let (P, middle, read, q) = on-got (partialOf bytes 0) _ T next e in
       let U = builtTask P (out P) in
       let (few, r) = test-passed (ltb (length (U .operators)) numberEnd) _ Outgrown 0 T next q in
       let (free, s) = test-failed (holds (U .sizes) (listed (U .pairs)) (U .start)) _ Held 0 T next r in
       let (shut, z) = test-passed (allOf (closed (U .sizes) (listed (U .pairs))) (U .operators)) (got U middle) Unclosed 0 T next s in
-      let (end, (ok, exact)) = whole-said bytes partialOf _ P middle partial-said partial-ends p in
-      whole P U middle (got-value z) (got-next z) p ok end exact (ltb-true _ _ few) free shut
-    where
-      whole : (P : Partial) (U : Task) (middle : ℕ) → builtTask P (out P) ≡ T → middle ≡ next → partialOf bytes 0 ≡ got P middle → Ordered P → middle ≡ length bytes → Exact bytes partialBytes P bytes
-          → length (P .operators ++ forgettings (P .sizes) (out P)) < numberEnd → holds (builtSizes (P .sizes)) (listed (builtPairs (P .sizes) (listed (P .pairs)))) (P .start) ≡ false
-          → allOf (closed (builtSizes (P .sizes)) (listed (builtPairs (P .sizes) (listed (P .pairs))))) (P .operators ++ forgettings (P .sizes) (out P)) ≡ true → AcceptedPartial out T next
-      whole P U middle same place p ok end exact few free shut = rw (← same, ← place) (record {
-        partial = P;
-        read = p;
-        ordered = ok;
-        task = refl;
-        writable = record { acceptable = built-acceptable P ok (out P) free (file-closed P shut); countable = few };
-        end = end;
-        exact = exact;
-        reached = reached-exactly P ok free (file-closed P shut) (out P);
-      })
-        where
-          file-closed : (P : Partial) → allOf (closed (builtSizes (P .sizes)) (listed (builtPairs (P .sizes) (listed (P .pairs))))) (P .operators ++ forgettings (P .sizes) (out P)) ≡ true
-              → allOf (closed (builtSizes (P .sizes)) (listed (builtPairs (P .sizes) (listed (P .pairs))))) (P .operators) ≡ true
-          file-closed P shut = all-each _ (P .operators) (λ o m. all-at _ _ shut o (append-left _ m))
+      let accepted = accepted-as out P middle read (ltb-true _ _ few) free shut in
+      subst (λ S. AcceptedPartial out S next) (got-value z) (subst (AcceptedPartial out U) (got-next z) accepted)

@@ -93,18 +93,20 @@ module _ (sizes : List ℕ) (pairs : Set) (c : List ℕ) (long : length c ≡ le
 -- A feature that is no single atom is one of two atoms.
 pub pair-atoms : (sizes : List ℕ) (f : ℕ) → atoms sizes ≤ f → f < features sizes → (p : Atoms sizes) × (f ≡ double sizes (p .i) (p .x) (p .j) (p .y))
 unfolding allFeatures eachPair
-pair-atoms sizes f low high = elim (append-cases (flat (length sizes) (λ i. flat (size sizes i) (λ x. single sizes i x ∷ []))) (rw (← all-features sizes) at (table-in (features sizes) (λ n. n) f high))) [
-  | inl m ↦ let (i, hi, k) = flat-in (length sizes) _ f m in let (x, hx, q) = flat-in (size sizes i) _ f k in absurd (omega (arith, low, eq-of-singleton q, single-below sizes i x hx))
-  | inr m ↦ let (p, q) = each-in sizes (λ i x j y. double sizes i x j y ∷ []) f m in (p, eq-of-singleton q)
-]
+pair-atoms sizes f low high =
+    let singles = flat (length sizes) (λ i. flat (size sizes i) (λ x. single sizes i x ∷ [])) in
+    elim (append-cases singles (rw (← all-features sizes) at (table-in (features sizes) (λ n. n) f high))) [
+      | inl m ↦ let (i, hi, k) = flat-in (length sizes) _ f m in let (x, hx, q) = flat-in (size sizes i) _ f k in absurd (omega (arith, low, eq-of-singleton q, single-below sizes i x hx))
+      | inr m ↦ let (p, q) = each-in sizes (λ i x j y. double sizes i x j y ∷ []) f m in (p, eq-of-singleton q)
+    ]
 
 length-flats : {A B : Type 0} (n : ℕ) (g : ℕ → List A) (h : ℕ → List B) → ((i : ℕ) → i < n → length (g i) ≡ length (h i)) → length (flat n g) ≡ length (flat n h)
 unfolding flat
 length-flats zero g h e = refl
 length-flats (suc n) g h e = length-append (flat n g) (g n) ∙ ap₂ _+_ (length-flats n g h (λ i l. e i (omega arith))) (e n (omega arith)) ∙ sym (length-append (flat n h) (h n))
 
-length-each : {A B : Type 0} (sizes : List ℕ) (g : ℕ → ℕ → ℕ → ℕ → List A) (h : ℕ → ℕ → ℕ → ℕ → List B) → ((i x j y : ℕ) → length (g i x j y) ≡ length (h i x j y))
-    → length (eachPair sizes g) ≡ length (eachPair sizes h)
+length-each : {A B : Type 0} (sizes : List ℕ) (g : ℕ → ℕ → ℕ → ℕ → List A) (h : ℕ → ℕ → ℕ → ℕ → List B)
+    → ((i x j y : ℕ) → length (g i x j y) ≡ length (h i x j y)) → length (eachPair sizes g) ≡ length (eachPair sizes h)
 unfolding eachPair
 length-each sizes g h e = length-flats _ _ _ (λ i l. length-flats _ _ _ (λ j k. elim (test (ltb i j)) [
   | on q ↦ rw q (length-flats _ _ _ (λ x a. length-flats _ _ _ (λ y c. e i x j y)))

@@ -1,5 +1,5 @@
 -- Partial tasks in order are written and read back; the built task's file in parts; the tests of what is left out, on the built task.
-use Prim.Native.Nat.{ℕ, zero, suc, _+_, _*_, _<_, _≤_}
+use Prim.Native.Nat.{ℕ, suc, _+_, _*_, _<_, _≤_}
 use mathlib.Core.Path.{_≡_, refl, ap, sym, _∙_}
 use mathlib.Core.Bool.{Bool, true, false, _&&_, cond}
 use mathlib.Core.List.{List, [], _∷_, _++_, append-assoc, append-nil, List·Memᴰ as In, List·Memᴰ·tail as there}
@@ -15,14 +15,16 @@ use Rattle.meaning.specs.Feature.{sumOf, pairsOf, atoms, features}
 use Rattle.meaning.specs.Pair.{paired, stuck, closed, holds}
 use Rattle.meaning.specs.Number.{Range, got, groupBytes, numberBytes}
 use Rattle.meaning.specs.File.{operatorsOf, bytesOf, counted, entryBytes, operatorBytes, weightBytes, taskBytes}
-use Rattle.meaning.specs.Partial.{Partial, Ordered, named, builtSizes, builtPairs, forgetting, forgettings, builtTask, againstGoal, leftOut, leftOutLean, partialHeader, goalOf, partialOf, judgedPartial, marksIn, namedIn, partialBytes}
+use Rattle.meaning.specs.Partial.{Partial, Ordered, named, builtSizes, builtPairs, forgetting, forgettings, builtTask, againstGoal, leftOut, leftOutLean}
+use Rattle.meaning.specs.Partial.{partialHeader, goalOf, partialOf, judgedPartial, marksIn, namedIn, partialBytes}
+use Rattle.theory.specs.Tells.{tells-agree, tells-map, tells-lt}
 use Rattle.theory.specs.Truth.{on, off, test, clash}
-use Rattle.theory.specs.Search.{true-together, some-cong, all-each}
+use Rattle.theory.specs.Search.{some-cong, all-each}
 use Rattle.theory.specs.Reading.{Reads, reads-give, reads-then, reads-map}
 use Rattle.theory.specs.ReadBack.{between-back, limited-back, size-list-back, ended-back, values-back, feature-list-back, operators-back, whole, Sayable}
 use Rattle.theory.specs.NumberBack.{number-back}
 use Rattle.theory.specs.Spent.{Bytes}
-use Rattle.theory.specs.Parts.{operators-said}
+use Rattle.theory.specs.Parts.{each-more, operators-said}
 use Rattle.theory.specs.PartialPairs.{built-length, built-size, paired-known}
 use Rattle.theory.specs.PartialTask.{forgettings-in, closed-built, holds-built, all-closed}
 use Rattle.theory.specs.BytesOf.{bytes-join, bytes-each}
@@ -40,22 +42,17 @@ marks-state : (sizes goal : List ℕ) → length goal ≡ length sizes → State
 unfolding marksIn
 marks-state [] goal e = record { full = refl; values = λ i l. absurd (omega arith) }
 marks-state (d ∷ ds) [] e = absurd (omega arith)
-marks-state (d ∷ ds) (g ∷ gs) e = let t = marks-state ds gs (omega arith) in record {
-  full = ap suc (t .full);
-  values = λ i l. each i l (t .values);
-}
+marks-state (d ∷ ds) (g ∷ gs) e =
+    let t = marks-state ds gs (omega arith) in
+    let twos : List ℕ = replicate (length ds) 2 in
+    record { full = ap suc (t .full); values = each-more (λ i. value (marksIn (d ∷ ds) (g ∷ gs)) i < size (2 ∷ twos) i) (length twos) (mark (ltb g d)) (t .values) }
   where
     mark : (b : Bool) → cond b 1 0 < 2
     mark true = omega arith
     mark false = omega arith
 
-    each : (i : ℕ) → i < suc (length {A = ℕ} (replicate (length ds) 2)) → ((i : ℕ) → i < length {A = ℕ} (replicate (length ds) 2) → value (marksIn ds gs) i < size (replicate (length ds) 2) i)
-        → value (cond (ltb g d) 1 0 ∷ marksIn ds gs) i < size (2 ∷ replicate (length ds) 2) i
-    each zero l h = mark (ltb g d)
-    each (suc i) l h = h i (omega arith)
-
-goal-back : (sizes goal : List ℕ) → ((i : ℕ) → i < length sizes → size sizes i ≤ mostPartialSize) → length goal ≡ length sizes → ((i : ℕ) → i < length sizes → value goal i < suc (size sizes i)) → (after : List ℕ)
-    → Reads (goalOf sizes (marksIn sizes goal)) goal (bytesOf numberBytes (namedIn sizes goal)) after
+goal-back : (sizes goal : List ℕ) → ((i : ℕ) → i < length sizes → size sizes i ≤ mostPartialSize) → length goal ≡ length sizes
+    → ((i : ℕ) → i < length sizes → value goal i < suc (size sizes i)) → (after : List ℕ) → Reads (goalOf sizes (marksIn sizes goal)) goal (bytesOf numberBytes (namedIn sizes goal)) after
 unfolding goalOf marksIn namedIn bytesOf
 goal-back [] [] s e h after = reads-give
 goal-back [] (g ∷ gs) s e h after = absurd (omega arith)
@@ -91,8 +88,9 @@ partial-back P ok few =
     let short : length ds < numberEnd = omega (arith, ok .variables) in
     let long : length (P .goal) ≡ length ds = ok .goal .full ∙ built-length ds in
     let marks = marks-state ds (P .goal) long in
+    let twos : List ℕ = replicate (length ds) 2 in
     reads-then _ (partial-header-back P ok _)
-    (reads-then _ (values-back (replicate (length ds) 2) (marksIn ds (P .goal)) (λ i l. omega (arith, getD-replicate {A = ℕ} (length ds) i 2 0 (omega (arith, length-replicate {A = ℕ} (length ds) 2)))) marks _)
+    (reads-then _ (values-back twos (marksIn ds (P .goal)) (λ i l. omega (arith, getD-replicate {A = ℕ} (length ds) i 2 0 (omega (arith, length-replicate {A = ℕ} (length ds) 2)))) marks _)
     (reads-then _ (values-back ds (P .start) small (ok .start) _)
     (reads-then _ (goal-back ds (P .goal) (λ i l. ok .each i l .1) long (λ i l. rw (built-size ds i l) at (ok .goal .values i (rw (built-length ds) l))) _)
     (reads-then _ (feature-list-back (atoms ds) (features ds) (P .pairs) (omega (arith, features-built ds, ok .total)) (ok .pairs) _)
@@ -101,7 +99,8 @@ partial-back P ok few =
 
 -- So a partial task whose start and operators pass on its own sizes and pairs is accepted, whatever is left out, if no operator is idle for want of a possible value, and a number counts
 -- those that are kept.
-pub partial-accepted : (P : Partial) → Ordered P → (out : Partial → ℕ → ℕ → Bool) → length (builtTask P (out P) .operators) < numberEnd → holds (P .sizes) (listed (P .pairs)) (P .start) ≡ false
+pub partial-accepted : (P : Partial) → Ordered P → (out : Partial → ℕ → ℕ → Bool) → length (builtTask P (out P) .operators) < numberEnd
+    → holds (P .sizes) (listed (P .pairs)) (P .start) ≡ false
     → ((o : Operator) → In o (P .operators) → (closed (P .sizes) (listed (P .pairs)) o ≡ true) × (stuck (P .sizes) (listed (P .pairs)) o ≡ false))
     → judgedPartial out (partialBytes P) ≡ got (builtTask P (out P)) (length (partialBytes P))
 unfolding judgedPartial builtTask
@@ -161,7 +160,10 @@ forgettings-width sizes out few small =
 module _ (P : Partial) (ok : Ordered P) where
   pub named-built : (i : ℕ) → i < length (P .sizes) → named P i ≡ ltb (suc (value (P .goal) i)) (size (builtSizes (P .sizes)) i)
   unfolding named
-  named-built i l = rw (built-size (P .sizes) i l) (true-together _ _ (λ e. lt-ltb (suc (value (P .goal) i)) (suc (size (P .sizes) i)) (omega (arith, ltb-true (value (P .goal) i) (size (P .sizes) i) e))) (λ e. lt-ltb (value (P .goal) i) (size (P .sizes) i) (omega (arith, ltb-true (suc (value (P .goal) i)) (suc (size (P .sizes) i)) e))))
+  named-built i l = rw (built-size (P .sizes) i l) (one-more (value (P .goal) i) (size (P .sizes) i))
+    where
+      one-more : (g d : ℕ) → ltb g d ≡ ltb (suc g) (suc d)
+      one-more g d = tells-agree (tells-lt g d) (tells-map (λ h. omega arith) (λ h. omega arith) (tells-lt (suc g) (suc d)))
 
   pub goal-value : (j : ℕ) → named P j ≡ true → value (P .goal) j < size (P .sizes) j
   unfolding named

@@ -3,8 +3,8 @@ use Prim.Native.Nat.{ℕ, zero, suc, _<_, _≤_}
 use mathlib.Core.Path.{_≡_, refl, sym, _∙_}
 use mathlib.Core.Logic.{_≢_, _↔_, inl, inr}
 use mathlib.Core.Bool.{Bool, true, false, not}
-use mathlib.Core.List.{List, [], _∷_, _++_, List·Memᴰ as In, List·Memᴰ·head as here, List·Memᴰ·tail as there, List·Memᴰ·not-nil as not-nil, List·Memᴰ·cases-cons as cases-cons, List·Memᴰ·append-cases as append-cases}
-use mathlib.Core.List.{Memᴰ·append-left as append-left, Memᴰ·append-right as append-right}
+use mathlib.Core.List.{List, [], _∷_, _++_, List·Memᴰ as In, List·Memᴰ·head as here, List·Memᴰ·tail as there, List·Memᴰ·not-nil as not-nil, List·Memᴰ·cases-cons as cases-cons}
+use mathlib.Core.List.{List·Memᴰ·append-cases as append-cases, Memᴰ·append-left as append-left, Memᴰ·append-right as append-right}
 use native.Mathlib.Omega.{arith}
 use lib.ListN.{length, set, length-set}
 use lib.Seq.{getD-set-same, getD-set-other, ext-getD}
@@ -121,7 +121,9 @@ module _ (P : Partial) (ok : Ordered P) where
         ])
           where
             unknown : (i : ℕ) → i < length ds → named P i ≡ false → size ds i ≡ value (P .goal) i
-            unknown i l q = let h : value (P .goal) i < suc (size ds i) = rw (built-size ds i l) at (ok .goal .values i (rw (built-length ds) l)) in omega (arith, ltb-false (value (P .goal) i) (size ds i) q)
+            unknown i l q =
+                let h : value (P .goal) i < suc (size ds i) = rw (built-size ds i l) at (ok .goal .values i (rw (built-length ds) l)) in
+                omega (arith, ltb-false (value (P .goal) i) (size ds i) q)
 
   -- ---- the built task's plan, replayed without forgetting
 
@@ -156,7 +158,8 @@ module _ (P : Partial) (ok : Ordered P) where
   replay out (o ∷ plan) from u s end hu hs agree leads = elim (append-cases (P .operators) (from o (here refl))) [
     | inl m ↦
         let a = applies-too o u s (fine o m) agree (leads .0) in
-        let (t, r, z) = replay out plan (λ p k. from p (there k)) (applied o u) (applied o s) end (length-applied o u ∙ hu) (length-applied o s ∙ hs) (agrees-after o u s (fine o m) hu hs agree) (leads .1) in
+        let after = agrees-after o u s (fine o m) hu hs agree in
+        let (t, r, z) = replay out plan (λ p k. from p (there k)) (applied o u) (applied o s) end (length-applied o u ∙ hu) (length-applied o s ∙ hs) after (leads .1) in
         (t, reaches-join _ s (applied o s) t (reaches-step _ o s m a) r, z)
     | inr m ↦
         let (i, x, l, h, e, q) = forgettings-in ds out o m in

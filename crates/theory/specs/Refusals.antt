@@ -15,7 +15,8 @@ use Rattle.meaning.specs.Feature.{features}
 use Rattle.meaning.specs.Number.{Reason, Small, Malformed, refusal, Read, got, fault}
 use Rattle.meaning.specs.File.{judgedTask, judgedWeights}
 use Rattle.meaning.specs.Workspace.{Content, wordsFor, wordsDue, WellFormed}
-use Rattle.meaning.specs.Answer.{Answer, done, refused, Outcome, refuses, writes, delivered, byRead, Verdict, ChecksAs, OpensAs, FindsIn, FindsBy, Finds, Judged, fine, faulty, need, Edit, editJudged, EditsIn, Edits}
+use Rattle.meaning.specs.Answer.{Answer, done, refused, Outcome, refuses, writes, delivered, byRead, Verdict, ChecksAs, OpensAs}
+use Rattle.meaning.specs.Answer.{FindsIn, FindsBy, Finds, Judged, fine, faulty, need, Edit, editJudged, EditsIn, Edits}
 use Rattle.meaning.specs.Partial.{Partial, partialBytes, silenced, marksJudged, silencesBy, Silences}
 use Rattle.meaning.specs.Line.{Found, Seeks, tooLarge, Prints}
 use Rattle.theory.specs.Truth.{on, off, test}
@@ -223,7 +224,8 @@ prints-refused n input = elim (test (ltb mostInput (length input))) [
 pub opens-exactly : (judged : Read Task) (room : List ℕ) → RefusesExactly (OpensAs judged room) room (Faulty (openJudged judged room))
 opens-exactly judged room = refuses-exactly (opens-only judged room) (λ n left. opens-refused n left judged room)
 
-pub checks-exactly : (judged : Read Task) (weights : List ℕ) (answer : Answer Verdict) → ChecksAs judged weights answer → (n : ℕ) → (answer ≡ refused n) ↔ Faulty (checkJudged judged weights) n
+pub checks-exactly : (judged : Read Task) (weights : List ℕ) (answer : Answer Verdict) → ChecksAs judged weights answer
+    → (n : ℕ) → (answer ≡ refused n) ↔ Faulty (checkJudged judged weights) n
 checks-exactly judged weights = answers-exactly (checks-only judged weights) (λ n. checks-refused n judged weights)
 
 pub builds-exactly : {A : Type 0} (read : Read A) (file : A → List ℕ) (room : List ℕ)

@@ -1,7 +1,7 @@
 -- Closed lists pair by pair: a list is closed under an operator if the operator is idle or no listed pair is unclosed; and a pair is unclosed by its two atoms.
 use Prim.Native.Nat.{ℕ, _<_}
 use mathlib.Core.Path.{_≡_, refl, sym, ap, ap₂, _∙_}
-use mathlib.Core.Logic.{_≢_, inl, inr}
+use mathlib.Core.Logic.{inl, inr}
 use mathlib.Core.Bool.{Bool, true, false, not, _&&_, _||_, cond, and-or-distrib-left}
 use mathlib.Core.List.{List, List·Memᴰ as In}
 use native.Mathlib.Omega.{arith}
@@ -17,7 +17,7 @@ use Rattle.theory.specs.Truth.{Test, on, off, test, clash, less, same, m
 use Rattle.theory.specs.Search.{and-left, and-right, and-both, and-none-left, and-none-right, or-left, or-right, or-either, or-neither, true-together}
 use Rattle.theory.specs.Search.{some-at, some-get, some-not, some-cong, some-or, any-at, any-get, any-not, two-at, two-get, two-not, earlier-left, earlier-right}
 use Rattle.theory.specs.Numbering.{both-below, both-above, both-less, both-more, double-only}
-use Rattle.theory.specs.Operators.{afterOf, names-in, entry-of, in-fine, entries-rise, entries-earlier, field-at}
+use Rattle.theory.specs.Operators.{afterOf, names-in, unnamed-apart, entry-of, in-fine, entries-rise, entries-earlier, field-at}
 
 -- A listed pair is unclosed under the operator.
 abbrev pub listedUnclosed : List ℕ → Set → Operator → ℕ → Bool
@@ -43,9 +43,6 @@ unclosed-above sizes pairs o f l = or-neither (joinsAfters sizes pairs o f) (joi
     apart i x j y = ne-eqb f (both sizes i x j y) (λ q. omega (arith, both-above sizes i x j y))
 
 module _ (sizes : List ℕ) (pairs : Set) (o : Operator) (fine : Entries sizes 0 o) where
-  unnamed-apart : (e : Entry) (u : ℕ) → In e o → names o u ≡ false → e .variable ≢ u
-  unnamed-apart e u m q z = clash (names-in o e m) (ap (names o) z ∙ q)
-
   -- ---- closed by pairs
 
   -- Two after atoms are paired if a listed pair joins two.
@@ -69,7 +66,7 @@ module _ (sizes : List ℕ) (pairs : Set) (o : Operator) (fine : Entries sizes 0
       let free = and-left (not (names o u)) (some (size sizes u) (λ y. pairs (both sizes (e .variable) (e .after) u y) && possible sizes pairs o u y)) b in
       let (y, j, c) = some-get (size sizes u) _ (and-right (not (names o u)) _ b) in
       let f = both sizes (e .variable) (e .after) u y in
-      some-at (features sizes) _ f (both-below sizes _ _ _ _ (unnamed-apart e u m (not-true _ free)) (in-fine sizes 0 o e m fine .3) j)
+      some-at (features sizes) _ f (both-below sizes _ _ _ _ (unnamed-apart o e u m (not-true _ free)) (in-fine sizes 0 o e m fine .3) j)
       (and-both _ _ (and-left (pairs f) (possible sizes pairs o u y) c)
       (any-at _ o e m (some-at (length sizes) _ u k (and-both _ _ free (some-at (size sizes u) _ y j
       (and-both _ _ (eq-eqb f _ refl) (and-right (pairs f) (possible sizes pairs o u y) c))))))))
@@ -156,7 +153,7 @@ module _ (sizes : List ℕ) (pairs : Set) (o : Operator) (fine : Entries sizes 0
         by e u w m kw n z t = elim (order (e .variable) u) [
           | less q ↦ let (a, b, c, d) = double-only sizes i x j y (e .variable) (e .after) u w l q hx hy (in-fine sizes 0 o e m fine .3) kw (z ∙ both-less sizes _ _ _ _ q) in
               joined-by (names-first e m a) (leaves-after e i x m a b) (leaves-at u w j y c d n t)
-          | same q ↦ absurd (unnamed-apart e u m n q)
+          | same q ↦ absurd (unnamed-apart o e u m n q)
           | more q ↦ let (a, b, c, d) = double-only sizes i x j y u w (e .variable) (e .after) l q hx hy kw (in-fine sizes 0 o e m fine .3) (z ∙ both-more sizes _ _ _ _ q) in
               joined-by (names-second e m c) (leaves-at u w i x a b n t) (leaves-after e j y m c d)
         ]

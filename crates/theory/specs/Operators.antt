@@ -1,6 +1,7 @@
 -- Laws of operators: what their entries say, which variables they name, and what they make of a state.
 use Prim.Native.Nat.{ℕ, suc, _<_, _≤_}
-use mathlib.Core.Path.{_≡_, refl, sym, subst, _∙_}
+use mathlib.Core.Path.{_≡_, refl, ap, sym, subst, _∙_}
+use mathlib.Core.Logic.{_≢_}
 use mathlib.Core.Bool.{true, false, cond}
 use mathlib.Core.List.{List, [], _∷_, List·Memᴰ as In, List·Memᴰ·head as here, List·Memᴰ·tail as there}
 use native.Mathlib.Omega.{arith}
@@ -10,7 +11,7 @@ use lib.Dec.{eqb}
 use borrow.Author.Tests.{eqb-true, eqb-false, eq-eqb, ne-eqb}
 use Rattle.meaning.specs.Sets.{anyOf}
 use Rattle.meaning.specs.Task.{Entry, Operator, State, Entries, names, applies, applied, value, size}
-use Rattle.theory.specs.Truth.{on, off, test}
+use Rattle.theory.specs.Truth.{on, off, test, clash}
 use Rattle.theory.specs.Search.{any-at, any-get, all-each, all-at, Earlier, first, further, earlier-by}
 
 -- What the entry for a variable says; 0 where the variable is not named.
@@ -29,6 +30,10 @@ afterOf o = fieldOf (λ e. e .after) o
 pub names-in : (o : Operator) (e : Entry) → In e o → names o (e .variable) ≡ true
 unfolding names
 names-in o e m = any-at _ o e m (eq-eqb (e .variable) (e .variable) refl)
+
+-- A variable that it does not name is none of its entries'.
+pub unnamed-apart : (o : Operator) (e : Entry) (u : ℕ) → In e o → names o u ≡ false → e .variable ≢ u
+unnamed-apart o e u m q z = clash (names-in o e m) (ap (names o) z ∙ q)
 
 pub entry-of : (o : Operator) (i : ℕ) → names o i ≡ true → (e : Entry) × In e o × (e .variable ≡ i)
 unfolding names

@@ -1,7 +1,7 @@
 -- The task that is built for a partial one keeps every rule of tasks. Forgetting operators are never idle and always closed.
 use Prim.Native.Nat.{ℕ, suc, _<_}
 use mathlib.Core.Path.{_≡_, refl, ap, ap₂, sym, _∙_}
-use mathlib.Core.Logic.{_≢_, inl, inr}
+use mathlib.Core.Logic.{inl, inr}
 use mathlib.Core.Bool.{Bool, true, false, not, _&&_, cond, or-false}
 use mathlib.Core.List.{List, [], _∷_, _++_, List·Memᴰ as In, List·Memᴰ·head as here}
 use mathlib.Core.List.{List·Memᴰ·eq-of-singleton as eq-of-singleton, List·Memᴰ·not-nil as not-nil, List·Memᴰ·append-cases as append-cases}
@@ -13,15 +13,11 @@ use Rattle.meaning.specs.Task.{Entry, Operator, State, Entries, IsOperator, nam
 use Rattle.meaning.specs.Pair.{paired, possible, clashing, stuck, idle, clashingAfter, uncovered, closed, holds}
 use Rattle.meaning.specs.File.{InLimits, Acceptable}
 use Rattle.meaning.specs.Partial.{Partial, builtSizes, builtPairs, forgetting, forgettings, builtTask, Ordered}
-use Rattle.theory.specs.Truth.{on, off, test, clash}
+use Rattle.theory.specs.Truth.{on, off, test}
 use Rattle.theory.specs.Search.{any-cong, some-cong, two-cong, and-none-left, and-none-right, or-right, some-at, some-not, any-not, all-at, earlier-left, earlier-right}
 use Rattle.theory.specs.Flat.{flat-in, in-flat}
-use Rattle.theory.specs.Operators.{names-in, in-fine, entries-rise}
+use Rattle.theory.specs.Operators.{unnamed-apart, in-fine, entries-rise}
 use Rattle.theory.specs.PartialPairs.{built-length, built-size, built-run, paired-known, paired-unknown}
-
--- A variable that an operator does not name is none of its entries'.
-apart : (o : Operator) (e : Entry) → In e o → (u : ℕ) → names o u ≡ false → e .variable ≢ u
-apart o e m u q z = clash (names-in o e m) (ap (names o) z ∙ q)
 
 -- ---- what is in range for the old sizes is for the built ones
 
@@ -56,7 +52,7 @@ module _ (sizes : List ℕ) (pairs : Set) where
     unknown-possible u l q = ap not (any-not _ o (λ e m.
         let f = in-fine b 0 o e m h in
         let k : e .variable < length sizes = rw (built-length sizes) at (f .1) in
-        paired-unknown sizes pairs (e .variable) (e .before) u (size sizes u) (apart o e m u q) k l (rw (built-size sizes (e .variable) k) at (f .2)) (omega arith) (λ x y. omega arith)))
+        paired-unknown sizes pairs (e .variable) (e .before) u (size sizes u) (unnamed-apart o e u m q) k l (rw (built-size sizes (e .variable) k) at (f .2)) (omega arith) (λ x y. omega arith)))
 
     pub never-stuck : stuck b ps o ≡ false
     unfolding stuck
@@ -91,19 +87,19 @@ module _ (sizes : List ℕ) (pairs : Set) where
     possible-built : (u y : ℕ) → u < length sizes → y < size sizes u → names o u ≡ false → possible b ps o u y ≡ possible sizes pairs o u y
     unfolding possible
     possible-built u y l k q = ap not (any-cong _ _ o (λ e m. let f = in-fine sizes 0 o e m h in
-        paired-known sizes pairs (e .variable) (e .before) u y (apart o e m u q) (f .1) l (f .2) k))
+        paired-known sizes pairs (e .variable) (e .before) u y (unnamed-apart o e u m q) (f .1) l (f .2) k))
 
     uncovered-built : uncovered b ps o ≡ uncovered sizes pairs o
     unfolding uncovered some
     uncovered-built = any-cong _ _ o (λ e m. rw (built-length sizes) (some-cong (length sizes) _ _ (λ u l. elim (test (names o u)) [
       | on q ↦ rw q refl
       | off q ↦ rw (q, built-size sizes u l, unknown e m u l q) (or-false _ ∙ some-cong (size sizes u) _ _ (λ y k. let f = in-fine sizes 0 o e m h in
-          ap₂ _&&_ (paired-known sizes pairs (e .variable) (e .after) u y (apart o e m u q) (f .1) l (f .3) k) (possible-built u y l k q)))
+          ap₂ _&&_ (paired-known sizes pairs (e .variable) (e .after) u y (unnamed-apart o e u m q) (f .1) l (f .3) k) (possible-built u y l k q)))
     ])))
       where
         unknown : (e : Entry) → In e o → (u : ℕ) → u < length sizes → names o u ≡ false → paired b ps (e .variable) (e .after) u (size sizes u) ≡ false
         unknown e m u l q = let f = in-fine sizes 0 o e m h in
-            paired-unknown sizes pairs (e .variable) (e .after) u (size sizes u) (apart o e m u q) (f .1) l (omega (arith, f .3)) (omega arith) (λ _ k. omega arith)
+            paired-unknown sizes pairs (e .variable) (e .after) u (size sizes u) (unnamed-apart o e u m q) (f .1) l (omega (arith, f .3)) (omega arith) (λ _ k. omega arith)
 
     -- The pairs are closed under it where they were, unless it was idle for want of a possible value.
     pub closed-built : stuck sizes pairs o ≡ false → closed b ps o ≡ closed sizes pairs o
@@ -134,7 +130,7 @@ module _ (sizes : List ℕ) (pairs : Set) where
     ])))
       where
         other : (u y : ℕ) → u < length sizes → names (forgetting sizes i x) u ≡ false → y < size b u → paired b ps i (size sizes i) u y ≡ false
-        other u y k q t = paired-unknown sizes pairs i (size sizes i) u y (apart (forgetting sizes i x) _ (here refl) u q) l k (omega arith)
+        other u y k q t = paired-unknown sizes pairs i (size sizes i) u y (unnamed-apart (forgetting sizes i x) _ u (here refl) q) l k (omega arith)
             (rw (built-size sizes u k) at t) (λ a c. omega arith)
 
     pub forgetting-closed : closed b ps (forgetting sizes i x) ≡ true

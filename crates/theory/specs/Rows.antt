@@ -28,7 +28,7 @@ use Rattle.theory.specs.Group.{two}
 use Rattle.theory.specs.Splits.{score-cong, part, fixed, splits}
 use Rattle.theory.specs.Numbering.{both-mirror}
 use Rattle.theory.specs.Meets.{par-sum, meets-score, parity-dot}
-use Rattle.theory.specs.Operators.{beforeOf, afterOf, names-in, names-range, before-range, applies-value, value-applies, applied-value, state-applied}
+use Rattle.theory.specs.Operators.{beforeOf, afterOf, unnamed-apart, names-range, before-range, applies-value, value-applies, applied-value, state-applied}
 
 -- ---- definitions
 
@@ -143,7 +143,7 @@ module _ (sizes : List ℕ) (pairs : Set) (o : Operator) where
       full = length-set s u y ∙ c .is-state .full;
       values = λ i l. set-value (λ i x. x < size sizes i) s u y i k (omega (arith, c .is-state .full)) (c .is-state .values i l);
     };
-    has-before = all-cong _ _ o (λ e m. ap (λ x. eqb x (e .before)) (getD-set-other s u (e .variable) y 0 (λ z. clash (names-in o e m) (ap (names o) z ∙ q)))) ∙ c .has-before;
+    has-before = all-cong _ _ o (λ e m. ap (λ x. eqb x (e .before)) (getD-set-other s u (e .variable) y 0 (unnamed-apart o e u m q))) ∙ c .has-before;
     elsewhere = λ i l n. set-value (λ i x. possible sizes pairs o i x ≡ true) s u y i p (omega (arith, c .is-state .full)) (c .elsewhere i l n);
   }
 

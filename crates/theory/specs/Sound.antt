@@ -17,7 +17,7 @@ use Rattle.meaning.specs.File.{Acceptable}
 use Rattle.theory.specs.Truth.{on, off, test, less, same, more, order, clash}
 use Rattle.theory.specs.Search.{and-left, and-right, or-neither, some-at, some-not, some-none, any-not, all-at, two-not, two-none, earlier-left, earlier-right, and-both, any-at}
 use Rattle.theory.specs.Numbering.{both-mirror}
-use Rattle.theory.specs.Operators.{afterOf, names-in, by-name, in-fine, entries-rise, entries-earlier, field-at, applied-value, state-applied}
+use Rattle.theory.specs.Operators.{afterOf, unnamed-apart, by-name, in-fine, entries-rise, entries-earlier, field-at, applied-value, state-applied}
 
 module _ (sizes : List ℕ) (pairs : Set) where
   pub paired-mirror : (i x j y : ℕ) → i ≢ j → paired sizes pairs i x j y ≡ paired sizes pairs j y i x
@@ -42,7 +42,7 @@ module _ (sizes : List ℕ) (pairs : Set) where
 
       pub others-possible : (u : ℕ) → u < length sizes → names o u ≡ false → possible sizes pairs o u (value s u) ≡ true
       unfolding possible
-      others-possible u l q = ap not (any-not _ o (λ e m. rw (← at-entry e m) (none-paired (e .variable) u (in-fine sizes 0 o e m h .1) l (λ z. clash (names-in o e m) (ap (names o) z ∙ q)))))
+      others-possible u l q = ap not (any-not _ o (λ e m. rw (← at-entry e m) (none-paired (e .variable) u (in-fine sizes 0 o e m h .1) l (unnamed-apart o e u m q))))
 
       not-clashing : clashing sizes pairs o ≡ false
       unfolding clashing

@@ -11,7 +11,7 @@ use Rattle.meaning.specs.Number.{got}
 use Rattle.meaning.specs.File.{Parser, give, then, valuesOf, operatorsOf, ended, InLimits}
 use Rattle.meaning.specs.Partial.{Partial, Ordered, builtSizes, partialHeader, marksOf, goalOf, partialOf}
 use Rattle.theory.specs.Reading.{on-on}
-use Rattle.theory.specs.Spent.{Gives, gives-then, gives-map}
+use Rattle.theory.specs.Spent.{Gives, gives-known, gives-then, gives-map}
 use Rattle.theory.specs.Parts.{values-said}
 use Rattle.theory.specs.PartialFile.{partial-header-said, goal-said}
 use Rattle.theory.specs.PartialParts.{features-built}
@@ -49,42 +49,44 @@ partial-front bytes place = simp on-on
 
 -- ---- a front that was read
 
--- What is known of sizes and start.
-pub record Started (states : States) : Type 0 where
-  pub variables : (leastVariables ≤ length (states .sizes)) × (length (states .sizes) ≤ mostVariables)
-  pub each : (i : ℕ) → i < length (states .sizes) → (leastPartialSize ≤ size (states .sizes) i) × (size (states .sizes) i ≤ mostPartialSize)
-  pub total : features (builtSizes (states .sizes)) ≤ mostFeatures
-  pub start : State (states .sizes) (states .start)
+-- What is known of the sizes.
+pub record Sized (sizes : List ℕ) : Type 0 where
+  pub variables : (leastVariables ≤ length sizes) × (length sizes ≤ mostVariables)
+  pub each : (i : ℕ) → i < length sizes → (leastPartialSize ≤ size sizes i) × (size sizes i ≤ mostPartialSize)
+  pub total : features (builtSizes sizes) ≤ mostFeatures
 
--- The file's own sizes are within the limits too.
-pub started-limits : (states : States) → Started states → InLimits (states .sizes)
-started-limits states known = record {
+-- The file's own sizes are within the limits of a task too.
+pub sized-limits : (sizes : List ℕ) → Sized sizes → InLimits sizes
+sized-limits sizes known = record {
   variables = known .variables;
   each = λ i l. let k = known .each i l in (omega (arith, k .0), omega (arith, k .1));
-  total = omega (arith, known .total, features-built (states .sizes));
+  total = omega (arith, known .total, features-built sizes);
 }
 
-pub marked-said : (bytes : List ℕ) → Gives bytes markedOf (λ marked l. Started marked × State (replicate (length (marked .sizes)) 2) (marked .goal))
-unfolding markedOf
-marked-said bytes = gives-then _ _ (partial-header-said bytes) (λ sizes l a. gives-then _ _ (values-said bytes (replicate (length sizes) 2)) (λ marks m c.
-    gives-map (markedWith sizes marks) _ (values-said bytes sizes) (λ start n d. (record { variables = a .0; each = a .1; total = a .2; start = d .0 }, c .0))))
+pub sizes-said : (bytes : List ℕ) → Gives bytes partialHeader (λ sizes l. Sized sizes)
+sizes-said bytes = gives-known _ (partial-header-said bytes) (λ sizes l a. record { variables = a .0; each = a .1; total = a .2 })
 
-pub partial-states-said : (bytes : List ℕ) → Gives bytes partialStatesOf (λ states l. Started states × State (builtSizes (states .sizes)) (states .goal))
+pub marked-said : (bytes : List ℕ)
+    → Gives bytes markedOf (λ marked l. Sized (marked .sizes) × State (marked .sizes) (marked .start) × State (replicate (length (marked .sizes)) 2) (marked .goal))
+unfolding markedOf
+marked-said bytes = gives-then _ _ (sizes-said bytes) (λ sizes l a. gives-then _ _ (values-said bytes (replicate (length sizes) 2)) (λ marks m c.
+    gives-map (markedWith sizes marks) _ (values-said bytes sizes) (λ start n d. (a, d .0, c .0))))
+
+pub partial-states-said : (bytes : List ℕ)
+    → Gives bytes partialStatesOf (λ states l. Sized (states .sizes) × State (states .sizes) (states .start) × State (builtSizes (states .sizes)) (states .goal))
 unfolding partialStatesOf
-partial-states-said bytes = gives-then _ _ (marked-said bytes) (λ marked l h. gives-map (namedWith marked) _ (goal-said bytes (marked .sizes) (marked .goal) (h .1)) (λ goal m g.
-    let a = h .0 in (record { variables = a .variables; each = a .each; total = a .total; start = a .start }, g .0)))
+partial-states-said bytes = gives-then _ _ (marked-said bytes) (λ marked l h. gives-map (namedWith marked) _ (goal-said bytes (marked .sizes) (marked .goal) (h .2)) (λ goal m g. (h .0, h .1, g .0)))
 
 -- Whatever operators follow: if they are in order, so is the partial task.
 pub partial-front-said : (bytes : List ℕ)
     → Gives bytes partialFrontOf (λ front l. (operators : List Operator) → ((o : Operator) → In o operators → IsOperator (front .states .sizes) o) → Ordered (partialWith front operators))
 unfolding partialFrontOf
 partial-front-said bytes = gives-then _ _ (partial-states-said bytes) (λ states l h. behind-said bytes states _ (λ pairs count p operators fine.
-    let a = h .0 in record { variables = a .variables; each = a .each; total = a .total; start = a .start; goal = h .1; pairs = p; operators = fine }))
+    let a = h .0 in record { variables = a .variables; each = a .each; total = a .total; start = h .1; goal = h .2; pairs = p; operators = fine }))
 
 pub front-ordered : (bytes : List ℕ) (from : ℕ) (front : Front) (at : ℕ) (operators : List Operator) → partialFrontOf bytes from ≡ got front at
     → ((o : Operator) → In o operators → IsOperator (front .states .sizes) o) → Ordered (partialWith front operators)
 front-ordered bytes from front at operators e = partial-front-said bytes .gives from front at e .known operators
 
--- Of a partial task in order, the file's own sizes are within the limits.
 pub ordered-limits : (P : Partial) → Ordered P → InLimits (P .sizes)
-ordered-limits P ok = started-limits (record { sizes = P .sizes; start = P .start; goal = P .goal }) (record { variables = ok .variables; each = ok .each; total = ok .total; start = ok .start })
+ordered-limits P ok = sized-limits (P .sizes) (record { variables = ok .variables; each = ok .each; total = ok .total })

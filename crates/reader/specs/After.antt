@@ -18,7 +18,8 @@ begun-more words front values at e =
     rw (take-at front (drop (length front) words) at e, ← drop-drop (length values) at (begun words front), drop-at front (drop (length front) words) at e) (
     rw (drop-drop (length values) (length front) words, length-append front values) (sym (append-assoc front values _)))
 
-sizes-begin : (sizes rest left : List ℕ) → left ≡ sizedWords sizes ++ rest → (getD left 0 0 ≡ length sizes) × (sizesIn left ≡ sizes)
+-- Words that begin with sizes and their count.
+pub sizes-begin : (sizes rest left : List ℕ) → left ≡ sizedWords sizes ++ rest → (getD left 0 0 ≡ length sizes) × (sizesIn left ≡ sizes)
 unfolding sizesIn
 sizes-begin sizes rest left e = rw e (refl, take-at sizes rest (length sizes) refl)
 

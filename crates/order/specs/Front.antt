@@ -4,14 +4,13 @@ use mathlib.Core.Path.{_≡_, refl, sym, ap, ap₂, _∙_}
 use mathlib.Core.Bool.{Bool}
 use mathlib.Core.List.{List, [], List·Memᴰ·not-nil as not-nil}
 use lib.ListN.{length}
-use lib.Dec.{leb}
 use borrow.Author.Tests.{le-leb, lt-leb}
 use Rattle.meaning.specs.Limits.{mostVariables}
 use Rattle.meaning.specs.Task.{Operator}
-use Rattle.meaning.specs.Number.{Read, got, fault, onRead, LeftOver}
+use Rattle.meaning.specs.Number.{got, fault, LeftOver}
 use Rattle.meaning.specs.Number as meaning
 use Rattle.meaning.specs.File.{judge, operatorsOf, ended}
-use Rattle.meaning.specs.Partial.{Partial, Ordered, builtSizes, partialOf, judgedPartial}
+use Rattle.meaning.specs.Partial.{Partial, Ordered, partialOf, judgedPartial}
 use Rattle.theory.specs.Parts.{operators-said}
 use Rattle.theory.specs.PartialFile.{partial-said}
 use Rattle.number.specs.Answers.{reasonOf, placeOf, place-next, place-faulted}

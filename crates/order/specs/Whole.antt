@@ -1,13 +1,13 @@
 -- A partial file that was read wholly, with its own front in words: what is asked of it to build the header, and that what is judged of that header is what is judged of the file.
 use Prim.Native.Nat.{ℕ, _+_, _≤_}
 use mathlib.Core.Path.{_≡_, refl, sym, ap, ap₂, _∙_}
-use mathlib.Core.Bool.{Bool, true, cond}
+use mathlib.Core.Bool.{Bool, true}
 use mathlib.Core.List.{List, _∷_, _++_, append-assoc, Memᴰ·append-left as append-left}
 use lib.ListN.{length, length-append}
 use lib.Dec.{ltb}
 use Rattle.meaning.specs.Sets.{listed, allOf}
 use Rattle.meaning.specs.Limits.{numberEnd}
-use Rattle.meaning.specs.Task.{Operator, Task, State}
+use Rattle.meaning.specs.Task.{Task, State}
 use Rattle.meaning.specs.Feature.{features}
 use Rattle.meaning.specs.Pair.{closed, holds}
 use Rattle.meaning.specs.Number.{Reason, got, fault, onRead}

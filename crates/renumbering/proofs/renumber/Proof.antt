@@ -1,5 +1,6 @@
+-- `renumber`: after each variable, the pairs with those before as the first are in.
 use Prim.Native.Nat.{_≤_, _-_}
-use mathlib.Core.Path.{_≡_, sym, _∙_, ap}
+use mathlib.Core.Path.{_≡_}
 use native.Mathlib.Omega.{arith}
 use lib.ListN.{length}
 use Rattle.meaning.specs.Workspace.{has}
@@ -8,9 +9,6 @@ use Rattle.words.specs.Toggled.{toggledAll, toggled-start, toggled-turn, length
 use Rattle.renumbering.specs.Pairs.{rowPairs, renumbers-next, renumbered-packed}
 use Rattle.renumbering.proofs.renumber.Statement.{statement}
 use Rattle.renumbering.proofs.renumber.Tie as tie
-use Rattle.renumbering.proofs.renumber.Reads as reads
-use Rattle.renumbering.proofs.renumber.Lts as lts
-use Rattle.renumbering.proofs.renumber_row.Reads as renumber-row-reads
 
 abbrev Inv-loop : tie.InvT-loop
 Inv-loop sizes old wider new₀ i₀ new i = (i ≤ length sizes) × (new ≡ toggledAll new₀ (flat i (rowPairs sizes (has old))))
@@ -18,33 +16,28 @@ Inv-loop sizes old wider new₀ i₀ new i = (i ≤ length sizes) × (new ≡ to
 abbrev μ-loop : tie.MeasureT-loop
 μ-loop sizes old wider new₀ i₀ new i = length sizes - i
 
--- src/lib.rt:71:5
 loop-holds : tie.Need-loop-holds Inv-loop μ-loop
 loop-holds c = (omega arith, toggled-start _ _)
 
--- src/lib.rt:72:9
 renumber-row-requires : tie.Need-renumber-row-requires Inv-loop μ-loop
-renumber-row-requires c κs = let p = c .before .before .before .before .before .before .before .pre in (renumbers-next _ _ _ _ _ _ (p .0) (c .before .before .loop .inv .1), c .before .loop-test .taken)
+renumber-row-requires c κs = (renumbers-next _ _ _ _ _ _ (c .before .before .before .before .before .before .before .pre .0) (c .before .before .loop .inv .1), c .before .loop-test .taken)
 
--- src/lib.rt:73:9
 add-i : tie.Need-add-i Inv-loop μ-loop
 add-i c = omega arith
 
--- src/lib.rt:71:5
 loop-less : tie.Need-loop-less Inv-loop μ-loop
 loop-less c = omega arith
 
--- src/lib.rt:71:5
 loop-again : tie.Need-loop-again Inv-loop μ-loop
 loop-again c = (omega arith, toggled-turn _ _ _ _ _ (c .before .before .before .before .before .loop .inv .1) (c .before .before .renumber-row .ensures))
 
--- src/lib.rt:66:1
 same-length : tie.Need-same-length Inv-loop μ-loop
 same-length c = length-next _ _ _ (c .before .loop .inv .1)
 
--- src/lib.rt:66:1
 returns : tie.Need-returns Inv-loop μ-loop
-returns c = let e : c .before .loop .i ≡ length (c .before .before .before .before .before .before .args .sizes .now) = omega arith in renumbered-packed (c .before .before .before .before .before .before .args .sizes .now) (c .before .before .before .before .before .before .args .old .now) _ (rw (← c .before .before .before .before .before .before .pre .1, ← e) (c .before .loop .inv .1))
+returns c = let s = c .before .before .before .before .before .before in
+    let e : c .before .loop .i ≡ length (s .args .sizes .now) = omega arith in
+    renumbered-packed (s .args .sizes .now) (s .args .old .now) _ (rw (← s .pre .1, ← e) (c .before .loop .inv .1))
 
 pub renumber-spec : {M : Type 1} → statement M
 renumber-spec =

@@ -1,5 +1,6 @@
+-- `renumber_block`: after each value of the first variable, the lines of those before are in.
 use Prim.Native.Nat.{_≤_, _<_, _-_}
-use mathlib.Core.Path.{_≡_, sym, ap, _∙_}
+use mathlib.Core.Path.{_≡_, ap, _∙_}
 use native.Mathlib.Omega.{arith}
 use Rattle.meaning.specs.Workspace.{has}
 use Rattle.meaning.specs.Sets.{flat}
@@ -7,11 +8,6 @@ use Rattle.words.specs.Toggled.{toggledAll, toggled-start, toggled-turn, length
 use Rattle.renumbering.specs.Pairs.{linePairs, renumbers-next, old-asks, new-asks, line-room, block-lines, block-none}
 use Rattle.renumbering.proofs.renumber_block.Statement.{statement}
 use Rattle.renumbering.proofs.renumber_block.Tie as tie
-use Rattle.renumbering.proofs.renumber_block.Reads as reads
-use Rattle.renumbering.proofs.renumber_block.Lts as lts
-use Rattle.numbering.proofs.plane_of.Reads as plane-of-reads
-use Rattle.numbering.proofs.size.Reads as size-reads
-use Rattle.renumbering.proofs.renumber_line.Reads as renumber-line-reads
 
 abbrev Inv-loop : tie.InvT-loop
 Inv-loop sizes old wider i j new₀ from to lines end x₀ new x = (x ≤ lines) × (new ≡ toggledAll new₀ (flat x (λ a. linePairs (has old) from to a end)))
@@ -26,53 +22,41 @@ start s = s .before .before .before .before .before .before .before .before .bef
 ordered : (s : tie.After-size2 Inv-loop μ-loop) → start s .args .i < start s .args .j
 ordered s = omega (arith, s .before .before .before .before .if1 .left)
 
--- src/lib.rt:61:9
 returns : tie.Need-returns Inv-loop μ-loop
 returns c = block-none _ _ _ _ _ (c .if1 .taken)
 
--- src/lib.rt:63:9
 plane-of-requires : tie.Need-plane-of-requires Inv-loop μ-loop
 plane-of-requires c κs = let p = c .before .before .before .before .before .pre in old-asks (p .0) _ _ (omega (arith, c .if1 .left)) (p .2)
 
--- src/lib.rt:64:9
 plane-of-requires-2 : tie.Need-plane-of-requires-2 Inv-loop μ-loop
 plane-of-requires-2 c κs = let p = c .before .before .before .before .before .before .pre in new-asks (p .0) _ _ (omega (arith, c .before .if1 .left)) (p .2)
 
--- src/lib.rt:65:9
 size-requires : tie.Need-size-requires Inv-loop μ-loop
 size-requires c κs = c .before .before .before .before .before .before .before .pre .1
 
--- src/lib.rt:66:9
 size-requires-2 : tie.Need-size-requires-2 Inv-loop μ-loop
 size-requires-2 c κs = c .before .before .before .before .before .before .before .before .pre .2
 
--- src/lib.rt:68:5
 loop-holds : tie.Need-loop-holds Inv-loop μ-loop
 loop-holds c = (omega arith, toggled-start _ _)
 
--- src/lib.rt:69:9
 renumber-line-requires : tie.Need-renumber-line-requires Inv-loop μ-loop
 renumber-line-requires c κs = let s = c .before .before .before in
     rw (s .size2 .ensures) (line-room (renumbers-next _ _ _ _ _ _ (start s .pre .0) (c .before .before .loop .inv .1)) _ _ (ordered s) (start s .pre .2) _ _ (s .before .before .before .plane-of .ensures)
     (s .before .before .plane-of2 .ensures) _ (omega (arith, s .before .size .ensures, c .before .loop-test .taken)))
 
--- src/lib.rt:70:9
 add-x : tie.Need-add-x Inv-loop μ-loop
 add-x c = omega arith
 
--- src/lib.rt:68:5
 loop-less : tie.Need-loop-less Inv-loop μ-loop
 loop-less c = omega arith
 
--- src/lib.rt:68:5
 loop-again : tie.Need-loop-again Inv-loop μ-loop
 loop-again c = (omega arith, toggled-turn _ _ _ _ _ (c .before .before .before .before .before .loop .inv .1) (c .before .before .renumber-line .ensures))
 
--- src/lib.rt:56:1
 same-length : tie.Need-same-length Inv-loop μ-loop
 same-length c = length-next _ _ _ (c .before .loop .inv .1)
 
--- src/lib.rt:56:1
 returns-2 : tie.Need-returns-2 Inv-loop μ-loop
 returns-2 c = let s = c .before .before in
     c .before .loop .inv .1 ∙ ap (toggledAll (start s .args .new .now)) (block-lines (start s .pre .0) _ _ (ordered s) (start s .pre .2) _ _ (s .before .before .before .plane-of .ensures)

@@ -1,5 +1,6 @@
+-- `renumber_row`: after each second variable, the pairs with those before are in.
 use Prim.Native.Nat.{_≤_, _-_}
-use mathlib.Core.Path.{_≡_, sym, _∙_}
+use mathlib.Core.Path.{_≡_, _∙_}
 use native.Mathlib.Omega.{arith}
 use lib.ListN.{length}
 use Rattle.meaning.specs.Workspace.{has}
@@ -8,9 +9,6 @@ use Rattle.words.specs.Toggled.{toggledAll, toggled-start, toggled-turn, length
 use Rattle.renumbering.specs.Pairs.{blockPairs, rowPairs, renumbers-next}
 use Rattle.renumbering.proofs.renumber_row.Statement.{statement}
 use Rattle.renumbering.proofs.renumber_row.Tie as tie
-use Rattle.renumbering.proofs.renumber_row.Reads as reads
-use Rattle.renumbering.proofs.renumber_row.Lts as lts
-use Rattle.renumbering.proofs.renumber_block.Reads as renumber-block-reads
 
 abbrev Inv-loop : tie.InvT-loop
 Inv-loop sizes old wider i new₀ j₀ new j = (j ≤ length sizes) × (new ≡ toggledAll new₀ (flat j (blockPairs sizes (has old) i)))
@@ -18,31 +16,24 @@ Inv-loop sizes old wider i new₀ j₀ new j = (j ≤ length sizes) × (new ≡ 
 abbrev μ-loop : tie.MeasureT-loop
 μ-loop sizes old wider i new₀ j₀ new j = length sizes - j
 
--- src/lib.rt:59:5
 loop-holds : tie.Need-loop-holds Inv-loop μ-loop
 loop-holds c = (omega arith, toggled-start _ _)
 
--- src/lib.rt:60:9
 renumber-block-requires : tie.Need-renumber-block-requires Inv-loop μ-loop
 renumber-block-requires c κs = let p = c .before .before .before .before .before .before .before .pre in (renumbers-next _ _ _ _ _ _ (p .0) (c .before .before .loop .inv .1), p .1, c .before .loop-test .taken)
 
--- src/lib.rt:61:9
 add-j : tie.Need-add-j Inv-loop μ-loop
 add-j c = omega arith
 
--- src/lib.rt:59:5
 loop-less : tie.Need-loop-less Inv-loop μ-loop
 loop-less c = omega arith
 
--- src/lib.rt:59:5
 loop-again : tie.Need-loop-again Inv-loop μ-loop
 loop-again c = (omega arith, toggled-turn _ _ _ _ _ (c .before .before .before .before .before .loop .inv .1) (c .before .before .renumber-block .ensures))
 
--- src/lib.rt:54:1
 same-length : tie.Need-same-length Inv-loop μ-loop
 same-length c = length-next _ _ _ (c .before .loop .inv .1)
 
--- src/lib.rt:54:1
 returns : tie.Need-returns Inv-loop μ-loop
 unfolding rowPairs
 returns c = let e : c .before .loop .j ≡ length (c .before .before .before .before .before .before .args .sizes .now) = omega arith in c .before .loop .inv .1 ∙ rw e

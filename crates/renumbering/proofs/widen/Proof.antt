@@ -1,3 +1,4 @@
+-- `widen`: the loop writes the wider sizes from the front (`Written`).
 use Prim.Native.Nat.{_-_}
 use mathlib.Core.Path.{refl, sym, _∙_}
 use native.Mathlib.Omega.{arith}
@@ -8,8 +9,6 @@ use Rattle.theory.specs.PartialPairs.{built-length, built-size}
 use Rattle.words.specs.Written.{Written, written-next, written-done}
 use Rattle.renumbering.proofs.widen.Statement.{statement}
 use Rattle.renumbering.proofs.widen.Tie as tie
-use Rattle.renumbering.proofs.widen.Reads as reads
-use Rattle.renumbering.proofs.widen.Lts as lts
 
 abbrev Inv-loop : tie.InvT-loop
 Inv-loop sizes wider₀ i₀ wider i = Written wider₀ (builtSizes sizes) i wider
@@ -17,47 +16,36 @@ Inv-loop sizes wider₀ i₀ wider i = Written wider₀ (builtSizes sizes) i wid
 abbrev μ-loop : tie.MeasureT-loop
 μ-loop sizes wider₀ i₀ wider i = length sizes - i
 
--- src/lib.rt:21:5
 loop-holds : tie.Need-loop-holds Inv-loop μ-loop
 loop-holds c = (omega arith, refl, refl)
 
--- src/lib.rt:22:20
 mul-wider : tie.Need-mul-wider Inv-loop μ-loop
 mul-wider c = omega arith
 
--- src/lib.rt:22:20
 shared-slice-read-wider : tie.Need-shared-slice-read-wider Inv-loop μ-loop
 shared-slice-read-wider c = omega arith
 
--- src/lib.rt:22:20
 add-wider : tie.Need-add-wider Inv-loop μ-loop
 add-wider c = omega (arith, c .before .before .before .pre .0 .small _ (c .before .loop-test .taken))
 
--- src/lib.rt:22:9
 mul-wider-2 : tie.Need-mul-wider-2 Inv-loop μ-loop
 mul-wider-2 c = omega arith
 
--- src/lib.rt:22:9
 slice-write-wider : tie.Need-slice-write-wider Inv-loop μ-loop
 slice-write-wider c = omega arith
 
--- src/lib.rt:23:9
 add-i : tie.Need-add-i Inv-loop μ-loop
 add-i c = omega arith
 
--- src/lib.rt:21:5
 loop-less : tie.Need-loop-less Inv-loop μ-loop
 loop-less c = omega arith
 
--- src/lib.rt:21:5
 loop-again : tie.Need-loop-again Inv-loop μ-loop
 loop-again c = let s = c .before .before .before in written-next _ _ _ _ _ (s .pre .1 ∙ sym (built-length (s .args .sizes .now))) (c .before .before .loop .inv) (omega arith) (add-one _ ∙ sym (built-size (s .args .sizes .now) _ (c .before .loop-test .taken)))
 
--- src/lib.rt:16:1
 same-length : tie.Need-same-length Inv-loop μ-loop
 same-length c = c .before .loop .inv .1
 
--- src/lib.rt:16:1
 returns : tie.Need-returns Inv-loop μ-loop
 returns c = let s = c .before .before in written-done _ _ _ _ (s .pre .1 ∙ sym (built-length (s .args .sizes .now))) (c .before .loop .inv) (omega arith)
 

@@ -1,10 +1,10 @@
 -- The checker's answer in the words of the meaning, and that the verdict it comes to is the meaning's.
-use Prim.Native.Nat.{ℕ, _*_, _<_, _≤_}
+use Prim.Native.Nat.{ℕ, _+_, _*_, _<_, _≤_}
 use mathlib.Core.Path.{_≡_, refl, sym, ap, _∙_, fun-ext}
 use mathlib.Core.Bool.{Bool, true, false, cond}
-use mathlib.Core.List.{List, [], List·Memᴰ as In}
+use mathlib.Core.List.{List, [], _++_, List·Memᴰ as In}
 use native.Mathlib.Omega.{arith}
-use lib.ListN.{length, getD, take, replicate}
+use lib.ListN.{length, getD, take, replicate, length-append}
 use lib.Dec.{ltb}
 use borrow.Author.Tests.{lt-ltb, le-ltb, ltb-true, ltb-false}
 use Rattle.meaning.specs.Limits.{wordBits, mostFeatures}
@@ -31,10 +31,11 @@ use Rattle.theory.specs.Tells.{Tells, tells-no}
 use Rattle.theory.specs.Rows.{allowed, tells-allows}
 use Rattle.theory.specs.Accepted.{weights-accepted}
 use Rattle.reader.specs.Answer.{featureWords}
+use Rattle.forgetting.specs.Kept.{keptIn}
 use Rattle.condition.specs.Walk.{RowFor}
 use Rattle.checking.specs.declared.Verdict.{Verdict}
 use Rattle.checking.specs.declared.Verdict.the-variants.{Accepted, EndsAlike, Operator, Refused}
-use Rattle.checking.specs.Breaking.{breakingFrom, FirstBreaking, breaking-first}
+use Rattle.checking.specs.Breaking.{breakingFrom, breakingAmong, placeThen, FirstBreaking, among-first, first-then, breaking-first}
 
 abbrev pub verdictOf : Verdict → Answer meaning.Verdict
 verdictOf Accepted = done accepted
@@ -46,27 +47,49 @@ verdictOf (Refused n) = refused n
 abbrev pub verdictBy : Bool → ℕ → ℕ → Verdict
 verdictBy differ j count = cond differ (cond (ltb j count) (Operator j) Accepted) EndsAlike
 
--- The verdict on weights, where so many operators are read from a place on.
-unfoldable pub verdictFrom : List ℕ → List ℕ → List ℕ → Set → Set → ℕ → List ℕ → ℕ → Verdict
-verdictFrom sizes start goal pairs weights count bytes at =
-    verdictBy (parity sizes weights start ⊕ parity sizes weights goal) (breakingFrom sizes pairs weights count bytes at) count
+-- The operators that follow those of a file: the forgetting ones that are kept, or none.
+abbrev pub following : List ℕ → Set → List ℕ → Bool → List task.Operator
+following sizes pairs goal forgets = cond forgets (keptIn sizes pairs goal false) []
+
+-- The verdict on weights, where so many operators are read from a place on and others follow them.
+unfoldable pub verdictFrom : List ℕ → List ℕ → List ℕ → Set → Set → ℕ → List ℕ → ℕ → List task.Operator → Verdict
+verdictFrom sizes start goal pairs weights count bytes at follow =
+    verdictBy (parity sizes weights start ⊕ parity sizes weights goal)
+    (placeThen count (breakingFrom sizes pairs weights count bytes at) (breakingAmong sizes pairs weights follow)) (count + length follow)
+
+-- That on those that follow, where all before them are allowed.
+unfoldable pub verdictThen : List ℕ → Set → Set → ℕ → List task.Operator → Verdict
+verdictThen sizes pairs weights count follow = verdictBy true (count + breakingAmong sizes pairs weights follow) (count + length follow)
 
 -- ---- by what the code finds
 
-module _ (sizes start goal : List ℕ) (pairs weights : Set) (count : ℕ) (bytes : List ℕ) (at : ℕ) (differ : Bool)
+module _ (sizes start goal : List ℕ) (pairs weights : Set) (count : ℕ) (bytes : List ℕ) (at : ℕ) (follow : List task.Operator) (differ : Bool)
     (ends : differ ≡ parity sizes weights start ⊕ parity sizes weights goal) where
-  pub verdict-alike : differ ≡ false → EndsAlike ≡ verdictFrom sizes start goal pairs weights count bytes at
+  pub verdict-alike : differ ≡ false → EndsAlike ≡ verdictFrom sizes start goal pairs weights count bytes at follow
   unfolding verdictFrom
   verdict-alike e = rw (sym ends ∙ e) refl
 
   module _ (j : ℕ) (found : j ≡ breakingFrom sizes pairs weights count bytes at) (e : differ ≡ true) where
-    pub verdict-breaks : j < count → Operator j ≡ verdictFrom sizes start goal pairs weights count bytes at
+    pub verdict-breaks : j < count → Operator j ≡ verdictFrom sizes start goal pairs weights count bytes at follow
     unfolding verdictFrom
-    verdict-breaks l = rw (sym ends ∙ e, ← found, lt-ltb j count l) refl
+    verdict-breaks l = rw (sym ends ∙ e, ← found, lt-ltb j count l, lt-ltb j (count + length follow) (omega arith)) refl
 
-    pub verdict-accepts : count ≤ j → Accepted ≡ verdictFrom sizes start goal pairs weights count bytes at
-    unfolding verdictFrom
-    verdict-accepts l = rw (sym ends ∙ e, ← found, le-ltb j count l) refl
+    pub verdict-follows : (r : Verdict) → count ≤ j → r ≡ verdictThen sizes pairs weights count follow → r ≡ verdictFrom sizes start goal pairs weights count bytes at follow
+    unfolding verdictFrom verdictThen
+    verdict-follows r l then = then ∙ rw (sym ends ∙ e, ← found, le-ltb j count l) refl
+
+module _ (sizes : List ℕ) (pairs weights : Set) (count : ℕ) where
+  pub then-breaks : (follow : List task.Operator) (k : ℕ) → k < length follow → breakingAmong sizes pairs weights follow ≡ k → Operator (count + k) ≡ verdictThen sizes pairs weights count follow
+  unfolding verdictThen
+  then-breaks follow k l e = rw (e, lt-ltb (count + k) (count + length follow) (omega arith)) refl
+
+  pub then-accepts : (follow : List task.Operator) → breakingAmong sizes pairs weights follow ≡ length follow → Accepted ≡ verdictThen sizes pairs weights count follow
+  unfolding verdictThen
+  then-accepts follow e = rw (e, le-ltb (count + length follow) (count + length follow) (omega arith)) refl
+
+  pub then-none : Accepted ≡ verdictThen sizes pairs weights count []
+  unfolding breakingAmong
+  then-none = then-accepts [] refl
 
 -- ---- the verdict is the meaning's
 
@@ -103,10 +126,14 @@ module _ (T : Task) (weights : Set) (ok : Acceptable T) where
       ]
     ]
 
-  pub verdict-judges : (bytes : List ℕ) (at next : ℕ) → operatorsOf (T .sizes) (length (T .operators)) bytes at ≡ got (T .operators) next
-      → (v : meaning.Verdict) × (verdictOf (verdictFrom (T .sizes) (T .start) (T .goal) (listed (T .pairs)) weights (length (T .operators)) bytes at) ≡ done v) × Judges T weights v
+  -- Where some were read from a file, and the others follow.
+  pub verdict-judges : (os follow : List task.Operator) → T .operators ≡ os ++ follow → (bytes : List ℕ) (at next : ℕ) → operatorsOf (T .sizes) (length os) bytes at ≡ got os next
+      → (v : meaning.Verdict) × (verdictOf (verdictFrom (T .sizes) (T .start) (T .goal) (listed (T .pairs)) weights (length os) bytes at follow) ≡ done v) × Judges T weights v
   unfolding verdictFrom
-  verdict-judges bytes at next read = judged-by _ (breaking-first (T .sizes) (listed (T .pairs)) weights bytes at (T .operators) next read)
+  verdict-judges os follow e bytes at next read =
+      let first = first-then (T .sizes) (listed (T .pairs)) weights os follow _ _ (breaking-first (T .sizes) (listed (T .pairs)) weights bytes at os next read)
+      (among-first (T .sizes) (listed (T .pairs)) weights follow) in
+      rw (← (ap length e ∙ length-append os follow)) (judged-by _ (rw e first))
 
 -- ---- room for a row
 

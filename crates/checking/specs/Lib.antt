@@ -1,4 +1,5 @@
 -- What the checker answers.
 pub mod Breaking
 pub mod Answer
+pub mod Forgetting
 pub mod Weigh

@@ -1,23 +1,30 @@
--- An accepted task by its header and its counts: the parts that weights are judged by, and the answer that follows.
-use Prim.Native.Nat.{ℕ}
+-- An accepted task by its header and its counts: the parts that weights are judged by, its operators, and the answer that follows.
+use Prim.Native.Nat.{ℕ, _<_}
 use mathlib.Core.Path.{_≡_, refl, sym, ap, _∙_}
-use mathlib.Core.List.{List}
-use lib.ListN.{length}
+use mathlib.Core.Bool.{Bool, true, false}
+use mathlib.Core.List.{List, _++_, append-nil}
+use native.Mathlib.Omega.{arith}
+use lib.ListN.{length, length-append}
+use Rattle.meaning.specs.Limits.{numberEnd}
 use Rattle.meaning.specs.Sets.{listed}
-use Rattle.meaning.specs.Task.{State, Task}
+use Rattle.meaning.specs.Task.{Operator, Task, State}
 use Rattle.meaning.specs.Feature.{features}
 use Rattle.meaning.specs.Number.{Read, Reason, refusal, got, fault}
 use Rattle.meaning.specs.File.{operatorsOf, judgedTask, judgedWeights}
 use Rattle.meaning.specs.Workspace.{has}
+use Rattle.meaning.specs.Partial.{Partial, Ordered, builtTask, judgedPartial}
 use Rattle.meaning.specs.Answer as meaning
-use Rattle.meaning.specs.Answer.{Answer, done, refused, Judges, ChecksAs, Checks}
+use Rattle.meaning.specs.Answer.{Answer, done, refused, Judges, ChecksAs}
+use Rattle.theory.specs.PartialParts.{outFor}
 use Rattle.layout.specs.Parts.{sizesPart, startPart, goalPart, pairsPart}
 use Rattle.reader.specs.Answer.{featureWords}
 use Rattle.pairs.specs.Ready.{Listed}
+use Rattle.forgetting.specs.Kept.{keptIn, kept-forgettings}
 use Rattle.condition.specs.Walk.{RowFor}
 use Rattle.task.specs.Answer.{KnownAs, Known, known-parts, known-ready}
+use Rattle.order.specs.Answer.{KnownPartial}
 use Rattle.checking.specs.declared.Verdict.{Verdict}
-use Rattle.checking.specs.Answer.{verdictOf, verdictFrom, verdict-judges, weights-has, weights-for}
+use Rattle.checking.specs.Answer.{verdictOf, following, verdictFrom, verdict-judges, weights-has, weights-for}
 
 -- A task that is refused is answered so.
 pub task-refused : (judging : Read Task) (weights : List ℕ) (reason : Reason) (place : ℕ) → judging ≡ fault reason place → (k : ℕ) → k ≡ refusal reason → ChecksAs judging weights (refused k)
@@ -45,19 +52,54 @@ module _ (judging : Read Task) (old header : List ℕ) (v n : ℕ) (known : Know
       lent-parts = let parts = known-parts known in
           (sizes-are ∙ parts .0, start-is ∙ parts .1, goal-is ∙ parts .2, ap has pairs-are ∙ parts .3, ap has held ∙ weights-has n weights ws last read)
 
--- What the code comes to for a task file is the checker's answer.
-module _ (bytes old header : List ℕ) (v n count at : ℕ) (known : Known bytes old header v n count at) (weights : List ℕ)
-    (ws left : List ℕ) (last : ℕ) (read : judgedWeights n weights ≡ got ws last) (held : left ≡ featureWords n ws)
-    (sizes start goal pairs : List ℕ) (sizes-are : sizes ≡ sizesPart v header) (start-is : start ≡ startPart v header) (goal-is : goal ≡ goalPart v header)
-    (pairs-are : pairs ≡ pairsPart v n header) where
-  pub lent-checks : (r : Verdict) → r ≡ verdictFrom sizes start goal (has pairs) (has left) count bytes at → Checks bytes weights (verdictOf r)
-  lent-checks r e =
-      let T = known .accepted .task in
-      let (sizes-same, start-same, goal-same, pairs-same, weights-same)
-      = lent-parts (judgedTask bytes) old header v n (known .accepted) weights ws left last read held sizes start goal pairs sizes-are start-is goal-is pairs-are in
-      let same : r ≡ verdictFrom (T .sizes) (T .start) (T .goal) (listed (T .pairs)) (listed ws) (length (T .operators)) bytes at
-      = e ∙ rw (sizes-same, start-same, goal-same, pairs-same, weights-same, known .many) refl in
-      let operators : operatorsOf (T .sizes) (length (T .operators)) bytes at ≡ got (T .operators) (known .accepted .next)
-      = ap (λ k. operatorsOf (T .sizes) k bytes at) (sym (known .many)) ∙ known .operators in
-      let (verdict, told, judges) = verdict-judges T (listed ws) (known .accepted .writable .acceptable) bytes at (known .accepted .next) operators in
-      read-checks (judgedTask bytes) old header v n (known .accepted) weights ws left last read held (verdictOf r) (verdict, ap verdictOf same ∙ told, judges)
+-- ---- the operators
+
+-- An accepted task whose operators are those that are read from a place on and, if it forgets, the forgetting ones that are kept.
+pub record KnownWith (judging : Read Task) (bytes old header : List ℕ) (v n count at : ℕ) (forgets : Bool) : Type 0 where
+  pub accepted : KnownAs judging old header v n
+  pub operators : List Operator
+  pub next : ℕ
+  pub many : count ≡ length operators
+  pub read : operatorsOf (accepted .task .sizes) count bytes at ≡ got operators next
+  pub all : accepted .task .operators ≡ operators ++ following (accepted .task .sizes) (listed (accepted .task .pairs)) (accepted .task .goal) forgets
+
+built-operators : (P : Partial) → Ordered P → let T = builtTask P (outFor false P) in T .operators ≡ P .operators ++ keptIn (T .sizes) (listed (T .pairs)) (T .goal) false
+unfolding builtTask
+built-operators P ok = ap (_++_ (P .operators)) (sym (kept-forgettings P ok false))
+
+module _ (bytes old header : List ℕ) (v n count at : ℕ) where
+  -- A task file's, and those of the task that is built for a partial file.
+  pub task-with : Known bytes old header v n count at → KnownWith (judgedTask bytes) bytes old header v n count at false
+  task-with known = record { accepted = known .accepted; operators = known .accepted .task .operators; next = known .accepted .next; many = known .many; read = known .operators; all = sym (append-nil _) }
+
+  pub partial-with : (kept : ℕ) → KnownPartial false bytes old header v n count kept at → KnownWith (judgedPartial (outFor false) bytes) bytes old header v n count at true
+  partial-with kept known = record {
+    accepted = known .accepted;
+    operators = known .partial .operators;
+    next = known .accepted .next;
+    many = known .many;
+    read = known .operators;
+    all = rw (known .built) (built-operators (known .partial) (known .ordered));
+  }
+
+module _ (judging : Read Task) (bytes old header : List ℕ) (v n count at : ℕ) (forgets : Bool) (known : KnownWith judging bytes old header v n count at forgets) where
+  pub with-few : count < numberEnd
+  with-few = omega (arith, known .many, known .accepted .writable .countable, ap length (known .all) ∙ length-append (known .operators) _)
+
+  -- What the code comes to is the checker's answer.
+  module _ (weights : List ℕ) (ws left : List ℕ) (last : ℕ) (read : judgedWeights n weights ≡ got ws last) (held : left ≡ featureWords n ws)
+      (sizes start goal pairs : List ℕ) (sizes-are : sizes ≡ sizesPart v header) (start-is : start ≡ startPart v header) (goal-is : goal ≡ goalPart v header)
+      (pairs-are : pairs ≡ pairsPart v n header) where
+    pub lent-checks : (r : Verdict) → r ≡ verdictFrom sizes start goal (has pairs) (has left) count bytes at (following sizes (has pairs) goal forgets) → ChecksAs judging weights (verdictOf r)
+    lent-checks r e =
+        let T = known .accepted .task in
+        let os = known .operators in
+        let follow = following (T .sizes) (listed (T .pairs)) (T .goal) forgets in
+        let (sizes-same, start-same, goal-same, pairs-same, weights-same)
+        = lent-parts judging old header v n (known .accepted) weights ws left last read held sizes start goal pairs sizes-are start-is goal-is pairs-are in
+        let same : r ≡ verdictFrom (T .sizes) (T .start) (T .goal) (listed (T .pairs)) (listed ws) (length os) bytes at follow
+        = e ∙ rw (sizes-same, start-same, goal-same, pairs-same, weights-same, known .many) refl in
+        let operators : operatorsOf (T .sizes) (length os) bytes at ≡ got os (known .next)
+        = ap (λ k. operatorsOf (T .sizes) k bytes at) (sym (known .many)) ∙ known .read in
+        let (verdict, told, judges) = verdict-judges T (listed ws) (known .accepted .writable .acceptable) os follow (known .all) bytes at (known .next) operators in
+        read-checks judging old header v n (known .accepted) weights ws left last read held (verdictOf r) (verdict, ap verdictOf same ∙ told, judges)

@@ -1,19 +1,24 @@
 // The checker: whether weights separate the start of a task from its goal.
 ghost use mathlib.Core.Path.{_≡_};
+ghost use mathlib.Core.Bool.{false};
 ghost use mathlib.Core.List.{List};
-ghost use Prim.Native.Nat.{ℕ};
-ghost use lib.ListN.{replicate};
+ghost use Prim.Native.Nat.{ℕ, _<_};
+ghost use lib.ListN.{length, replicate};
+ghost use Rattle.meaning.specs.Limits.{numberEnd};
 ghost use Rattle.meaning.specs.Sets.{_⊕_};
-ghost use Rattle.meaning.specs.Task.{State};
+ghost use Rattle.meaning.specs.Task.{State, Task};
 ghost use Rattle.meaning.specs.Feature.{features, parity};
+ghost use Rattle.meaning.specs.Number.{Read};
 ghost use Rattle.meaning.specs.File.{InLimits};
 ghost use Rattle.meaning.specs.Workspace.{wordsFor, has};
-ghost use Rattle.meaning.specs.Answer.{Checks};
+ghost use Rattle.meaning.specs.Answer.{ChecksAs, Checks};
+ghost use Rattle.theory.specs.Rows.{allowed};
 ghost use Rattle.pairs.specs.Ready.{Listed};
+ghost use Rattle.forgetting.specs.Kept.{unknownOf, forgottenBy, keptIn};
 ghost use Rattle.condition.specs.Walk.{RowFor};
-ghost use Rattle.task.specs.Answer.{Known};
 ghost use Rattle.checking.specs.Breaking.{breakingFrom};
-ghost use Rattle.checking.specs.Answer.{verdictOf, verdictFrom};
+ghost use Rattle.checking.specs.Answer.{verdictOf, following, verdictFrom, verdictThen};
+ghost use Rattle.checking.specs.Weigh.{KnownWith};
 use limits::HEADER_WORDS;
 use limits::MOST_WORDS;
 use number::Step;
@@ -84,20 +89,59 @@ fn do_ends_differ(
     words::odd_shared(weights, row)
 }
 
-// The verdict on weights: the ends first, then the operators in their order.
+// Whether the weights allow the operator that forgets value x of variable i.
+fn is_forgetting_allowed(sizes: &[u64], pairs: &[u64], weights: &[u64], i: usize, x: usize) -> bool
+    requires { ⌜ Listed (now sizes) (now pairs) × RowFor (features (now sizes)) (now weights) × (i < length (now sizes)) × (x < unknownOf (now sizes) i) ⌝ }
+    ensures { λ r. ⌜ r ≡ allowed (now (sizes .entry)) (has (now (pairs .entry))) (has (now (weights .entry))) (forgottenBy (now (sizes .entry)) i x) ⌝ }
+{
+    let variables = [i];
+    let befores = [x];
+    let afters = [numbering::size(sizes, i) - 1];
+    condition::is_allowed(sizes, pairs, &variables, &befores, &afters, weights)
+}
+
+// The verdict on the forgetting operators that are kept, behind so many that are allowed.
+fn judge_forgetting(
+    count: usize,
+    sizes: &[u64],
+    goal: &[u64],
+    pairs: &[u64],
+    weights: &[u64],
+) -> Verdict
+    requires { ⌜ (count < numberEnd) × Listed (now sizes) (now pairs) × State (now sizes) (now goal) × RowFor (features (now sizes)) (now weights) ⌝ }
+    ensures { λ r. ⌜ r ≡ verdictThen (now (sizes .entry)) (has (now (pairs .entry))) (has (now (weights .entry))) count
+        (keptIn (now (sizes .entry)) (has (now (pairs .entry))) (now (goal .entry)) false) ⌝ }
+{
+    let mut kept = forgetting::next_kept(sizes, pairs, goal, false, 0, 0);
+    let mut k = 0;
+    while kept.variable < sizes.len() {
+        let i = kept.variable;
+        let x = kept.value;
+        if !is_forgetting_allowed(sizes, pairs, weights, i, x) {
+            return Verdict::Operator(count + k);
+        }
+        kept = forgetting::next_kept(sizes, pairs, goal, false, i, x + 1);
+        k += 1;
+    }
+    Verdict::Accepted
+}
+
+// The verdict on weights: the ends first, then the operators in their order; if the task forgets, the forgetting ones come last.
 fn judge_weights(
     bytes: &[u8],
     at: usize,
     count: usize,
+    forgets: bool,
     sizes: &[u64],
     start: &[u64],
     goal: &[u64],
     pairs: &[u64],
     weights: &[u64],
 ) -> Verdict
-    requires { ⌜ Listed (now sizes) (now pairs) × State (now sizes) (now start) × State (now sizes) (now goal) × RowFor (features (now sizes)) (now weights) ⌝ }
+    requires { ⌜ (count < numberEnd) × Listed (now sizes) (now pairs) × State (now sizes) (now start) × State (now sizes) (now goal)
+        × RowFor (features (now sizes)) (now weights) ⌝ }
     ensures { λ r. ⌜ r ≡ verdictFrom (now (sizes .entry)) (now (start .entry)) (now (goal .entry)) (has (now (pairs .entry))) (has (now (weights .entry)))
-        count (now (bytes .entry)) at ⌝ }
+        count (now (bytes .entry)) at (following (now (sizes .entry)) (has (now (pairs .entry))) (now (goal .entry)) forgets) ⌝ }
 {
     let w = weights.len();
     let mut row = [0u64; MOST_WORDS];
@@ -107,6 +151,9 @@ fn judge_weights(
     let j = first_breaking(bytes, at, count, sizes, pairs, weights);
     if j < count {
         return Verdict::Operator(j);
+    }
+    if forgets {
+        return judge_forgetting(count, sizes, goal, pairs, weights);
     }
     Verdict::Accepted
 }
@@ -120,16 +167,19 @@ fn weigh(
     n: usize,
     count: usize,
     at: usize,
+    forgets: bool,
     words: &mut [u64],
 ) -> Verdict
-    requires { ⌜ ((old : List ℕ) × Known (now bytes) old (now header) v n count at) × (now words ≡ replicate (wordsFor n) 0) ⌝ }
-    ensures { λ r. ⌜ Checks (now (bytes .entry)) (now (weights .entry)) (verdictOf r) ⌝ }
+    requires { ⌜ ((judging : Read Task) × (old : List ℕ) × KnownWith judging (now bytes) old (now header) v n count at forgets) × (now words ≡ replicate (wordsFor n) 0) ⌝ }
+    ensures { λ r. ⌜ ((judging : Read Task) (old : List ℕ) → KnownWith judging (now (bytes .entry)) old (now (header .entry)) v n count at forgets
+        → ChecksAs judging (now (weights .entry)) (verdictOf r)) ⌝ }
 {
     match reader::read_weights(weights, n, &mut *words) {
         Step::Next(_) => judge_weights(
             bytes,
             at,
             count,
+            forgets,
             layout::sizes(header, v),
             layout::start(header, v, n),
             layout::goal(header, v, n),
@@ -162,6 +212,7 @@ pub fn check(task: &[u8], weights: &[u8]) -> Verdict
                 features,
                 operators,
                 at,
+                false,
                 &mut words[..w],
             )
         }

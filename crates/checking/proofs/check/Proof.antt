@@ -6,7 +6,7 @@ use Rattle.meaning.specs.Limits.{mostVariables, mostFeatures}
 use Rattle.meaning.specs.Workspace.{slotsAt}
 use Rattle.task.specs.Answer.{Known, judged-accepted, judged-refused, known-room}
 use Rattle.checking.specs.Answer.{room-zeros}
-use Rattle.checking.specs.Weigh.{task-refused}
+use Rattle.checking.specs.Weigh.{task-with, task-refused}
 use Rattle.checking.proofs.check.Statement.{statement}
 use Rattle.checking.proofs.check.Tie as tie
 
@@ -42,7 +42,8 @@ slice-aggregate-weigh-2 : tie.Need-slice-aggregate-weigh-2
 slice-aggregate-weigh-2 c = let counted = c .before .before in simp length-take (omega (arith, counted .words-for .ensures, known-room (known (task counted) .accepted) .features))
 
 weigh-requires : tie.Need-weigh-requires
-weigh-requires c κs = let counted = c .before .before in let told = known (task counted) in ((_, told), room-zeros _ _ (known-room (told .accepted) .features) (counted .words-for .ensures))
+weigh-requires c κs = let counted = c .before .before in let told = known (task counted) in
+    ((_, _, task-with _ _ _ _ _ _ _ told), room-zeros _ _ (known-room (told .accepted) .features) (counted .words-for .ensures))
 
 enum-known-reason : tie.Need-enum-known-reason
 enum-known-reason c = search needs
@@ -51,7 +52,7 @@ refusal-requires : tie.Need-refusal-requires
 refusal-requires c κs = search needs
 
 returns : tie.Need-returns
-returns c = search needs
+returns c = c .before .weigh .ensures _ _ (task-with _ _ _ _ _ _ _ (known (task (c .before .before .before .before))))
 
 returns-2 : tie.Need-returns-2
 returns-2 c = task-refused _ _ _ _ (judged-refused _ _ _ _ _ _ (c .before .before .before .before .before .judge .ensures) (c .before .before .reason .given .1)) _ (c .refusal .ensures)

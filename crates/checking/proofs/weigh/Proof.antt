@@ -7,7 +7,7 @@ use Rattle.meaning.specs.File.{judgedWeights}
 use Rattle.layout.specs.Parts.{headed-sizes}
 use Rattle.task.specs.Answer.{known-room}
 use Rattle.reader.specs.Answer.{featureWords, reads-next, reads-fault}
-use Rattle.checking.specs.Weigh.{weights-refused, lent-ready, lent-checks}
+use Rattle.checking.specs.Weigh.{weights-refused, lent-ready, with-few, lent-checks}
 use Rattle.checking.proofs.weigh.Statement.{statement}
 use Rattle.checking.proofs.weigh.Tie as tie
 
@@ -29,20 +29,21 @@ enum-told : tie.Need-enum-told
 enum-told c = search needs
 
 sizes-requires : tie.Need-sizes-requires
-sizes-requires c κs = headed-sizes (known-room (start c .pre .0 .1 .accepted))
+sizes-requires c κs = headed-sizes (known-room (start c .pre .0 .2 .accepted))
 
 start-requires : tie.Need-start-requires
-start-requires c κs = known-room (start (c .before) .pre .0 .1 .accepted)
+start-requires c κs = known-room (start (c .before) .pre .0 .2 .accepted)
 
 goal-requires : tie.Need-goal-requires
-goal-requires c κs = known-room (start (c .before .before) .pre .0 .1 .accepted)
+goal-requires c κs = known-room (start (c .before .before) .pre .0 .2 .accepted)
 
 pairs-requires : tie.Need-pairs-requires
-pairs-requires c κs = known-room (start (c .before .before .before) .pre .0 .1 .accepted)
+pairs-requires c κs = known-room (start (c .before .before .before) .pre .0 .2 .accepted)
 
 judge-weights-requires : tie.Need-judge-weights-requires
-judge-weights-requires c κs = let lent = c .before in let (ws, said, held) = weights (read lent) in
-    lent-ready _ _ _ _ _ (start (read lent) .pre .0 .1 .accepted) _ ws _ _ said held _ _ _ _ (lent .before .before .before .sizes .ensures) (lent .before .before .start .ensures) (lent .before .goal .ensures) (lent .pairs .ensures)
+judge-weights-requires c κs = let lent = c .before in let (ws, said, held) = weights (read lent) in let known = start (read lent) .pre .0 .2 in
+    let (listed, first, last, row) = lent-ready _ _ _ _ _ (known .accepted) _ ws _ _ said held _ _ _ _ (lent .before .before .before .sizes .ensures) (lent .before .before .start .ensures) (lent .before .goal .ensures) (lent .pairs .ensures) in
+    (with-few _ _ _ _ _ _ _ _ _ known, listed, first, last, row)
 
 enum-known-reason : tie.Need-enum-known-reason
 enum-known-reason c = search needs
@@ -54,15 +55,15 @@ same-length : tie.Need-same-length
 same-length c = search needs
 
 returns : tie.Need-returns
-returns c = let lent = c .before .before in let (ws, said, held) = weights (read lent) in
-    lent-checks _ _ _ _ _ _ _ (start (read lent) .pre .0 .1) _ ws _ _ said held _ _ _ _ (lent .before .before .before .sizes .ensures) (lent .before .before .start .ensures) (lent .before .goal .ensures) (lent .pairs .ensures)
+returns c = λ judging old known. let lent = c .before .before in let (ws, said, held) = weights (read lent) in
+    lent-checks _ _ _ _ _ _ _ _ _ known _ ws _ _ said held _ _ _ _ (lent .before .before .before .sizes .ensures) (lent .before .before .start .ensures) (lent .before .goal .ensures) (lent .pairs .ensures)
     _ (c .judge-weights .ensures)
 
 same-length-2 : tie.Need-same-length-2
 same-length-2 c = search needs
 
 returns-2 : tie.Need-returns-2
-returns-2 c = weights-refused _ _ _ _ _ (c .before .before .before .before .before .before .before .before .before .before .before .before .pre .0 .1 .accepted) _ _ _
+returns-2 c = λ judging old known. weights-refused _ _ _ _ _ (known .accepted) _ _ _
     (reads-fault _ _ _ _ _ _ (c .before .before .before .before .before .before .read-weights .ensures) (c .before .before .reason .given .1)) _ (c .refusal .ensures)
 
 pub weigh-spec : {M : Type 1} → statement M

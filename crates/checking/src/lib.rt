@@ -158,8 +158,8 @@ fn judge_weights(
     Verdict::Accepted
 }
 
-// Reads the weights for an accepted task, by its header and its counts, and judges them.
-fn weigh(
+// Reads the weights for an accepted task into words, by its header and its counts, and judges them.
+fn weigh_within(
     bytes: &[u8],
     weights: &[u8],
     header: &[u64],
@@ -190,6 +190,36 @@ fn weigh(
     }
 }
 
+// The same, with words for the weights.
+fn weigh(
+    bytes: &[u8],
+    weights: &[u8],
+    header: &[u64],
+    v: usize,
+    n: usize,
+    count: usize,
+    at: usize,
+    forgets: bool,
+) -> Verdict
+    requires { ⌜ ((judging : Read Task) × (old : List ℕ) × KnownWith judging (now bytes) old (now header) v n count at forgets) ⌝ }
+    ensures { λ r. ⌜ ((judging : Read Task) (old : List ℕ) → KnownWith judging (now (bytes .entry)) old (now (header .entry)) v n count at forgets
+        → ChecksAs judging (now (weights .entry)) (verdictOf r)) ⌝ }
+{
+    let mut words = [0u64; MOST_WORDS];
+    let w = layout::words_for(n);
+    weigh_within(
+        bytes,
+        weights,
+        header,
+        v,
+        n,
+        count,
+        at,
+        forgets,
+        &mut words[..w],
+    )
+}
+
 // Checks weights against a task: the task is judged, then the weights are read, then they are judged.
 pub fn check(task: &[u8], weights: &[u8]) -> Verdict
     ensures { λ r. ⌜ Checks (now (task .entry)) (now (weights .entry)) (verdictOf r) ⌝ }
@@ -201,21 +231,16 @@ pub fn check(task: &[u8], weights: &[u8]) -> Verdict
             features,
             operators,
             at,
-        } => {
-            let mut words = [0u64; MOST_WORDS];
-            let w = layout::words_for(features);
-            weigh(
-                task,
-                weights,
-                &header,
-                variables,
-                features,
-                operators,
-                at,
-                false,
-                &mut words[..w],
-            )
-        }
+        } => weigh(
+            task,
+            weights,
+            &header,
+            variables,
+            features,
+            operators,
+            at,
+            false,
+        ),
         Judged::Refused(reason, _) => Verdict::Refused(number::refusal(reason)),
     }
 }

@@ -1,8 +1,8 @@
 -- The forgetting operators that are kept, in the order in which they are found: laws for a walk over them.
-use Prim.Native.Nat.{ℕ, zero, suc, _+_, _-_, _*_, _<_, _≤_}
+use Prim.Native.Nat.{ℕ, zero, suc, _+_, _-_, _<_, _≤_}
 use mathlib.Core.Path.{_≡_, refl, sym, ap, ap₂, _∙_}
 use mathlib.Core.Bool.{Bool, true, false, cond}
-use mathlib.Core.List.{List, [], _∷_, _++_, append-assoc, append-nil, List·Memᴰ as In, List·Memᴰ·not-nil as not-nil, List·Memᴰ·eq-of-singleton as eq-of-singleton}
+use mathlib.Core.List.{List, [], _∷_, _++_, append-assoc, append-nil}
 use native.Mathlib.Omega.{arith}
 use native.Mathlib.Numerals.{add-one}
 use lib.ListN.{length, getD, length-append, List·getD-eq-default}
@@ -14,7 +14,7 @@ use Rattle.meaning.specs.File.{InLimits}
 use Rattle.meaning.specs.Answer.{operatorIn}
 use Rattle.meaning.specs.Partial.{Partial, Ordered, forgettings, builtSizes, builtPairs}
 use Rattle.theory.specs.Truth.{less, same, more, order}
-use Rattle.theory.specs.Flat.{flat-in, flat-cong, flat-few}
+use Rattle.theory.specs.Flat.{flat-cong, flat-few}
 use Rattle.theory.specs.Slices.{entryOf, entriesIn}
 use Rattle.theory.specs.PartialPairs.{built-length, built-size}
 use Rattle.theory.specs.PartialParts.{outFor}
@@ -89,7 +89,7 @@ module _ (sizes : List ℕ) where
     unfolding keptBefore flat keptOne
     kept-skip i x e = rw (add-one, e) (ap (_++_ (flat i keptRow)) (append-nil (flat x (keptOne i))))
 
-    pub kept-more : (i x : ℕ) → out i x ≡ false → keptBefore i (x + 1) ≡ keptBefore i x ++ (forgottenBy i x ∷ [])
+    kept-more : (i x : ℕ) → out i x ≡ false → keptBefore i (x + 1) ≡ keptBefore i x ++ (forgottenBy i x ∷ [])
     unfolding keptBefore flat keptOne
     kept-more i x e = rw (add-one, e) (sym (append-assoc (flat i keptRow) (flat x (keptOne i)) _))
 
@@ -102,25 +102,12 @@ module _ (sizes : List ℕ) where
     kept-last = append-nil _
 
     -- What is before a place that is kept is the beginning of all.
-    pub kept-split : (i x : ℕ) → i < length sizes → x < unknownOf i → out i x ≡ false → (rest : List Operator) × (keptAll ≡ keptBefore i x ++ (forgottenBy i x ∷ rest))
+    kept-split : (i x : ℕ) → i < length sizes → x < unknownOf i → out i x ≡ false → (rest : List Operator) × (keptAll ≡ keptBefore i x ++ (forgottenBy i x ∷ rest))
     unfolding keptBefore keptAll keptRow
     kept-split i x l h e =
         let (later, p) = flat-split (length sizes) keptRow i l in
         let (behind, q) = flat-split (unknownOf i) (keptOne i) x h in
         (behind ++ later, p ∙ ap (λ row. flat i keptRow ++ (row ++ later)) (q ∙ ap (λ one. flat x (keptOne i) ++ (one ++ behind)) (one-kept i x e)) ∙ sym (simp append-assoc))
-
-    -- Every one of them.
-    pub kept-in : (o : Operator) → In o keptAll → (i : ℕ) × (x : ℕ) × (i < length sizes) × (x < unknownOf i) × (out i x ≡ false) × (o ≡ forgottenBy i x)
-    unfolding keptAll keptRow keptOne
-    kept-in o m =
-        let (i, l, k) = flat-in (length sizes) keptRow o m in
-        let (x, h, n) = flat-in (unknownOf i) (keptOne i) o k in
-        let (e, q) = kept (out i x) (forgottenBy i x) n in
-        (i, x, l, h, e, q)
-      where
-        kept : (t : Bool) (p : Operator) → In o (cond t [] (p ∷ [])) → (t ≡ false) × (o ≡ p)
-        kept true p m = absurd (not-nil m)
-        kept false p m = (refl, eq-of-singleton m)
 
     pub kept-few : InLimits sizes → length keptAll ≤ mostAtoms
     unfolding keptAll keptRow keptOne

@@ -1,0 +1,99 @@
+-- `write_partial` refuses a room that is shorter than the whole, and otherwise writes five parts one after the other.
+use Prim.Native.Nat.{ℕ, _+_, _*_, _≤_}
+use mathlib.Core.Path.{_≡_, sym, _∙_}
+use mathlib.Core.List.{List}
+use native.Mathlib.Omega.{arith}
+use lib.ListN.{length}
+use Rattle.meaning.specs.Limits.{numberEnd}
+use Rattle.meaning.specs.Number.{Small}
+use Rattle.writer.specs.Answer.{refused-so}
+use Rattle.writer.specs.Widths.{list-few, numbers-few}
+use Rattle.writer.specs.Remains.{delivered-small}
+use Rattle.silencing.specs.Parts.{partsBytes, parts-length, parts-few, parts-delivered}
+use borrow.Author.Needs.{needs}
+use Rattle.silencing.proofs.write_partial.Statement.{statement}
+use Rattle.silencing.proofs.write_partial.Tie as tie
+
+-- Where the call began, seen from the last width; the whole file, and that the widths make it up.
+abbrev start : tie.After-numbers-width2 → tie.Start
+start c = c .before .before .before .before .before .before .before .before .before
+
+abbrev file : tie.Start → List ℕ
+file s = partsBytes (s .args .sizes .now) (s .args .marks .now) (s .args .start .now) (s .args .named .now) (s .args .rest .now)
+
+whole : (c : tie.After-numbers-width2) → length (file (start c))
+    ≡ c .before .before .list-width .result + length (start c .args .marks .now) + c .before .numbers-width .result + c .numbers-width2 .result + length (start c .args .rest .now)
+whole c = let s = start c .args in
+    omega (arith, parts-length (s .sizes .now) (s .marks .now) (s .start .now) (s .named .now) (s .rest .now), c .before .before .list-width .ensures, c .before .numbers-width .ensures, c .numbers-width2 .ensures)
+
+few : (s : tie.Start) → length (file s) ≤ 8 * numberEnd + length (s .args .rest .now)
+few s = parts-few (s .args .sizes .now) (s .args .marks .now) (s .args .start .now) (s .args .named .now) (s .args .rest .now) (s .pre)
+
+list-width-requires : tie.Need-list-width-requires
+list-width-requires c κs = search needs
+
+add-front : tie.Need-add-front
+add-front c = let s = c .before .before .before .before .before .before .before in omega (arith, list-few (s .args .sizes .now), s .pre .0 .0, s .pre .1, c .list-width .ensures)
+
+numbers-width-requires : tie.Need-numbers-width-requires
+numbers-width-requires c κs = search needs
+
+add-front-2 : tie.Need-add-front-2
+add-front-2 c = let s = c .before .before .before .before .before .before .before .before in omega (arith, list-few (s .args .sizes .now), numbers-few (s .args .start .now), s .pre .0 .0, s .pre .1, s .pre .2 .0, c .before .list-width .ensures, c .numbers-width .ensures)
+
+numbers-width-requires-2 : tie.Need-numbers-width-requires-2
+numbers-width-requires-2 c κs = search needs
+
+add-front-3 : tie.Need-add-front-3
+add-front-3 c = omega (arith, whole c, few (start c), start c .good)
+
+add-if1 : tie.Need-add-if1
+add-if1 c = omega (arith, whole c, few (start c), start c .good)
+
+refuse-requires : tie.Need-refuse-requires
+refuse-requires c κs = search needs
+
+returns : tie.Need-returns
+returns c = let s = start (c .before .before) in refused-so (c .refuse .result) Small (s .args .room .now) (c .refuse .ensures) ∙ sym (delivered-small (file s) (s .args .room .now) (omega (arith, whole (c .before .before), c .before .if1 .taken)))
+
+write-list-requires : tie.Need-write-list-requires
+write-list-requires c κs = search needs
+
+write-bytes-requires : tie.Need-write-bytes-requires
+write-bytes-requires c κs = search needs
+
+write-numbers-requires : tie.Need-write-numbers-requires
+write-numbers-requires c κs = search needs
+
+write-numbers-requires-2 : tie.Need-write-numbers-requires-2
+write-numbers-requires-2 c κs = search needs
+
+write-bytes-requires-2 : tie.Need-write-bytes-requires-2
+write-bytes-requires-2 c κs = search needs
+
+same-length : tie.Need-same-length
+same-length c = search needs
+
+returns-2 : tie.Need-returns-2
+returns-2 c = let s = start (c .before .before .before .before .before .before .before .before .before .before .before .before .before .before .before .before .before .before .before .before .before) in parts-delivered _ _ _ _ _ (s .args .room .now) _ _ _ _ _ _ _ _ _ _ (omega (arith, whole (c .before .before .before .before .before .before .before .before .before .before .before .before .before .before .before .before .before .before .before .before .before), c .before .before .before .before .before .before .before .before .before .before .before .before .before .before .before .before .before .before .before .before .if1 .left)) (c .before .before .before .before .before .before .before .before .before .before .before .before .before .before .before .before .before .before .write-list .ensures) (c .before .before .before .before .before .before .before .before .before .before .before .before .before .before .write-bytes .ensures) (c .before .before .before .before .before .before .before .before .before .before .write-numbers .ensures) (c .before .before .before .before .before .before .write-numbers2 .ensures) (c .before .before .write-bytes2 .ensures)
+
+pub write-partial-spec : {M : Type 1} → statement M
+write-partial-spec =
+    tie.close
+    (tie.spec
+    list-width-requires
+    add-front
+    numbers-width-requires
+    add-front-2
+    numbers-width-requires-2
+    add-front-3
+    add-if1
+    refuse-requires
+    returns
+    write-list-requires
+    write-bytes-requires
+    write-numbers-requires
+    write-numbers-requires-2
+    write-bytes-requires-2
+    same-length
+    returns-2)

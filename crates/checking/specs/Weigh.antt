@@ -12,14 +12,14 @@ use Rattle.meaning.specs.Feature.{features}
 use Rattle.meaning.specs.Number.{Read, Reason, refusal, got, fault}
 use Rattle.meaning.specs.File.{operatorsOf, judgedTask, judgedWeights}
 use Rattle.meaning.specs.Workspace.{has}
-use Rattle.meaning.specs.Partial.{Partial, Ordered, builtTask, judgedPartial}
+use Rattle.meaning.specs.Partial.{judgedPartial}
 use Rattle.meaning.specs.Answer as meaning
 use Rattle.meaning.specs.Answer.{Answer, done, refused, Judges, ChecksAs}
 use Rattle.theory.specs.PartialParts.{outFor}
 use Rattle.layout.specs.Parts.{sizesPart, startPart, goalPart, pairsPart}
 use Rattle.reader.specs.Answer.{featureWords}
 use Rattle.pairs.specs.Ready.{Listed}
-use Rattle.forgetting.specs.Kept.{keptIn, kept-forgettings}
+use Rattle.forgetting.specs.Kept.{built-operators}
 use Rattle.condition.specs.Walk.{RowFor}
 use Rattle.task.specs.Answer.{KnownAs, Known, known-parts, known-ready}
 use Rattle.order.specs.Answer.{KnownPartial}
@@ -63,10 +63,6 @@ pub record KnownWith (judging : Read Task) (bytes old header : List ℕ) (v n co
   pub read : operatorsOf (accepted .task .sizes) count bytes at ≡ got operators next
   pub all : accepted .task .operators ≡ operators ++ following (accepted .task .sizes) (listed (accepted .task .pairs)) (accepted .task .goal) forgets
 
-built-operators : (P : Partial) → Ordered P → let T = builtTask P (outFor false P) in T .operators ≡ P .operators ++ keptIn (T .sizes) (listed (T .pairs)) (T .goal) false
-unfolding builtTask
-built-operators P ok = ap (_++_ (P .operators)) (sym (kept-forgettings P ok false))
-
 module _ (bytes old header : List ℕ) (v n count at : ℕ) where
   -- A task file's, and those of the task that is built for a partial file.
   pub task-with : Known bytes old header v n count at → KnownWith (judgedTask bytes) bytes old header v n count at false
@@ -79,7 +75,7 @@ module _ (bytes old header : List ℕ) (v n count at : ℕ) where
     next = known .accepted .next;
     many = known .many;
     read = known .operators;
-    all = rw (known .built) (built-operators (known .partial) (known .ordered));
+    all = rw (known .built) (built-operators (known .partial) (known .ordered) false);
   }
 
 module _ (judging : Read Task) (bytes old header : List ℕ) (v n count at : ℕ) (forgets : Bool) (known : KnownWith judging bytes old header v n count at forgets) where

@@ -12,7 +12,7 @@ use Rattle.meaning.specs.Limits.{mostSize, mostAtoms}
 use Rattle.meaning.specs.Task.{Operator, IsOperator, size}
 use Rattle.meaning.specs.File.{InLimits}
 use Rattle.meaning.specs.Answer.{operatorIn}
-use Rattle.meaning.specs.Partial.{Partial, Ordered, forgettings, builtSizes, builtPairs}
+use Rattle.meaning.specs.Partial.{Partial, Ordered, forgettings, builtSizes, builtPairs, builtTask}
 use Rattle.theory.specs.Truth.{less, same, more, order}
 use Rattle.theory.specs.Flat.{flat-cong, flat-few}
 use Rattle.theory.specs.Slices.{entryOf, entriesIn}
@@ -232,3 +232,8 @@ unfolding keptAll keptRow keptOne forgettings
 kept-forgettings P ok lean = rw (built-length (P .sizes)) (flat-cong (length (P .sizes)) _ _ (λ i l.
     let d : size (builtSizes (P .sizes)) i - 1 ≡ size (P .sizes) i = omega (arith, built-size (P .sizes) i l) in
     rw d (flat-cong (size (P .sizes) i) _ _ (λ x h. rw (out-by P ok lean i x l h) (ap (λ u. cond (outFor lean P i x) [] ((entryOf i x u ∷ []) ∷ [])) d)))))
+
+-- So the built task's operators are the file's, and then those that its header keeps.
+pub built-operators : (P : Partial) (ok : Ordered P) (lean : Bool) → let T = builtTask P (outFor lean P) in T .operators ≡ P .operators ++ keptIn (T .sizes) (listed (T .pairs)) (T .goal) lean
+unfolding builtTask
+built-operators P ok lean = ap (_++_ (P .operators)) (sym (kept-forgettings P ok lean))

@@ -8,20 +8,15 @@ use Rattle.meaning.specs.Sets.{listed}
 use Rattle.meaning.specs.Task.{Task, State}
 use Rattle.meaning.specs.Workspace.{has, slotsAt, wordsDue}
 use Rattle.meaning.specs.Answer.{done}
-use Rattle.meaning.specs.Partial.{Partial, Ordered, builtTask, leftOut, OpensPartial}
+use Rattle.meaning.specs.Partial.{OpensPartial}
 use Rattle.layout.specs.Parts.{sizesPart, goalPart, pairsPart}
 use Rattle.pairs.specs.Ready.{Listed}
-use Rattle.forgetting.specs.Kept.{keptIn, kept-forgettings}
+use Rattle.forgetting.specs.Kept.{keptIn, built-operators}
 use Rattle.condition.specs.Slotted.{withRows}
 use Rattle.task.specs.Answer.{known-parts, known-ready}
 use Rattle.order.specs.Answer.{KnownPartial}
 use Rattle.opening.specs.Adding.{Sized, addedFrom, added-sized}
 use Rattle.opening.specs.Begin.{begun-sized, begun-added, begun-rows, opens-done}
-
--- Its operators are the file's, then the forgetting ones that its header keeps.
-built-operators : (P : Partial) → Ordered P → let T = builtTask P (leftOut P) in T .operators ≡ P .operators ++ keptIn (T .sizes) (listed (T .pairs)) (T .goal) false
-unfolding builtTask
-built-operators P ok = ap (_++_ (P .operators)) (sym (kept-forgettings P ok false))
 
 module _ (bytes old header room : List ℕ) (v n count kept at : ℕ) (known : KnownPartial false bytes old header v n count kept at) where
   abbrev task : Task
@@ -40,7 +35,7 @@ module _ (bytes old header room : List ℕ) (v n count kept at : ℕ) (known : K
 
     operators-are : task .operators ≡ known .partial .operators ++ keptIn sizes (has pairs) goal false
     operators-are = let parts = known-parts (known .accepted) in
-        rw (sizes-are ∙ parts .0, ap has pairs-are ∙ parts .3, goal-is ∙ parts .2, known .built) (built-operators (known .partial) (known .ordered))
+        rw (sizes-are ∙ parts .0, ap has pairs-are ∙ parts .3, goal-is ∙ parts .2, known .built) (built-operators (known .partial) (known .ordered) false)
 
     pub built-opened : due ≤ length room → (exit : List ℕ) → exit ≡ foldl (withRows v n) added (keptIn sizes (has pairs) goal false)
         → OpensPartial bytes room (record { answer = done due; lent = exit })

@@ -43,6 +43,7 @@ pub record Front : Type 0 where
   pub pairs : List ℕ
   pub count : ℕ
 
+-- What of a front stands behind its states, in every kind of file.
 unfoldable pub behindStates : States → Parser Front
 behindStates states =
     then (featureList (atoms (states .sizes)) (features (states .sizes)))

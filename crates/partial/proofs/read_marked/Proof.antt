@@ -1,6 +1,6 @@
 -- `read_marked` meets its contract: what is known after the sizes; the marks go behind a gap, and the start into it.
 use Prim.Native.Nat.{_≤_}
-use mathlib.Core.Path.{_≡_, refl}
+use mathlib.Core.Path.{refl}
 use native.Mathlib.Omega.{arith}
 use lib.ListN.{getD}
 use Rattle.meaning.specs.Limits.{mostVariables}

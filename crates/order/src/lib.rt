@@ -13,9 +13,11 @@ ghost use Rattle.task.specs.Answer.{FrontedAs};
 ghost use Rattle.order.specs.Answer.{PartialInto};
 ghost use Rattle.order.specs.Last.{lastOf};
 ghost use Rattle.order.specs.Whole.{Whole};
+use limits::HEADER_WORDS;
 use number::Number;
 use number::Reason;
 use number::Step;
+use reader::Header;
 
 // The first number that a file cannot hold: "a number is 0 to 16,383".
 const NUMBER_END: usize = 16384;
@@ -121,5 +123,31 @@ fn judge_rest(
             judge_whole(bytes, at, count, own, v, n, lean, header)
         }
         Step::Fault(reason, place) => Judged::Refused(reason, place),
+    }
+}
+
+// Judges a partial task file, and leaves the header of an accepted one's built task in words that are all 0.
+pub fn judge(bytes: &[u8], lean: bool, header: &mut [u64]) -> Judged
+    requires { ⌜ (slotsAt mostVariables mostFeatures ≤ length (now header)) × (now header ≡ replicate (length (now header)) 0) ⌝ }
+    ensures { λ r. ⌜ PartialInto lean (now (bytes .entry)) (now (header .entry)) r (now (header .exit)) ⌝ }
+{
+    let mut own = [0u64; HEADER_WORDS];
+    match partial::read_front(bytes, 0, &mut own) {
+        Header::Got {
+            variables,
+            features,
+            operators,
+            next,
+        } => judge_rest(
+            bytes,
+            next,
+            operators,
+            &own,
+            variables,
+            features,
+            lean,
+            header,
+        ),
+        Header::Fault(reason, place) => Judged::Refused(reason, place),
     }
 }

@@ -9,7 +9,7 @@ use lib.Dec.{leb, ltb}
 use lib.ListN.{length, length-append, length-replicate}
 use Rattle.meaning.specs.Sets.{every}
 use Rattle.meaning.specs.Limits.{mostSlots, mostFeatures, numberEnd}
-use Rattle.meaning.specs.Task.{Operator, State, value}
+use Rattle.meaning.specs.Task.{Operator, Task, State, value}
 use Rattle.meaning.specs.Feature.{sumOf, pairsOf, atoms, features}
 use Rattle.meaning.specs.Weight.{Unsolvable}
 use Rattle.meaning.specs.Number.{got}
@@ -27,7 +27,7 @@ use Rattle.theory.specs.BayTask.{AcceptedBay, accepted-bay, bay-accepted
 use Rattle.theory.specs.Demands.{accepted-unsolvable}
 use Rattle.theory.specs.PartialPlans.{Permitted, lean-permitted}
 use Rattle.theory.specs.PartialParts.{partial-accepted, partial-back}
-use Rattle.theory.specs.PartialDemands.{built-accepted, built-met}
+use Rattle.theory.specs.PartialDemands.{built-met, accepted-unmet}
 use Rattle.theory.specs.Silence.{silenced-ordered}
 
 -- ---- limits
@@ -58,6 +58,9 @@ module _ (bytes : List ℕ) (b : Bay) (next : ℕ) (accepted-file : judgedBay by
   abbrev n : ℕ
   n = slotCount b
 
+  abbrev near : ℕ → ℕ → Bool
+  near = neighbours (b .columns)
+
   abbrev bay : AcceptedBay b
   bay = accepted-bay bytes b next accepted-file
 
@@ -71,11 +74,15 @@ module _ (bytes : List ℕ) (b : Bay) (next : ℕ) (accepted-file : judgedBay by
   pub reached-labels : (state : List ℕ) → Reaches (order .operators) (order .start) state → SameLabels (b .start) state
   unfolding silenced taskFor
   reached-labels state (plan, from, leads) =
-      let (ms, moves) = plan-moves n (neighbours (b .columns)) plan (b .start) state from leads in
-      moves-labels n (neighbours (b .columns)) ms (b .start) state (bay-length n (b .start) (bay .readable .start-state)) moves
+      let (ms, moves) = plan-moves n near plan (b .start) state from leads in
+      moves-labels n near ms (b .start) state (bay-length n (b .start) (bay .readable .start-state)) moves
+
+  -- One of its completions is reached.
+  abbrev pub Completed : Type 0
+  Completed = (c : List ℕ) × Completes order c × Reaches (order .operators) (order .start) c
 
   -- "moves keep the labels, so a bay's partial order is met exactly when one of its completions is reached"
-  pub order-met : Met order ↔ ((c : List ℕ) × Completes order c × Reaches (order .operators) (order .start) c)
+  pub order-met : Met order ↔ Completed
   unfolding silenced taskFor
   order-met = (
     λ h. let (c, reached, meets) = h in (c, record { labels = reached-labels c reached; meets = meets }, reached),
@@ -83,11 +90,11 @@ module _ (bytes : List ℕ) (b : Bay) (next : ℕ) (accepted-file : judgedBay by
   )
 
   -- The same in moves of the bay.
-  pub order-moves : Met order ↔ ((c : List ℕ) × Completes order c × (ms : List (List ℕ)) × Moves n (neighbours (b .columns)) ms (b .start) c)
+  pub order-moves : Met order ↔ ((c : List ℕ) × Completes order c × (ms : List (List ℕ)) × Moves n near ms (b .start) c)
   unfolding silenced taskFor
   order-moves = Iff·trans order-met (
-    λ h. let (c, completes, (plan, from, leads)) = h in let (ms, moves) = plan-moves n (neighbours (b .columns)) plan (b .start) c from leads in (c, completes, ms, moves),
-    λ h. let (c, completes, ms, moves) = h in (c, completes, moves-plan n (neighbours (b .columns)) ms (b .start) c (bay .readable .start-state) moves),
+    λ h. let (c, completes, (plan, from, leads)) = h in let (ms, moves) = plan-moves n near plan (b .start) c from leads in (c, completes, ms, moves),
+    λ h. let (c, completes, ms, moves) = h in (c, completes, moves-plan n near ms (b .start) c (bay .readable .start-state) moves),
   )
 
   -- In a completion the silent slots hold the labels that are left: none that a named slot holds.
@@ -112,7 +119,7 @@ module _ (bytes : List ℕ) (b : Bay) (next : ℕ) (accepted-file : judgedBay by
 
     -- So a completion is a full order of the same bay, and its task can be asked.
     pub completion-asked : judgedTask (taskBytes (bayTask (withGoal b c))) ≡ got (bayTask (withGoal b c)) (length (taskBytes (bayTask (withGoal b c))))
-    completion-asked = read-back (bayTask (withGoal b c)) (bay-writable n (neighbours (b .columns)) (b .start) c (bay .readable .slots-limit .0) (bay .readable .slots-limit .1)
+    completion-asked = read-back (bayTask (withGoal b c)) (bay-writable n near (b .start) c (bay .readable .slots-limit .0) (bay .readable .slots-limit .1)
         (neighbours-apart (b .columns)) (bay .readable .start-state) completion-state (λ label l. omega (arith, bay .start-once label l)))
 
   -- If no completion can be reached, no sequence of moves meets the order.
@@ -138,28 +145,27 @@ module _ (bytes : List ℕ) (b : Bay) (next : ℕ) (accepted-file : judgedBay by
   pub order-accepted : (out : Partial → ℕ → ℕ → Bool) → judgedPartial out (partialBytes order) ≡ got (builtTask order (out order)) (length (partialBytes order))
   unfolding silenced taskFor builtTask
   order-accepted out = partial-accepted order order-ordered out
-      (omega (arith, length-append (bayOperators n (neighbours (b .columns))) (forgettings (baySizes n) (out order)), operators-most n (neighbours (b .columns)), forgettings-most n (out order),
+      (omega (arith, length-append (bayOperators n near) (forgettings (baySizes n) (out order)), operators-most n near, forgettings-most n (out order),
       order-room n (bay .readable .slots-limit .1)))
       (bay-accepted bytes b next accepted-file .acceptable .free)
-      (λ o m. let rules = slide-rules n (neighbours (b .columns)) (neighbours-apart (b .columns)) o m in (rules .1, rules .2))
+      (λ o m. let rules = slide-rules n near (neighbours-apart (b .columns)) o m in (rules .1, rules .2))
 
   -- With whatever permitted operators left out, the built goal is reached exactly when a completion is: nothing is lost.
-  pub order-reached : (out : Partial → ℕ → ℕ → Bool) → Permitted order (out order)
-      → Reaches (builtTask order (out order) .operators) (builtTask order (out order) .start) (builtTask order (out order) .goal)
-      ↔ ((c : List ℕ) × Completes order c × Reaches (order .operators) (order .start) c)
-  unfolding silenced taskFor
-  order-reached out permitted = Iff·trans (built-met (partialBytes order) out (builtTask order (out order)) (length (partialBytes order)) (order-accepted out) order (length (partialBytes order))
-      (whole partialOf order (partialBytes order) (partial-back order order-ordered (bay-accepted bytes b next accepted-file .countable))) permitted) order-met
+  module _ (out : Partial → ℕ → ℕ → Bool) (permitted : Permitted order (out order)) where
+    abbrev T : Task
+    T = builtTask order (out order)
 
-  -- The lean task, which the tool asks, and the task by the letter are two of these.
-  pub lean-reached : Reaches (builtTask order (leftOutLean order) .operators) (builtTask order (leftOutLean order) .start) (builtTask order (leftOutLean order) .goal)
-      ↔ ((c : List ℕ) × Completes order c × Reaches (order .operators) (order .start) c)
-  lean-reached = order-reached leftOutLean (lean-permitted order)
+    order-read : partialOf (partialBytes order) 0 ≡ got order (length (partialBytes order))
+    unfolding silenced taskFor
+    order-read = whole partialOf order (partialBytes order) (partial-back order order-ordered (bay-accepted bytes b next accepted-file .countable))
 
-  -- Once weights are accepted for the lean task's file, no sequence of moves meets the order: every way to fill the silent slots is impossible.
+    pub order-reached : Reaches (T .operators) (T .start) (T .goal) ↔ Completed
+    order-reached = Iff·trans (built-met (partialBytes order) out T _ (order-accepted out) order _ order-read permitted) order-met
+
+    -- Once weights are accepted for the built task's file, no sequence of moves meets the order: every way to fill the silent slots is impossible.
+    pub order-impossible : (weights : List ℕ) → Checks (taskBytes T) weights (done accepted) → Met order → ⊥
+    order-impossible = accepted-unmet (partialBytes order) out T _ (order-accepted out) order _ order-read permitted
+
+  -- The lean task, which the tool asks.
   pub lean-impossible : (weights : List ℕ) → Checks (taskBytes (builtTask order (leftOutLean order))) weights (done accepted) → Met order → ⊥
-  lean-impossible weights checks met =
-      let (plan, from, leads) = lean-reached .1 (order-met .0 met) in
-      let T = builtTask order (leftOutLean order) in
-      let (U, end, read, hopeless) = accepted-unsolvable (taskBytes T) weights checks in
-      rw (got-value (sym read ∙ built-accepted (partialBytes order) leftOutLean T (length (partialBytes order)) (order-accepted leftOutLean))) at hopeless plan from leads
+  lean-impossible = order-impossible leftOutLean (lean-permitted order)

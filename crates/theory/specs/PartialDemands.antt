@@ -15,13 +15,13 @@ use Rattle.meaning.specs.Task.{Operator, Task, size, Run}
 use Rattle.meaning.specs.Feature.{atoms, features}
 use Rattle.meaning.specs.Pair.{paired, stuck, closed, holds}
 use Rattle.meaning.specs.Weight.{Separates, LeastOf, Unsolvable}
-use Rattle.meaning.specs.Number.{Held, Unclosed, Outgrown, Read, got, fault, onRead}
+use Rattle.meaning.specs.Number.{Reason, Held, Unclosed, Outgrown, refusal, Read, got, fault, onRead}
 use Rattle.meaning.specs.File.{judgedPairs, judgedTask, judgedWeights, weightBytes, taskBytes}
 use Rattle.meaning.specs.Workspace.{wordsFor, has, packed}
 use Rattle.meaning.specs.Answer.{Answer, done, refused, Outcome, Verdict, accepted, ChecksAs, Checks, OpensAs, Opens, Finding, none, separated, Finds, Judged, fine, faulty, need}
 use Rattle.meaning.specs.History.{Event, Edited, taskAfter, SameTask}
 use Rattle.meaning.specs.Partial.{Partial, Reaches, Met, Ordered, builtSizes, builtPairs, builtTask, leftOut, leftOutLean, partialOf, partialBytes, judgedPartial}
-use Rattle.meaning.specs.Partial.{OpensPartial, ChecksPartial, BuildsBy, silenced, marksJudged, silencesBy, Silences}
+use Rattle.meaning.specs.Partial.{OpensPartial, ChecksPartial, BuildsBy, BuildsPartialLean, silenced, marksJudged, silencesBy, Silences}
 use Rattle.theory.specs.Truth.{on, off, test}
 use Rattle.theory.specs.Run.{members}
 use Rattle.theory.specs.Reading.{got-value, by-got}
@@ -31,7 +31,7 @@ use Rattle.theory.specs.Operands.{unless}
 use Rattle.theory.specs.Determined.{silences-only}
 use Rattle.theory.specs.Refusals.{Faulty, RefusesExactly, refuses-exactly, fileJudged, openJudged, checkJudged, buildJudged, silenceJudged}
 use Rattle.theory.specs.Refusals.{opens-exactly, checks-exactly, builds-exactly, silences-refused}
-use Rattle.theory.specs.Delivered.{Leaves, not-refused, delivered-leaves}
+use Rattle.theory.specs.Delivered.{Leaves, not-refused, delivered-leaves, builds-leave}
 use Rattle.theory.specs.Demands.{Afresh, accepts-exactly, accepted-unsolvable, none-exactly, some-found, least-given, found-accepted, written-afresh}
 use Rattle.theory.specs.PartialPairs.{built-run, built-count, paired-known, paired-unknown}
 use Rattle.theory.specs.PartialPlans.{Permitted, letter-permitted, lean-permitted}
@@ -166,20 +166,24 @@ module _ (file : List ℕ) (out : Partial → ℕ → ℕ → Bool) (T : Task) (
       let same = checks-built weights (done accepted) in
       (λ checks. built .0 (same .0 checks), λ s. same .1 (built .1 s))
 
-  -- What is left out is permitted: so the built task is unsolvable exactly when the order is not met,
-  module _ (permitted : Permitted (whole .partial) (out (whole .partial))) where
-    pub unsolvable-unmet : Unsolvable T ↔ (Met (whole .partial) → ⊥)
-    unsolvable-unmet =
-        let same = whole .reached permitted in (
-          λ h m. let (plan, from, leads) = same .1 m in h plan from leads,
-          λ h plan from leads. h (same .0 (plan, from, leads)),
-        )
+  -- What is left out is permitted.
+  module _ (P : Partial) (end : ℕ) (read : partialOf file 0 ≡ got P end) (permitted : Permitted P (out P)) where
+    -- "Such a goal is reached exactly when the partial goal is": that of the partial task which the file was read as.
+    pub built-met : Reaches (T .operators) (T .start) (T .goal) ↔ Met P
+    built-met = subst (λ Q. Permitted Q (out Q) → Reaches (T .operators) (T .start) (T .goal) ↔ Met Q) (got-value (sym (whole .read) ∙ read)) (whole .reached) permitted
 
-    -- and once the checker accepts, no sequence of the file's moves meets the order.
-    pub accepted-unmet : (weights : List ℕ) → ChecksAs (judgedPartial out file) weights (done accepted) → Met (whole .partial) → ⊥
+    -- So the built task is unsolvable exactly when the order is not met,
+    pub unsolvable-unmet : Unsolvable T ↔ (Met P → ⊥)
+    unsolvable-unmet = (
+      λ h m. let (plan, from, leads) = built-met .1 m in h plan from leads,
+      λ h plan from leads. h (built-met .0 (plan, from, leads)),
+    )
+
+    -- and once the checker accepts for the built task's file, no sequence of the file's moves meets the order.
+    pub accepted-unmet : (weights : List ℕ) → Checks (taskBytes T) weights (done accepted) → Met P → ⊥
     accepted-unmet weights checks =
-        let (U, end, read, hopeless) = accepted-unsolvable (taskBytes T) weights (checks-built weights (done accepted) .0 checks) in
-        unsolvable-unmet .0 (rw (got-value (sym read ∙ built-accepted)) at hopeless)
+        let (U, _, again, hopeless) = accepted-unsolvable (taskBytes T) weights checks in
+        unsolvable-unmet .0 (rw (got-value (sym again ∙ built-accepted)) at hopeless)
 
   -- The finder, on a workspace that was opened from the partial file.
   module _ (room workspace : List ℕ) (k : ℕ) (opens : OpensAs (judgedPartial out file) room (record { answer = done k; lent = workspace })) where
@@ -214,23 +218,40 @@ module _ (file : List ℕ) (out : Partial → ℕ → ℕ → Bool) (T : Task) (
     partial-edited U lent edited events begins edits same =
         written-afresh T U (taskBytes T) room workspace lent edited (length (taskBytes T)) k events built-accepted as-built begins edits same
 
--- The same of the partial task that a file was read as.
-pub built-met : (file : List ℕ) (out : Partial → ℕ → ℕ → Bool) (T : Task) (next : ℕ) → judgedPartial out file ≡ got T next
-    → (P : Partial) (end : ℕ) → partialOf file 0 ≡ got P end → Permitted P (out P) → Reaches (T .operators) (T .start) (T .goal) ↔ Met P
-built-met file out T next judged P end read =
-    let w = accepted-partial file out T next judged in
-    subst (λ Q. Permitted Q (out Q) → Reaches (T .operators) (T .start) (T .goal) ↔ Met Q) (got-value (sym (w .read) ∙ read)) (w .reached)
+-- ---- what an accepted verdict says of the order
 
--- check_partial, with what section 5.2 permits left out.
-pub partial-unmet : (file weights : List ℕ) (T : Task) (next : ℕ) (judged : judgedPartial leftOut file ≡ got T next) → ChecksPartial file weights (done accepted)
-    → Met (whole file leftOut T next judged .partial) → ⊥
-partial-unmet file weights T next judged = accepted-unmet file leftOut T next judged (letter-permitted _) weights
+-- A partial file was read, and no sequence of its moves meets its order.
+abbrev pub Unmet : List ℕ → Type 0
+Unmet file = (P : Partial) × (end : ℕ) × (partialOf file 0 ≡ got P end) × (Met P → ⊥)
 
--- check on the file of build_partial_lean, with what is named left out too.
-pub lean-unmet : (file weights : List ℕ) (T : Task) (next : ℕ) (judged : judgedPartial leftOutLean file ≡ got T next) → Checks (taskBytes T) weights (done accepted)
-    → Met (whole file leftOutLean T next judged .partial) → ⊥
-lean-unmet file weights T next judged checks =
-    accepted-unmet file leftOutLean T next judged (lean-permitted _) weights (checks-built file leftOutLean T next judged weights (done accepted) .1 checks)
+module _ (out : Partial → ℕ → ℕ → Bool) (permitted : (P : Partial) → Permitted P (out P)) (file weights : List ℕ) where
+  unmet-by : (T : Task) (next : ℕ) → judgedPartial out file ≡ got T next → Checks (taskBytes T) weights (done accepted) → Unmet file
+  unmet-by T next judged checks =
+      let w = whole file out T next judged in
+      (w .partial, next, w .read, accepted-unmet file out T next judged (w .partial) next (w .read) (permitted (w .partial)) weights checks)
+
+  -- Once weights are accepted for a partial file,
+  pub checked-unmet : ChecksAs (judgedPartial out file) weights (done accepted) → Unmet file
+  checked-unmet checks =
+      let (T, next, judged, _) = by-got (judgedPartial out file) _ _ not-accepted checks in
+      unmet-by T next judged (checks-built file out T next judged weights (done accepted) .0 checks)
+    where
+      not-accepted : (reason : Reason) → _≡_ {A = Answer Verdict} (done accepted) (refused (refusal reason)) → ⊥
+      not-accepted reason e = let z : _≡_ {A = ℕ} 0 1 = cc in omega arith
+
+  -- or for the task file that was built for it.
+  pub built-unmet : (room lent : List ℕ) (k : ℕ) → BuildsBy out file room (record { answer = done k; lent = lent }) → Checks (take k lent) weights (done accepted) → Unmet file
+  built-unmet room lent k builds checks =
+      let (T, next, judged, left) = builds-leave room lent k (judgedPartial out file) taskBytes builds in
+      unmet-by T next judged (rw (left .front) at checks)
+
+-- check_partial: "Accepted weights mean that no sequence of the file's moves meets the order."
+pub partial-unmet : (file weights : List ℕ) → ChecksPartial file weights (done accepted) → Unmet file
+partial-unmet = checked-unmet leftOut letter-permitted
+
+-- check on what build_partial_lean wrote.
+pub lean-unmet : (file weights room lent : List ℕ) (k : ℕ) → BuildsPartialLean file room (record { answer = done k; lent = lent }) → Checks (take k lent) weights (done accepted) → Unmet file
+lean-unmet = built-unmet leftOutLean lean-permitted
 
 -- ---- silence
 

@@ -167,5 +167,8 @@ module _ (bytes : List ℕ) (b : Bay) (next : ℕ) (accepted-file : judgedBay by
     order-impossible = accepted-unmet (partialBytes order) out T _ (order-accepted out) order _ order-read permitted
 
   -- The lean task, which the tool asks.
+  pub lean-reached : let T = builtTask order (leftOutLean order) in Reaches (T .operators) (T .start) (T .goal) ↔ Completed
+  lean-reached = order-reached leftOutLean (lean-permitted order)
+
   pub lean-impossible : (weights : List ℕ) → Checks (taskBytes (builtTask order (leftOutLean order))) weights (done accepted) → Met order → ⊥
   lean-impossible = order-impossible leftOutLean (lean-permitted order)

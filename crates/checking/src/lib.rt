@@ -11,6 +11,7 @@ ghost use Rattle.meaning.specs.Feature.{features, parity};
 ghost use Rattle.meaning.specs.Number.{Read};
 ghost use Rattle.meaning.specs.File.{InLimits};
 ghost use Rattle.meaning.specs.Workspace.{wordsFor, has};
+ghost use Rattle.meaning.specs.Partial.{ChecksPartial};
 ghost use Rattle.meaning.specs.Answer.{ChecksAs, Checks};
 ghost use Rattle.theory.specs.Rows.{allowed};
 ghost use Rattle.pairs.specs.Ready.{Listed};
@@ -242,5 +243,31 @@ pub fn check(task: &[u8], weights: &[u8]) -> Verdict
             false,
         ),
         Judged::Refused(reason, _) => Verdict::Refused(number::refusal(reason)),
+    }
+}
+
+// Checks weights against the task that is built for a partial file: the file is judged, then the weights are read, then they are judged.
+pub fn check_partial(partial: &[u8], weights: &[u8]) -> Verdict
+    ensures { λ r. ⌜ ChecksPartial (now (partial .entry)) (now (weights .entry)) (verdictOf r) ⌝ }
+{
+    let mut header = [0u64; HEADER_WORDS];
+    match order::judge(partial, false, &mut header) {
+        order::Judged::Accepted {
+            variables,
+            features,
+            operators,
+            kept: _,
+            at,
+        } => weigh(
+            partial,
+            weights,
+            &header,
+            variables,
+            features,
+            operators,
+            at,
+            true,
+        ),
+        order::Judged::Refused(reason, _) => Verdict::Refused(number::refusal(reason)),
     }
 }

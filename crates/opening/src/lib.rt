@@ -166,3 +166,20 @@ fn open_built(
     );
     Opened::Opened(due)
 }
+
+// Opens a workspace of the task that is built for a partial task file, in lent words.
+pub fn open_partial(partial: &[u8], room: &mut [u64]) -> Opened
+    ensures { λ r. ⌜ OpensPartial (now (partial .entry)) (now (room .entry)) (record { answer = openedOf r; lent = now (room .exit) }) ⌝ }
+{
+    let mut header = [0u64; HEADER_WORDS];
+    match order::judge(partial, false, &mut header) {
+        order::Judged::Accepted {
+            variables,
+            features,
+            operators,
+            kept: _,
+            at,
+        } => open_built(partial, at, operators, room, &header, variables, features),
+        order::Judged::Refused(reason, _) => Opened::Refused(number::refusal(reason)),
+    }
+}

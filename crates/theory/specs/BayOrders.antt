@@ -145,8 +145,13 @@ module _ (bytes : List ℕ) (b : Bay) (next : ℕ) (accepted-file : judgedBay by
   pub order-accepted : (out : Partial → ℕ → ℕ → Bool) → judgedPartial out (partialBytes order) ≡ got (builtTask order (out order)) (length (partialBytes order))
   unfolding silenced taskFor builtTask
   order-accepted out = partial-accepted order order-ordered out
-      (omega (arith, length-append (bayOperators n near) (forgettings (baySizes n) (out order)), operators-most n near, forgettings-most n (out order),
-      order-room n (bay .readable .slots-limit .1)))
+      (omega (
+        arith,
+        length-append (bayOperators n near) (forgettings (baySizes n) (out order)),
+        operators-most n near,
+        forgettings-most n (out order),
+        order-room n (bay .readable .slots-limit .1),
+      ))
       (bay-accepted bytes b next accepted-file .acceptable .free)
       (λ o m. let rules = slide-rules n near (neighbours-apart (b .columns)) o m in (rules .1, rules .2))
 

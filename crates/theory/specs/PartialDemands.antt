@@ -285,7 +285,7 @@ silenced-file file marks room lent k silences =
     let P = silenced T marks in
     let ordered = silenced-ordered T marks (ok .acceptable) (marked .small) (marked .total) in
     let read : partialOf (take k lent) 0 ≡ got P k =
-        ap (λ bytes. partialOf bytes 0) (left .front) ∙ Back.whole partialOf P (partialBytes P) (partial-back P ordered (ok .countable)) ∙ ap (got P) (left .width) in
+    ap (λ bytes. partialOf bytes 0) (left .front) ∙ Back.whole partialOf P (partialBytes P) (partial-back P ordered (ok .countable)) ∙ ap (got P) (left .width) in
     let met = silenced-met T marks (ok .acceptable) in
     record {
       task = T;

@@ -108,7 +108,7 @@ partial-accepted P ok out few free rules =
     let ds = P .sizes in
     let fewer : length (P .operators) < numberEnd = omega (arith, few, length-append (P .operators) (forgettings ds (out P))) in
     let shut : allOf (closed (builtSizes ds) (listed (builtPairs ds (listed (P .pairs))))) (P .operators ++ forgettings ds (out P)) ≡ true = all-each _ _
-        (all-closed P ok (out P) (all-each _ (P .operators) (λ o m. closed-built ds (listed (P .pairs)) o (ok .operators o m .entries) (rules o m .1) ∙ rules o m .0))) in
+    (all-closed P ok (out P) (all-each _ (P .operators) (λ o m. closed-built ds (listed (P .pairs)) o (ok .operators o m .entries) (rules o m .1) ∙ rules o m .0))) in
     rw (
       whole partialOf P (partialBytes P) (partial-back P ok fewer),
       lt-ltb (length (P .operators ++ forgettings ds (out P))) numberEnd few,
@@ -150,10 +150,13 @@ forgetting-bytes sizes i x h k l = rw (small-bytes 1 (omega arith), small-bytes 
 pub forgettings-width : (sizes : List ℕ) (out : ℕ → ℕ → Bool) → length sizes ≤ mostVariables → ((i : ℕ) → i < length sizes → size sizes i ≤ mostPartialSize)
     → length (bytesOf operatorBytes (forgettings sizes out)) ≡ length (forgettings sizes out) * 4
 forgettings-width sizes out few small =
-    omega (arith, bytes-each operatorBytes 4 (forgettings sizes out) (λ o m.
-    let (i, x, l, h, _, q) = forgettings-in sizes out o m in
-    let t = small i l in
-    ap length (ap operatorBytes q ∙ forgetting-bytes sizes i x (omega arith) (omega arith) (omega arith))))
+    omega (
+      arith,
+      bytes-each operatorBytes 4 (forgettings sizes out) (λ o m.
+          let (i, x, l, h, _, q) = forgettings-in sizes out o m in
+          let t = small i l in
+          ap length (ap operatorBytes q ∙ forgetting-bytes sizes i x (omega arith) (omega arith) (omega arith))),
+    )
 
 -- ---- the tests on the built task's sizes and pairs, which a header has
 

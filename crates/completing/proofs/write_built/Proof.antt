@@ -77,10 +77,9 @@ add-write-operators : tie.Need-add-write-operators
 add-write-operators c = search needs
 
 write-operators-requires : tie.Need-write-operators-requires
-write-operators-requires c κs = 
+write-operators-requires c κs =
     let s = start (c .before .before .before .before .before .before) in
-    let a = s .args in
-    (
+    let a = s .args in (
       s .pre .countable,
       s .pre .ready,
       s .pre .is-goal,
@@ -91,7 +90,7 @@ same-length : tie.Need-same-length
 same-length c = search needs
 
 returns-2 : tie.Need-returns-2
-returns-2 c = 
+returns-2 c =
     let s = start (c .before .before .before .before .before .before .before .before .before) in
     let a = s .args in
     let w = c .before .before .before .before .before .before .write-front .ensures in

@@ -18,7 +18,7 @@ write-bytes-requires : tie.Need-write-bytes-requires
 write-bytes-requires c κs = let s = start (c .before .before .before) in let a = s .args in let w = c .before .before .before .write-number .ensures in own-fits (a .count) (a .own .now) (a .sizes .now) (a .pairs .now) (a .goal .now) (a .lean) (a .room .now) (a .at) (s .pre .3) _ _ (w .0) (w .1)
 
 write-kept-requires : tie.Need-write-kept-requires
-write-kept-requires c κs = 
+write-kept-requires c κs =
     let s = start (first (c .before .before .before)) in
     let a = s .args in
     let w = first (c .before .before .before) .write-number .ensures in
@@ -29,7 +29,7 @@ same-length : tie.Need-same-length
 same-length c = search needs
 
 returns : tie.Need-returns
-returns c = 
+returns c =
     let s = start (first (c .before .before .before .before .before .before)) in
     let a = s .args in
     let w = first (c .before .before .before .before .before .before) .write-number .ensures in

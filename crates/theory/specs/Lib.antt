@@ -35,6 +35,7 @@ pub mod Reading
 pub mod Spent
 pub mod NumberBack
 pub mod ReadBack
+pub mod AsRead
 pub mod BytesOf
 pub mod Accepted
 pub mod Operands

@@ -22,9 +22,10 @@ use Rattle.meaning.specs.Answer.{Answer, done, refused, Outcome, Verdict, accep
 use Rattle.meaning.specs.History.{Event, Edited, taskAfter, SameTask}
 use Rattle.meaning.specs.Partial.{Partial, Reaches, Met, Ordered, builtSizes, builtPairs, builtTask, leftOut, leftOutLean, partialOf, partialBytes, judgedPartial}
 use Rattle.meaning.specs.Partial.{OpensPartial, ChecksPartial, BuildsBy, BuildsPartialLean, silenced, marksJudged, silencesBy, Silences}
-use Rattle.theory.specs.Truth.{on, off, test}
+use Rattle.theory.specs.Truth.{clash}
 use Rattle.theory.specs.Run.{members}
 use Rattle.theory.specs.Reading.{got-value, by-got}
+use Rattle.theory.specs.AsRead.{AsRead, plain-partial}
 use Rattle.theory.specs.ReadBack as Back
 use Rattle.theory.specs.Accepted as Files
 use Rattle.theory.specs.Operands.{unless}
@@ -68,24 +69,29 @@ partial-judged out file rest = by (partialOf file 0)
     by (got P next) = let T = builtTask P (out P) in
         passed (ltb (length (T .operators)) numberEnd) (holds (T .sizes) (listed (T .pairs)) (T .start)) (allOf (closed (T .sizes) (listed (T .pairs))) (T .operators)) T next
 
--- A file that was read is refused for the count exactly when too many operators are kept.
-pub outgrown-exactly : (out : Partial → ℕ → ℕ → Bool) (file : List ℕ) (P : Partial) (next : ℕ) → partialOf file 0 ≡ got P next
-    → (judgedPartial out file ≡ fault Outgrown 0) ↔ (numberEnd ≤ length (builtTask P (out P) .operators))
+-- A file is refused for the count exactly when it was read, the last byte too, and more operators are kept than a number can count: whatever the start and the operators are.
+pub outgrown-exactly : (out : Partial → ℕ → ℕ → Bool) (file : List ℕ)
+    → (judgedPartial out file ≡ fault Outgrown 0) ↔ ((P : Partial) × (next : ℕ) × (partialOf file 0 ≡ got P next) × (numberEnd ≤ length (builtTask P (out P) .operators)))
 unfolding judgedPartial
-outgrown-exactly out file P next read =
-    let T = builtTask P (out P) in
-    rw read (
-      λ e. elim (test (ltb (length (T .operators)) numberEnd)) [
-        | on few ↦ absurd (within (holds (T .sizes) (listed (T .pairs)) (T .start)) (allOf (closed (T .sizes) (listed (T .pairs))) (T .operators)) T (rw few at e))
-        | off few ↦ ltb-false _ _ few
-      ],
-      λ many. rw (le-ltb (length (T .operators)) numberEnd many) refl,
-    )
+outgrown-exactly out file = (
+  λ e. by (partialOf file 0) (plain-partial .plain 0) e,
+  λ h. let (P, next, read, many) = h in rw (read, le-ltb (length (builtTask P (out P) .operators)) numberEnd many) refl,
+)
   where
-    within : (held shut : Bool) (T : Task) → cond held (fault Held 0) (cond shut (got T next) (fault Unclosed 0)) ≡ fault Outgrown 0 → ⊥
-    within true shut T e = let z : _≡_ {A = ℕ} 0 1 = cc in omega arith
-    within false true T e = let z : _≡_ {A = ℕ} 0 1 = cc in omega arith
-    within false false T e = let z : _≡_ {A = ℕ} 0 1 = cc in omega arith
+    within : (few held shut : Bool) (T : Task) (next : ℕ)
+        → cond few (cond held (fault Held 0) (cond shut (got T next) (fault Unclosed 0))) (fault Outgrown 0) ≡ fault Outgrown 0 → few ≡ false
+    within false held shut T next e = refl
+    within true true shut T next e = absurd (let z : _≡_ {A = ℕ} 0 1 = cc in omega arith)
+    within true false true T next e = absurd (let z : _≡_ {A = ℕ} 0 1 = cc in omega arith)
+    within true false false T next e = absurd (let z : _≡_ {A = ℕ} 0 1 = cc in omega arith)
+
+    by : (read : Read Partial) → AsRead read
+        → onRead read (λ P next. cond (ltb (length (builtTask P (out P) .operators)) numberEnd) (judgedPairs (builtTask P (out P)) next) (fault Outgrown 0)) ≡ fault Outgrown 0
+        → (P : Partial) × (next : ℕ) × (read ≡ got P next) × (numberEnd ≤ length (builtTask P (out P) .operators))
+    by (fault reason place) plain e = let z : reason ≡ Outgrown = cc in absurd (clash (plain .reasoned reason place refl) (rw z refl))
+    by (got P next) plain e = let T = builtTask P (out P) in
+        (P, next, refl, ltb-false _ _ (within (ltb (length (T .operators)) numberEnd) (holds (T .sizes) (listed (T .pairs)) (T .start))
+        (allOf (closed (T .sizes) (listed (T .pairs))) (T .operators)) T next e))
 
 -- open_partial: the partial file's first fault; then 8.
 pub open-partial-refuses : (file room : List ℕ) → RefusesExactly (OpensPartial file room) room (Faulty (openJudged (judgedPartial leftOut file) room))

@@ -1,0 +1,141 @@
+-- What a reader faults with is what is judged as numbers are read, or 5: never a reason that is judged after these.
+use Prim.Native.Nat.{ℕ, zero, suc, _+_}
+use mathlib.Core.Path.{_≡_, refl, sym}
+use mathlib.Core.Bool.{Bool, true, false, _||_, cond}
+use mathlib.Core.List.{List, [], _∷_}
+use lib.Dec.{eqb, leb, ltb}
+use lib.ListN.{length, getD, replicate}
+use Rattle.meaning.specs.Limits.{leastPartialSize, mostPartialSize, group, mostGroups}
+use Rattle.meaning.specs.Feature.{atoms, features}
+use Rattle.meaning.specs.Number.{Reason, Ends, Padded, Endless, Limit, Range, Unordered, LeftOver, refusal, hasPlace, Read, got, fault, onRead, groups, number}
+use Rattle.meaning.specs.File.{Parser, give, then, inside, item, judge, limited, rising, ended, itemsOf, sizeList, featuresOf, featureList, entriesOf, operatorOf, operatorsOf}
+use Rattle.meaning.specs.Partial.{partialHeader, goalOf, partialOf}
+use Rattle.theory.specs.Reading.{not-got}
+
+-- A reason that has a place, or 5.
+abbrev pub asRead : Reason → Bool
+asRead reason = hasPlace reason || eqb (refusal reason) (refusal LeftOver)
+
+-- A fault, if there is one, has such a reason.
+pub record AsRead {A : Type 0} (r : Read A) : Type 0 where
+  pub reasoned : (reason : Reason) (place : ℕ) → r ≡ fault reason place → asRead reason ≡ true
+
+-- ---- how such statements are put together
+
+pub got-as-read : {A : Type 0} (a : A) (next : ℕ) → AsRead (got a next)
+got-as-read a next = record { reasoned = λ reason place e. absurd (not-got (sym e)) }
+
+pub fault-as-read : {A : Type 0} (reason : Reason) (place : ℕ) → asRead reason ≡ true → AsRead {A = A} (fault reason place)
+fault-as-read reason place h = record { reasoned = λ other at e. let z : reason ≡ other = cc in rw (← z) h }
+
+pub on-as-read : {A B : Type 0} (r : Read A) (rest : A → ℕ → Read B) → AsRead r → ((a : A) (next : ℕ) → AsRead (rest a next)) → AsRead (onRead r rest)
+on-as-read (got a next) rest h k = k a next
+on-as-read (fault reason place) rest h k = fault-as-read reason place (h .reasoned reason place refl)
+
+pub if-as-read : {A : Type 0} (b : Bool) (r s : Read A) → AsRead r → AsRead s → AsRead (cond b r s)
+if-as-read true r s h k = h
+if-as-read false r s h k = k
+
+pub tested-as-read : {A : Type 0} (b : Bool) (a : A) (next : ℕ) (reason : Reason) (place : ℕ) → asRead reason ≡ true → AsRead (cond b (got a next) (fault reason place))
+tested-as-read b a next reason place h = if-as-read b _ _ (got-as-read a next) (fault-as-read reason place h)
+
+-- ---- readers
+
+groups-as-read : (bytes : List ℕ) (k first place : ℕ) → AsRead (groups k first bytes place)
+unfolding groups
+groups-as-read bytes zero first place = fault-as-read Endless first refl
+groups-as-read bytes (suc k) first place = if-as-read (ltb place (length bytes)) _ _
+    (if-as-read (ltb (getD bytes place 0) group) _ _ (got-as-read _ _)
+    (on-as-read (groups k first bytes (place + 1)) _ (groups-as-read bytes k first (place + 1)) (λ high next. if-as-read (eqb high 0) _ _ (fault-as-read Padded first refl) (got-as-read _ _))))
+    (fault-as-read Ends first refl)
+
+-- A reader whose faults are such, in some bytes.
+pub record Plain {A : Type 0} (bytes : List ℕ) (p : Parser A) : Type 0 where
+  pub plain : (place : ℕ) → AsRead (p bytes place)
+
+module _ {bytes : List ℕ} where
+  pub plain-then : {A B : Type 0} {p : Parser A} (r : A → Parser B) → Plain bytes p → ((a : A) → Plain bytes (r a)) → Plain bytes (then p r)
+  plain-then {p = p} r h k = record { plain = λ place. on-as-read (p bytes place) _ (h .plain place) (λ a next. k a .plain next) }
+
+  pub plain-give : {A : Type 0} (a : A) → Plain bytes (give a)
+  plain-give a = record { plain = λ place. got-as-read a place }
+
+  pub plain-number : Plain bytes number
+  unfolding number
+  plain-number = record { plain = λ place. groups-as-read bytes mostGroups place place }
+
+  pub plain-item : (test : ℕ → Bool) (reason : Reason) → asRead reason ≡ true → Plain bytes (item test reason)
+  unfolding item
+  plain-item test reason h = record { plain = λ place. on-as-read (number bytes place) _ (plain-number .plain place) (λ n next. tested-as-read (test n) n next reason place h) }
+
+  pub plain-items : (low : ℕ) (reason : Reason) → asRead reason ≡ true → (bounds : List ℕ) → Plain bytes (itemsOf low reason bounds)
+  unfolding itemsOf
+  plain-items low reason h [] = plain-give []
+  plain-items low reason h (bound ∷ bounds) = plain-then _ (plain-item (inside low bound) reason h) (λ n. plain-then _ (plain-items low reason h bounds) (λ ns. plain-give (n ∷ ns)))
+
+  pub plain-limited : {A : Type 0} (p : Parser A) (test : A → Bool) (behind : A → ℕ) → Plain bytes p → Plain bytes (limited p test behind)
+  unfolding limited
+  plain-limited p test behind h = record { plain = λ place. on-as-read (p bytes place) _ (h .plain place) (λ a next. tested-as-read (test a) a next Limit _ refl) }
+
+  pub plain-sizes : (least most : ℕ) → Plain bytes (sizeList least most)
+  unfolding sizeList
+  plain-sizes least most = plain-then _ (plain-item _ Limit refl) (λ v. plain-items least Limit refl (replicate v (suc most)))
+
+  plain-rising : (low high least : ℕ) → Plain bytes (rising low high least)
+  unfolding rising
+  plain-rising low high least = record {
+    plain = λ place. on-as-read (item (inside low high) Range bytes place) _ (plain-item (inside low high) Range refl .plain place)
+        (λ n next. tested-as-read (leb least n) n next Unordered place refl);
+  }
+
+  plain-features : (k low high least : ℕ) → Plain bytes (featuresOf k low high least)
+  unfolding featuresOf
+  plain-features zero low high least = plain-give []
+  plain-features (suc k) low high least = plain-then _ (plain-rising low high least) (λ f. plain-then _ (plain-features k low high (suc f)) (λ fs. plain-give (f ∷ fs)))
+
+  pub plain-feature-list : (low high : ℕ) → Plain bytes (featureList low high)
+  unfolding featureList
+  plain-feature-list low high = plain-then _ plain-number (λ k. plain-features k low high 0)
+
+  plain-entries : (sizes : List ℕ) (k least : ℕ) → Plain bytes (entriesOf sizes k least)
+  unfolding entriesOf
+  plain-entries sizes zero least = plain-give []
+  plain-entries sizes (suc k) least = plain-then _ (plain-rising 0 (length sizes) least) (λ i. plain-then _ (plain-item _ Range refl) (λ x. plain-then _ (plain-item _ Range refl) (λ y.
+      plain-then _ (plain-entries sizes k (suc i)) (λ es. plain-give (record { variable = i; before = x; after = y } ∷ es)))))
+
+  pub plain-operators : (sizes : List ℕ) (k : ℕ) → Plain bytes (operatorsOf sizes k)
+  unfolding operatorsOf operatorOf
+  plain-operators sizes zero = plain-give []
+  plain-operators sizes (suc k) = plain-then _ (plain-then _ (plain-item _ Range refl) (λ n. plain-entries sizes n 0)) (λ o. plain-then _ (plain-operators sizes k) (λ os. plain-give (o ∷ os)))
+
+  pub plain-ended : Plain bytes ended
+  unfolding ended judge
+  plain-ended = record { plain = λ place. by (leb (length bytes) place) place }
+    where
+      by : (b : Bool) (place : ℕ) → AsRead (judge b LeftOver bytes place)
+      by true place = got-as-read tt place
+      by false place = fault-as-read LeftOver place refl
+
+  -- ---- a partial file
+
+  plain-goal : (sizes marks : List ℕ) → Plain bytes (goalOf sizes marks)
+  unfolding goalOf
+  plain-goal [] marks = plain-give []
+  plain-goal (d ∷ ds) [] = plain-give []
+  plain-goal (d ∷ ds) (m ∷ ms) = plain-then _ (one (eqb m 1)) (λ x. plain-then _ (plain-goal ds ms) (λ xs. plain-give (x ∷ xs)))
+    where
+      one : (b : Bool) → Plain bytes (cond b (item (inside 0 d) Range) (give d))
+      one true = plain-item (inside 0 d) Range refl
+      one false = plain-give d
+
+  pub plain-partial : Plain bytes partialOf
+  unfolding partialOf partialHeader
+  plain-partial =
+      plain-then _ (plain-limited _ _ _ (plain-sizes leastPartialSize mostPartialSize)) (λ sizes.
+      plain-then _ (plain-items 0 Range refl (replicate (length sizes) 2)) (λ marks.
+      plain-then _ (plain-items 0 Range refl sizes) (λ start.
+      plain-then _ (plain-goal sizes marks) (λ goal.
+      plain-then _ (plain-feature-list (atoms sizes) (features sizes)) (λ pairs.
+      plain-then _ plain-number (λ k.
+      plain-then _ (plain-operators sizes k) (λ operators.
+      plain-then _ plain-ended (λ _. plain-give _))))))))

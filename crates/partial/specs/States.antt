@@ -6,23 +6,33 @@ use mathlib.Core.List.{List, [], _∷_, _++_, append-nil, append-assoc}
 use native.Mathlib.Omega.{arith}
 use lib.ListN.{length, getD, take, drop, length-append, length-drop, length-replicate}
 use lib.Seq.{take-at, drop-at, drop-drop, take-append-add, drop-append-add, take-append-seam, length-take-le}
+use Rattle.meaning.specs.Limits.{mostPartialSize}
 use Rattle.meaning.specs.Number.{got}
 use Rattle.meaning.specs.File.{give, then, valuesOf}
 use Rattle.meaning.specs.Workspace.{startAt, goalAt}
-use Rattle.meaning.specs.Partial.{partialHeader, marksOf, goalOf}
+use Rattle.meaning.specs.Partial.{builtSizes, partialHeader, marksOf, goalOf}
 use Rattle.theory.specs.Contents.{sizesIn}
 use Rattle.theory.specs.Parts.{values-said}
-use Rattle.theory.specs.PartialPairs.{built-length}
+use Rattle.theory.specs.PartialPairs.{built-length, built-size}
 use Rattle.theory.specs.PartialFile.{goal-said}
 use Rattle.layout.specs.Parts.{sizesPart, goalPart}
 use Rattle.number.specs.declared.Reason.{Reason}
 use Rattle.number.specs.declared.Step.{Step}
 use Rattle.number.specs.declared.Step.the-variants.{Next, Fault}
+use Rattle.numbering.specs.Sizes.{SmallSizes}
 use Rattle.reader.specs.Answer.{written, begun, sizedWords, ReadsInto, reads-next, reads-map, reads-unread}
 use Rattle.reader.specs.After.{After, after, sizes-begin}
+use Rattle.reader.specs.Header.{Within}
 use Rattle.reader.specs.Front.{States, stateWords}
 use Rattle.reader.specs.States.{Ends, AfterStates, after-states, states-end}
 use Rattle.partial.specs.Front.{markedWith, markedOf, namedWith, partialStatesOf, sized-limits, sizes-said, marked-said, partial-states-said}
+
+-- The sizes of the built task are small.
+pub built-small : (sizes : List ℕ) → Within mostPartialSize sizes → SmallSizes (builtSizes sizes)
+built-small sizes known = record {
+  few = rw (built-length sizes) (known .few);
+  small = λ i l. let k = rw (built-length sizes) at l in rw (built-size sizes i k) (omega (arith, known .small i k));
+}
 
 -- ---- values written with a gap before them, which is filled then
 

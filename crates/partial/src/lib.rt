@@ -2,17 +2,20 @@
 ghost use mathlib.Core.Path.{_≡_};
 ghost use Prim.Native.Nat.{_≤_};
 ghost use lib.ListN.{length, replicate};
-ghost use Rattle.meaning.specs.Limits.{mostVariables, mostFeatures};
+ghost use Rattle.meaning.specs.Limits.{mostVariables, mostPartialSize, mostFeatures};
+ghost use Rattle.meaning.specs.Feature.{features};
 ghost use Rattle.meaning.specs.Workspace.{startAt, goalAt, pairsAt, slotsAt};
-ghost use Rattle.meaning.specs.Partial.{partialHeader, goalOf};
+ghost use Rattle.meaning.specs.Partial.{builtSizes, partialHeader, goalOf};
 ghost use Rattle.number.specs.Answers.{numberOf};
 ghost use Rattle.layout.specs.Parts.{sizesPart, goalPart};
+ghost use Rattle.reader.specs.Header.{Within};
 ghost use Rattle.reader.specs.Answer.{written, begun, sizedWords, ReadsInto};
 ghost use Rattle.reader.specs.Front.{stateWords, HeaderInto};
 ghost use Rattle.partial.specs.Front.{markedOf, partialStatesOf, partialFrontOf};
 ghost use Rattle.partial.specs.Goal.{valueBy};
 use limits::LEAST_PARTIAL_SIZE;
 use limits::MOST_PARTIAL_SIZE;
+use limits::MOST_VARIABLES;
 use limits::SIZES_AT;
 use number::Number;
 use number::Reason;
@@ -21,6 +24,17 @@ use reader::Header;
 
 // The first number that is no mark.
 const MARK_END: usize = 2;
+
+// N of the built task, by the file's own sizes.
+fn built_features(sizes: &[u64]) -> usize
+    requires { ⌜ Within mostPartialSize (now sizes) ⌝ }
+    ensures { λ r. ⌜ r ≡ features (builtSizes (now (sizes .entry))) ⌝ }
+{
+    let v = sizes.len();
+    let mut wider = [0u64; MOST_VARIABLES];
+    renumbering::widen(sizes, &mut wider[..v]);
+    numbering::features(&wider[..v])
+}
 
 // Reads v and the sizes, and judges N of the built task.
 fn read_limited(bytes: &[u8], at: usize, header: &mut [u64]) -> Step
@@ -36,7 +50,7 @@ fn read_limited(bytes: &[u8], at: usize, header: &mut [u64]) -> Step
     ) {
         Step::Next(next) => {
             let v = header[0] as usize;
-            let n = numbering::built_features(layout::sizes(header, v));
+            let n = built_features(layout::sizes(header, v));
             reader::judge_features(bytes, at, v, n, next)
         }
         Step::Fault(reason, place) => Step::Fault(reason, place),

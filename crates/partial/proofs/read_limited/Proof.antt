@@ -7,10 +7,9 @@ use Rattle.meaning.specs.Limits.{mostVariables, leastPartialSize, mostPartialSi
 use Rattle.meaning.specs.Feature.{features}
 use Rattle.meaning.specs.File.{limited}
 use Rattle.meaning.specs.Partial.{builtSizes, partialHeader}
-use Rattle.numbering.specs.Sizes.{SmallSizes, built-small}
 use Rattle.reader.specs.Answer.{reads-unread}
 use Rattle.reader.specs.After.{after-sizes}
-use Rattle.reader.specs.Header.{Sized, sizes-known, sizes-judged}
+use Rattle.reader.specs.Header.{Within, Sized, sizes-known, sizes-judged}
 use borrow.Author.Needs.{needs}
 use Rattle.partial.proofs.read_limited.Statement.{statement}
 use Rattle.partial.proofs.read_limited.Tie as tie
@@ -40,8 +39,7 @@ sizes-requires : tie.Need-sizes-requires
 sizes-requires c κs = let k = few (c .before .before .before) in (k, omega (arith, k))
 
 built-features-requires : tie.Need-built-features-requires
-built-features-requires c κs = let s = sized (c .before .before .before .before) in
-    subst (λ sizes. SmallSizes (builtSizes sizes)) (sym (after-sizes s (c .sizes .ensures))) (built-small _ (s .known .few) (s .known .small))
+built-features-requires c κs = let s = sized (c .before .before .before .before) in subst (Within mostPartialSize) (sym (after-sizes s (c .sizes .ensures))) (s .known)
 
 judge-features-requires : tie.Need-judge-features-requires
 judge-features-requires c κs = search needs

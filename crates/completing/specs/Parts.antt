@@ -6,7 +6,7 @@ use mathlib.Core.List.{List, [], _∷_, _++_, append-nil}
 use native.Mathlib.Omega.{arith}
 use lib.ListN.{length, getD, take, drop, length-append}
 use Rattle.meaning.specs.Limits.{numberEnd}
-use Rattle.meaning.specs.Task.{Operator, State, size}
+use Rattle.meaning.specs.Task.{Operator, State}
 use Rattle.meaning.specs.Sets.{table}
 use Rattle.meaning.specs.Number.{groupBytes, numberBytes}
 use Rattle.meaning.specs.File.{InLimits, bytesOf, entryBytes, counted, operatorBytes}
@@ -18,12 +18,12 @@ use Rattle.words.specs.Members.{membersIn}
 use Rattle.pairs.specs.Ready.{Listed}
 use Rattle.forgetting.specs.declared.Kept.{Kept}
 use Rattle.forgetting.specs.Out.{outBy}
-use Rattle.forgetting.specs.Kept.{keptAll, keptIn, unknownOf, keptBefore, forgottenBy, kept-entries, Found, Stands, stands-first, stands-next, stands-below, stands-end, stands-at}
+use Rattle.forgetting.specs.Kept.{keptIn, unknownOf, keptBefore, forgottenBy, kept-entries, Found, Stands, stands-first, stands-next, stands-below, stands-end, stands-at}
 use Rattle.writer.specs.declared.Written.the-variants.{Done}
 use Rattle.writer.specs.Answer.{outcomeOf}
 use Rattle.writer.specs.Parts.{Triples}
 use Rattle.writer.specs.Front.{Front, frontBytes, front-few}
-use Rattle.writer.specs.Widths.{part-length, bytes-more, bytes-none}
+use Rattle.writer.specs.Widths.{bytes-more, bytes-none}
 use Rattle.writer.specs.Remains.{Remains, remains-all, part-fits, remains-after, remains-none, parts-delivered}
 
 -- The bytes of the forgetting operators that a header keeps.

@@ -89,3 +89,31 @@ fn write_built(
     let next = writer::write_front(room, sizes, start, goal, pairs);
     Written::Done(write_operators(room, next, count + kept, own, sizes, pairs, goal, lean))
 }
+
+// Writes the built task of an accepted partial file, by its header and its counts.
+fn complete(
+    partial: &[u8],
+    header: &[u64],
+    v: usize,
+    n: usize,
+    count: usize,
+    kept: usize,
+    at: usize,
+    lean: bool,
+    room: &mut [u8],
+) -> Written
+    requires { ⌜ ((old : List ℕ) × KnownPartial lean (now partial) old (now header) v n count kept at) ⌝ }
+    ensures { λ r. ⌜ BuildsBy (outFor lean) (now (partial .entry)) (now (room .entry)) (outcomeOf r (now (room .exit))) ⌝ }
+{
+    write_built(
+        &partial[at..],
+        count,
+        kept,
+        layout::sizes(header, v),
+        layout::start(header, v, n),
+        layout::goal(header, v, n),
+        layout::pairs(header, v, n),
+        lean,
+        room,
+    )
+}

@@ -8,7 +8,7 @@ use native.Mathlib.Omega.{arith}
 use lib.ListN.{length, getD, drop}
 use borrow.Author.Tests.{eq-eqb, ne-eqb, lt-leb, le-leb}
 use Rattle.meaning.specs.Limits.{mostVariables, mostFeatures, numberEnd}
-use Rattle.meaning.specs.Task.{Task, State}
+use Rattle.meaning.specs.Task.{Task}
 use Rattle.meaning.specs.Feature.{features}
 use Rattle.meaning.specs.Number.{Reason, Range, Outgrown, got, fault}
 use Rattle.meaning.specs.File.{judgedTask, Writable, InLimits}
@@ -18,6 +18,7 @@ use Rattle.theory.specs.Spent.{Bytes}
 use Rattle.theory.specs.Flat.{getD-in, in-getD}
 use Rattle.theory.specs.Accepted.{accepted, accepted-bytes}
 use Rattle.writer.specs.Parts.{Countable}
+use Rattle.writer.specs.Front.{sizes-countable, state-countable}
 use Rattle.silencing.specs.Marks.{areMarks, areRoomy, Marked, are-marked, judgedBy, marks-judged, picked, picked-in}
 use Rattle.silencing.specs.Parts.{Front, pairsPlace, partsBytes, place-within, silenced-bytes}
 
@@ -65,19 +66,14 @@ module _ (bytes sizes start goal : List ℕ) (parted : Parted bytes sizes start 
   pub parted-limits : InLimits sizes
   parted-limits = rw (parted .sizes-are) (writable .acceptable .limits)
 
-  -- Values below sizes are numbers of a file.
-  countable : (values : List ℕ) → State (T .sizes) values → Countable values
-  countable values t = let limits = writable .acceptable .limits in
-      (omega (arith, t .full, limits .variables), λ i l. let k : i < length (T .sizes) = omega (arith, t .full) in omega (arith, t .values i k, limits .each i k))
-
   module _ (marks room : List ℕ) where
     pub parted-silent : Bytes bytes → length marks ≡ length sizes → areMarks marks ≡ true → Silent bytes sizes start goal marks
     parted-silent small long ok =
         let a = writable .acceptable in
         rw (parted .sizes-are, parted .start-is, parted .goal-is) (record {
-          sizes-fit = (omega (arith, a .limits .variables), λ i l. omega (arith, a .limits .each i l));
-          start-fits = countable (T .start) (a .start);
-          goal-fits = countable (T .goal) (a .goal);
+          sizes-fit = sizes-countable (T .sizes) (a .limits);
+          start-fits = state-countable (T .sizes) (T .start) (a .limits) (a .start);
+          goal-fits = state-countable (T .sizes) (T .goal) (a .limits) (a .goal);
           few = omega (arith, a .goal .full, a .limits .variables);
           marked = are-marked (length (T .goal)) marks (long ∙ ap length (parted .sizes-are) ∙ sym (a .goal .full)) ok;
           place = omega (arith, place-within T, ap length (accepted-bytes bytes T (parted .next) (parted .judged) small));

@@ -5,8 +5,8 @@ use mathlib.Core.Bool.{Bool, true, false, cond}
 use mathlib.Core.List.{List, [], _∷_, _++_, append-nil, append-assoc}
 use native.Mathlib.Omega.{arith}
 use lib.Dec.{eqb, ltb}
-use lib.ListN.{length, take, drop, length-append, length-drop}
-use lib.Seq.{take-all, drop-at}
+use lib.ListN.{length, take, drop, length-append}
+use lib.Seq.{drop-at}
 use borrow.Author.Tests.{eqb-true, eqb-false, lt-ltb, le-ltb}
 use Rattle.meaning.specs.Sets.{table}
 use Rattle.meaning.specs.Limits.{group, numberEnd}
@@ -105,10 +105,6 @@ module _ (T : Task) where
 
   pub behind-goal : drop (pairsPlace (T .sizes) (T .start) (T .goal)) (taskBytes T) ≡ behind
   behind-goal = ap (drop (pairsPlace (T .sizes) (T .start) (T .goal))) split ∙ drop-at front behind _ place
-
--- What is lent from a place on.
-pub lent-behind : (bytes : List ℕ) (place other : ℕ) → place ≡ other → take (length bytes - place) (drop place bytes) ≡ drop other bytes
-lent-behind bytes place other e = rw e (take-all (length bytes - other) (drop other bytes) (omega (arith, length-drop other bytes)))
 
 -- ---- marks and named values of the partial task
 

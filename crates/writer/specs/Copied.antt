@@ -1,10 +1,10 @@
--- Bytes copied into a room one after another.
-use Prim.Native.Nat.{ℕ, _+_, _<_, _≤_}
+-- Bytes copied into a room one after another; what is lent from a place on, to be copied.
+use Prim.Native.Nat.{ℕ, _+_, _-_, _<_, _≤_}
 use mathlib.Core.Path.{_≡_, sym, ap, _∙_}
 use mathlib.Core.List.{List, _++_, append-assoc}
 use native.Mathlib.Omega.{arith}
 use native.Mathlib.Numerals.{add-one}
-use lib.ListN.{length, getD, set, take, drop}
+use lib.ListN.{length, getD, set, take, drop, length-drop}
 use lib.Seq.{paste, paste-suc, take-all}
 
 module _ (room₀ : List ℕ) (at : ℕ) (bytes : List ℕ) (i : ℕ) (room : List ℕ) (so-far : room ≡ paste room₀ at bytes i) where
@@ -20,3 +20,6 @@ module _ (room₀ : List ℕ) (at : ℕ) (bytes : List ℕ) (i : ℕ) (room : Li
     so-far ∙ append-assoc (take at room₀) (take i bytes) (drop (at + i) room₀)
         ∙ ap (λ l. take at room₀ ++ (l ++ drop (at + i) room₀)) (take-all i bytes (omega arith)),
   )
+
+pub lent-behind : {A : Type 0} (l : List A) (place other : ℕ) → place ≡ other → take (length l - place) (drop place l) ≡ drop other l
+lent-behind l place other e = rw e (take-all (length l - other) (drop other l) (omega (arith, length-drop other l)))

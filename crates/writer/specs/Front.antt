@@ -1,14 +1,14 @@
 -- What stands before the operators of a task file: its bytes, how many there are, and that the operators follow them.
-use Prim.Native.Nat.{ℕ, _+_, _*_, _≤_}
+use Prim.Native.Nat.{ℕ, _+_, _*_, _<_, _≤_}
 use mathlib.Core.Path.{_≡_, sym, ap, _∙_}
 use mathlib.Core.List.{List, _++_, append-assoc}
 use native.Mathlib.Omega.{arith}
 use lib.ListN.{length, length-append}
 use Rattle.meaning.specs.Limits.{numberEnd, wordBits}
 use Rattle.meaning.specs.Number.{numberBytes}
-use Rattle.meaning.specs.Task.{Task}
+use Rattle.meaning.specs.Task.{Task, State}
 use Rattle.meaning.specs.Workspace.{has}
-use Rattle.meaning.specs.File.{bytesOf, counted, operatorBytes, weightBytes, taskBytes}
+use Rattle.meaning.specs.File.{InLimits, bytesOf, counted, operatorBytes, weightBytes, taskBytes}
 use Rattle.words.specs.Members.{membersIn, members-few}
 use Rattle.writer.specs.Parts.{Countable, FewWords}
 use Rattle.writer.specs.Widths.{numbers-few, list-few}
@@ -16,6 +16,14 @@ use Rattle.writer.specs.Widths.{numbers-few, list-few}
 -- Sizes, start and goal that can be written, and the words of a set of pairs.
 abbrev pub Front : List ℕ → List ℕ → List ℕ → List ℕ → Type 0
 Front sizes start goal pairs = Countable sizes × Countable start × Countable goal × FewWords pairs
+
+-- Sizes within the limits can be written, and so can values below them.
+pub sizes-countable : (sizes : List ℕ) → InLimits sizes → Countable sizes
+sizes-countable sizes limits = (omega (arith, limits .variables), λ i l. omega (arith, limits .each i l))
+
+pub state-countable : (sizes values : List ℕ) → InLimits sizes → State sizes values → Countable values
+state-countable sizes values limits t =
+    (omega (arith, t .full, limits .variables), λ i l. let k : i < length sizes = omega (arith, t .full) in omega (arith, t .values i k, limits .each i k))
 
 module _ (sizes start goal pairs : List ℕ) where
   -- The sizes with their count, start, goal, and the pairs with their count.

@@ -4,12 +4,12 @@ use mathlib.Core.Path.{_≡_, sym, ap, _∙_}
 use mathlib.Core.List.{List}
 use native.Mathlib.Omega.{arith}
 use lib.ListN.{length}
+use borrow.Author.Needs.{needs}
 use Rattle.meaning.specs.Limits.{numberEnd}
 use Rattle.meaning.specs.Number.{Small}
 use Rattle.writer.specs.Answer.{refused-so}
 use Rattle.writer.specs.Remains.{delivered-small}
 use Rattle.completing.specs.Parts.{one-triples, one-width, builtBytes, operators-length, built-length, built-few, built-delivered}
-use borrow.Author.Needs.{needs}
 use Rattle.completing.proofs.write_built.Statement.{statement}
 use Rattle.completing.proofs.write_built.Tie as tie
 

@@ -1,6 +1,6 @@
 -- `write_operators` writes three parts one after the other.
-use Rattle.completing.specs.Parts.{count-fits, own-fits, kept-fits, operators-written}
 use borrow.Author.Needs.{needs}
+use Rattle.completing.specs.Parts.{count-fits, own-fits, kept-fits, operators-written}
 use Rattle.completing.proofs.write_operators.Statement.{statement}
 use Rattle.completing.proofs.write_operators.Tie as tie
 

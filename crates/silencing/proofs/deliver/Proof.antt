@@ -4,12 +4,13 @@ use mathlib.Core.Path.{_≡_, sym, ap₂, _∙_}
 use native.Mathlib.Omega.{arith}
 use lib.ListN.{length, take}
 use lib.Seq.{length-take-le}
+use borrow.Author.Needs.{needs}
 use Rattle.meaning.specs.Limits.{numberEnd}
 use Rattle.meaning.specs.Answer.{delivered}
 use Rattle.writer.specs.Widths.{list-few, numbers-few}
-use Rattle.silencing.specs.Parts.{partsBytes, pairsPlace, place-few, lent-behind}
+use Rattle.writer.specs.Copied.{lent-behind}
+use Rattle.silencing.specs.Parts.{partsBytes, pairsPlace, place-few}
 use Rattle.silencing.specs.Answer.{silent-front}
-use borrow.Author.Needs.{needs}
 use Rattle.silencing.proofs.deliver.Statement.{statement}
 use Rattle.silencing.proofs.deliver.Tie as tie
 

@@ -1,6 +1,7 @@
 -- `silence`: what is known of an accepted task goes to `silence_judged`; a refusal is answered as it is.
 use mathlib.Core.Path.{_∙_}
 use lib.ListN.{replicate}
+use borrow.Author.Needs.{needs}
 use Rattle.meaning.specs.Limits.{mostVariables, mostFeatures}
 use Rattle.meaning.specs.Workspace.{slotsAt}
 use Rattle.number.specs.Answers.{reasonOf}
@@ -8,7 +9,6 @@ use Rattle.layout.specs.Parts.{headed-sizes}
 use Rattle.task.specs.Answer.{Known, judged-accepted, judged-refused, known-room, known-parts}
 use Rattle.writer.specs.Answer.{refused-so}
 use Rattle.silencing.specs.Answer.{task-refused}
-use borrow.Author.Needs.{needs}
 use Rattle.silencing.proofs.silence.Statement.{statement}
 use Rattle.silencing.proofs.silence.Tie as tie
 

@@ -4,13 +4,13 @@ use mathlib.Core.Bool.{true}
 use native.Mathlib.Omega.{arith}
 use lib.ListN.{length}
 use borrow.Author.Tests.{not-true, not-false}
+use borrow.Author.Needs.{needs}
 use Rattle.meaning.specs.Number.{Range, Outgrown}
 use Rattle.theory.specs.Spent.{Bytes}
 use Rattle.numbering.specs.Sizes.{built-small}
 use Rattle.writer.specs.Answer.{refused-so}
 use Rattle.silencing.specs.Marks.{areMarks, areRoomy, are-roomy}
 use Rattle.silencing.specs.Answer.{parted-limits, parted-silent, silence-refused, wrong-number, wrong-mark, no-room, too-many, silence-delivered}
-use borrow.Author.Needs.{needs}
 use Rattle.silencing.proofs.silence_judged.Statement.{statement}
 use Rattle.silencing.proofs.silence_judged.Tie as tie
 

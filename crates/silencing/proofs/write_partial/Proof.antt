@@ -4,13 +4,13 @@ use mathlib.Core.Path.{_≡_, sym, _∙_}
 use mathlib.Core.List.{List}
 use native.Mathlib.Omega.{arith}
 use lib.ListN.{length}
+use borrow.Author.Needs.{needs}
 use Rattle.meaning.specs.Limits.{numberEnd}
 use Rattle.meaning.specs.Number.{Small}
 use Rattle.writer.specs.Answer.{refused-so}
 use Rattle.writer.specs.Widths.{list-few, numbers-few}
 use Rattle.writer.specs.Remains.{delivered-small}
 use Rattle.silencing.specs.Parts.{partsBytes, parts-length, parts-few, parts-delivered}
-use borrow.Author.Needs.{needs}
 use Rattle.silencing.proofs.write_partial.Statement.{statement}
 use Rattle.silencing.proofs.write_partial.Tie as tie
 

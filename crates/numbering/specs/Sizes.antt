@@ -1,56 +1,21 @@
 -- Sizes within the limits of variables and of sizes, whatever N is: the counts of their features are small. Sizes within every limit
 -- have features whose numbers are below N, and N is small.
-use Prim.Native.Nat.{ℕ, zero, suc, _+_, _*_, _<_, _≤_}
-use mathlib.Core.Path.{_≡_, refl, ap, ap₂}
+use Prim.Native.Nat.{ℕ, suc, _+_, _*_, _<_, _≤_}
 use mathlib.Core.Logic.{_≢_}
-use mathlib.Core.List.{List, [], _∷_, map}
+use mathlib.Core.List.{List, [], _∷_}
 use native.Mathlib.Omega.{arith}
 use native.Mathlib.Nat.{mul-le-mul}
 use lib.ListN.{length}
-use Rattle.meaning.specs.Limits.{mostVariables, mostSize, mostPartialSize, mostFeatures, mostAtoms}
+use Rattle.meaning.specs.Limits.{mostVariables, mostSize, mostFeatures, mostAtoms}
 use Rattle.meaning.specs.Task.{size}
 use Rattle.meaning.specs.Feature.{sumOf, pairsOf, atoms, features, single, both}
 use Rattle.meaning.specs.File.{InLimits}
-use Rattle.meaning.specs.Partial.{builtSizes}
-use Rattle.theory.specs.PartialPairs.{built-length, built-size}
 use Rattle.theory.specs.Numbering.{atoms-room, single-below, both-below}
 
 -- What every routine of this crate asks: N is counted before it is judged.
 pub record SmallSizes (sizes : List ℕ) : Type 0 where
   pub few : length sizes ≤ mostVariables
   pub small : (i : ℕ) → i < length sizes → size sizes i ≤ mostSize
-
--- Sizes with so many values more for each variable.
-unfoldable pub widened : ℕ → List ℕ → List ℕ
-widened more sizes = map (_+_ more) sizes
-
-pub widened-none : (sizes : List ℕ) → widened 0 sizes ≡ sizes
-unfolding widened
-widened-none [] = refl
-widened-none (d ∷ ds) = ap₂ _∷_ (omega arith) (widened-none ds)
-
-pub widened-one : (sizes : List ℕ) → widened 1 sizes ≡ builtSizes sizes
-unfolding widened
-widened-one [] = refl
-widened-one (d ∷ ds) = ap₂ _∷_ (omega arith) (widened-one ds)
-
-pub widened-length : (more : ℕ) (sizes : List ℕ) → length (widened more sizes) ≡ length sizes
-unfolding widened
-widened-length more [] = refl
-widened-length more (d ∷ ds) = ap suc (widened-length more ds)
-
-pub widened-size : (more : ℕ) (sizes : List ℕ) (i : ℕ) → i < length sizes → size (widened more sizes) i ≡ more + size sizes i
-unfolding widened
-widened-size more [] i l = absurd (omega arith)
-widened-size more (d ∷ ds) zero l = refl
-widened-size more (d ∷ ds) (suc i) l = widened-size more ds i (omega arith)
-
--- What a partial file's sizes are with "unknown".
-pub built-small : (sizes : List ℕ) → length sizes ≤ mostVariables → ((i : ℕ) → i < length sizes → size sizes i ≤ mostPartialSize) → SmallSizes (builtSizes sizes)
-built-small sizes few each = record {
-  few = rw (built-length sizes) few;
-  small = λ i l. let k : i < length sizes = rw (built-length sizes) at l in rw (built-size sizes i k) (omega (arith, each i k));
-}
 
 -- ---- small counts
 

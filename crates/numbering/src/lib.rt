@@ -5,8 +5,7 @@ ghost use Prim.Native.Nat.{_^_, _<_, _≤_};
 ghost use lib.ListN.{length, take};
 ghost use Rattle.meaning.specs.Task.{size};
 ghost use Rattle.meaning.specs.Feature.{sumOf, atoms, features, single, pairStart, double, both};
-ghost use Rattle.meaning.specs.Partial.{builtSizes};
-ghost use Rattle.numbering.specs.Sizes.{SmallSizes, widened};
+ghost use Rattle.numbering.specs.Sizes.{SmallSizes};
 ghost use Rattle.numbering.specs.Starts.{startingNumbers};
 ghost use Rattle.numbering.specs.Planes.{numberIn, Spans};
 ghost use Rattle.numbering.specs.Order.{Stands, Follows, Contains, Joins};
@@ -64,37 +63,21 @@ pub fn atoms(sizes: &[u64]) -> usize
     atoms_before(sizes, sizes.len())
 }
 
-// How many features there are if each variable has so many values more: each variable adds its atoms, and its pairs with the atoms before them.
-fn features_with(sizes: &[u64], more: usize) -> usize
-    requires { ⌜ SmallSizes (widened more (now sizes)) ⌝ }
-    ensures { λ r. ⌜ r ≡ features (widened more (now (sizes .entry))) ⌝ }
+// How many features there are: N. Each variable adds its atoms, and its pairs with the atoms before them.
+pub fn features(sizes: &[u64]) -> usize
+    requires { ⌜ SmallSizes (now sizes) ⌝ }
+    ensures { λ r. ⌜ r ≡ features (now (sizes .entry)) ⌝ }
 {
     let mut atoms = 0;
     let mut pairs = 0;
     let mut j = 0;
     while j < sizes.len() {
-        let d = more + size(sizes, j);
+        let d = size(sizes, j);
         pairs += atoms * d;
         atoms += d;
         j += 1;
     }
     atoms + pairs
-}
-
-// How many features there are: N.
-pub fn features(sizes: &[u64]) -> usize
-    requires { ⌜ SmallSizes (now sizes) ⌝ }
-    ensures { λ r. ⌜ r ≡ features (now (sizes .entry)) ⌝ }
-{
-    features_with(sizes, 0)
-}
-
-// How many features there are once each variable has one value more, "unknown".
-pub fn built_features(sizes: &[u64]) -> usize
-    requires { ⌜ SmallSizes (builtSizes (now sizes)) ⌝ }
-    ensures { λ r. ⌜ r ≡ features (builtSizes (now (sizes .entry))) ⌝ }
-{
-    features_with(sizes, 1)
 }
 
 // The number of the atom that gives variable i the value x.

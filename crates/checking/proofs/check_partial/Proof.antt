@@ -5,6 +5,7 @@ use borrow.Author.Needs.{needs}
 use Rattle.meaning.specs.Limits.{mostVariables, mostFeatures}
 use Rattle.meaning.specs.Partial.{leftOut, judgedPartial}
 use Rattle.meaning.specs.Workspace.{slotsAt}
+use Rattle.order.specs.Answer.{partial-accepted, partial-refused}
 use Rattle.checking.specs.Weigh.{KnownWith, partial-with, task-refused}
 use Rattle.checking.proofs.check_partial.Statement.{statement}
 use Rattle.checking.proofs.check_partial.Tie as tie
@@ -13,7 +14,7 @@ use Rattle.checking.proofs.check_partial.Tie as tie
 known : (c : tie.After-variables) → let told = c .variables .given .0 in let bytes = c .before .before .before .before .before .before .before .args .partial .now in
     KnownWith (judgedPartial leftOut bytes) bytes (replicate (slotsAt mostVariables mostFeatures) 0) (c .before .before .before .judge .last .1 .1 .0)
     (told .0) (told .1 .0) (told .1 .1 .0) (told .1 .1 .1 .1 .0) true
-known c = partial-with _ _ _ _ _ _ _ _ (rw (c .variables .given .1) at (c .before .before .before .judge .ensures))
+known c = partial-with _ _ _ _ _ _ _ _ (partial-accepted _ _ _ _ _ (c .before .before .before .judge .ensures) _ _ _ _ _ (c .variables .given .1))
 
 slice-aggregate-judge : tie.Need-slice-aggregate-judge
 slice-aggregate-judge c = search needs
@@ -40,7 +41,7 @@ returns : tie.Need-returns
 returns c = c .weigh .ensures _ _ (known (c .before .before .before))
 
 returns-2 : tie.Need-returns-2
-returns-2 c = task-refused _ _ _ _ (rw (c .before .before .reason .given .1) at (c .before .before .before .before .before .judge .ensures)) _ (c .refusal .ensures)
+returns-2 c = task-refused _ _ _ _ (partial-refused _ _ _ _ _ (c .before .before .before .before .before .judge .ensures) _ _ (c .before .before .reason .given .1)) _ (c .refusal .ensures)
 
 pub check-partial-spec : {M : Type 1} → statement M
 check-partial-spec =

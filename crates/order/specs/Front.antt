@@ -26,7 +26,8 @@ use Rattle.task.specs.Header.{headerWords, front-header, header-room, header-pa
 use Rattle.task.specs.Answer.{FrontedAs}
 use Rattle.order.specs.Whole.{Whole, own-headed}
 
-pub front-unread : (out : Partial → ℕ → ℕ → Bool) (bytes : List ℕ) (reason : meaning.Reason) (place : ℕ) → partialFrontOf bytes 0 ≡ fault reason place → judgedPartial out bytes ≡ fault reason place
+pub front-unread : (out : Partial → ℕ → ℕ → Bool) (bytes : List ℕ) (reason : meaning.Reason) (place : ℕ) → partialFrontOf bytes 0 ≡ fault reason place
+    → judgedPartial out bytes ≡ fault reason place
 unfolding judgedPartial
 front-unread out bytes reason place e = rw (partial-front bytes 0, e) refl
 

@@ -27,16 +27,21 @@ holds-requires : tie.Need-holds-requires
 holds-requires c κs = search needs
 
 returns-2 : tie.Need-returns-2
-returns-2 c = let k = c .before .before .before in sym (last-held _ _ _ _ _ _ _ _ _ (k .count-kept .ensures) (omega (arith, few k, c .before .before .if1 .left)) (sym (c .before .holds .ensures) ∙ c .if2 .taken))
+returns-2 c = let k = c .before .before .before in
+    sym (last-held _ _ _ _ _ _ _ _ _ (k .count-kept .ensures) (omega (arith, few k, c .before .before .if1 .left)) (sym (c .before .holds .ensures) ∙ c .if2 .taken))
 
 are-closed-requires : tie.Need-are-closed-requires
 are-closed-requires c κs = search needs
 
 returns-3 : tie.Need-returns-3
-returns-3 c = let k = c .before .before .before .before .before in sym (last-unclosed _ _ _ _ _ _ _ _ _ (k .count-kept .ensures) (omega (arith, few k, c .before .before .before .before .if1 .left)) (sym (c .before .before .before .holds .ensures) ∙ c .before .before .if2 .left) (sym (c .before .are-closed .ensures) ∙ not-true _ (c .if3 .taken)))
+returns-3 c = let f = c .before .before in let k = f .before .before .before in
+    sym (last-unclosed _ _ _ _ _ _ _ _ _ (k .count-kept .ensures) (omega (arith, few k, f .before .before .if1 .left)) (sym (f .before .holds .ensures) ∙ f .if2 .left)
+    (sym (c .before .are-closed .ensures) ∙ not-true _ (c .if3 .taken)))
 
 returns-4 : tie.Need-returns-4
-returns-4 c = let k = c .before .before .before .before .before in sym (last-got _ _ _ _ _ _ _ _ _ (k .count-kept .ensures) (omega (arith, few k, c .before .before .before .before .if1 .left)) (sym (c .before .before .before .holds .ensures) ∙ c .before .before .if2 .left) (sym (c .before .are-closed .ensures) ∙ not-false _ (c .if3 .left)))
+returns-4 c = let f = c .before .before in let k = f .before .before .before in
+    sym (last-got _ _ _ _ _ _ _ _ _ (k .count-kept .ensures) (omega (arith, few k, f .before .before .if1 .left)) (sym (f .before .holds .ensures) ∙ f .if2 .left)
+    (sym (c .before .are-closed .ensures) ∙ not-false _ (c .if3 .left)))
 
 pub judge-built-spec : {M : Type 1} → statement M
 judge-built-spec =

@@ -26,7 +26,8 @@ number-requires-2 : tie.Need-number-requires-2 Inv-loop μ-loop
 number-requires-2 c κs = small-fits _ (c .before .before .before .before .before .before .pre _ (c .before .before .loop-test .taken) .1 .1)
 
 renumber-pair-requires : tie.Need-renumber-pair-requires Inv-loop μ-loop
-renumber-pair-requires c κs = let (low, high) = c .before .before .before .before .before .before .before .pre _ (c .before .before .before .loop-test .taken) in (rw (c .before .before .number .ensures) (low .0), rw (c .number2 .ensures, length-next _ _ _ (c .before .before .before .before .loop .inv .1)) (high .0))
+renumber-pair-requires c κs = let t = c .before .before .before in let (low, high) = t .before .before .before .before .pre _ (t .loop-test .taken) in
+    (rw (c .before .before .number .ensures) (low .0), rw (c .number2 .ensures, length-next _ _ _ (t .before .loop .inv .1)) (high .0))
 
 add-y : tie.Need-add-y Inv-loop μ-loop
 add-y c = omega arith
@@ -35,7 +36,8 @@ loop-less : tie.Need-loop-less Inv-loop μ-loop
 loop-less c = omega arith
 
 loop-again : tie.Need-loop-again Inv-loop μ-loop
-loop-again c = (omega arith, toggled-turn _ _ _ _ _ (c .before .before .before .before .before .before .before .loop .inv .1) (rw (← c .before .before .before .before .before .number .ensures, ← c .before .before .before .number2 .ensures) (c .before .before .renumber-pair .ensures)))
+loop-again c = let n = c .before .before .before in
+    (omega arith, toggled-turn _ _ _ _ _ (n .before .before .before .before .loop .inv .1) (rw (← n .before .before .number .ensures, ← n .number2 .ensures) (c .before .before .renumber-pair .ensures)))
 
 same-length : tie.Need-same-length Inv-loop μ-loop
 same-length c = length-next _ _ _ (c .before .loop .inv .1)

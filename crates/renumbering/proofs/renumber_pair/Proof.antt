@@ -19,7 +19,8 @@ same-length : tie.Need-same-length
 same-length c = search needs
 
 returns-2 : tie.Need-returns-2
-returns-2 c = rw (sym (c .before .before .before .before .before .has .ensures) ∙ not-false _ (c .before .before .before .before .if1 .left)) (c .before .before .toggle .ensures ∙ sym (toggled-one _ _))
+returns-2 c = let s = c .before .before .before .before in
+    rw (sym (s .before .has .ensures) ∙ not-false _ (s .if1 .left)) (c .before .before .toggle .ensures ∙ sym (toggled-one _ _))
 
 pub renumber-pair-spec : {M : Type 1} → statement M
 renumber-pair-spec =

@@ -20,7 +20,8 @@ loop-holds : tie.Need-loop-holds Inv-loop μ-loop
 loop-holds c = (omega arith, toggled-start _ _)
 
 renumber-block-requires : tie.Need-renumber-block-requires Inv-loop μ-loop
-renumber-block-requires c κs = let p = c .before .before .before .before .before .before .before .pre in (renumbers-next _ _ _ _ _ _ (p .0) (c .before .before .loop .inv .1), p .1, c .before .loop-test .taken)
+renumber-block-requires c κs = let p = c .before .before .before .before .before .before .before .pre in
+    (renumbers-next _ _ _ _ _ _ (p .0) (c .before .before .loop .inv .1), p .1, c .before .loop-test .taken)
 
 add-j : tie.Need-add-j Inv-loop μ-loop
 add-j c = omega arith

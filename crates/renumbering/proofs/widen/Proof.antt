@@ -41,7 +41,9 @@ loop-less : tie.Need-loop-less Inv-loop μ-loop
 loop-less c = omega arith
 
 loop-again : tie.Need-loop-again Inv-loop μ-loop
-loop-again c = let s = c .before .before .before in written-next _ _ _ _ _ (s .pre .1 ∙ sym (built-length (s .args .sizes .now))) (c .before .before .loop .inv) (omega arith) (add-one _ ∙ sym (built-size (s .args .sizes .now) _ (c .before .loop-test .taken)))
+loop-again c = let s = c .before .before .before in
+    written-next _ _ _ _ _ (s .pre .1 ∙ sym (built-length (s .args .sizes .now))) (c .before .before .loop .inv) (omega arith)
+    (add-one _ ∙ sym (built-size (s .args .sizes .now) _ (c .before .loop-test .taken)))
 
 same-length : tie.Need-same-length Inv-loop μ-loop
 same-length c = c .before .loop .inv .1

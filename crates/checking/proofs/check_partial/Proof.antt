@@ -1,5 +1,5 @@
 -- `check_partial`: what is known of the task that is built goes to `weigh`; a refusal is answered by its number.
-use mathlib.Core.Bool.{true, false}
+use mathlib.Core.Bool.{true}
 use lib.ListN.{replicate}
 use borrow.Author.Needs.{needs}
 use Rattle.meaning.specs.Limits.{mostVariables, mostFeatures}

@@ -29,9 +29,9 @@ use Rattle.writer.specs.Front.{frontBytes, task-front, sizes-countable, state-c
 use Rattle.completing.specs.Parts.{keptBytes, operatorsBytes, BuiltParts, builtBytes}
 
 -- A partial file that is refused.
-pub partial-refused : (lean : Bool) (bytes room : List ℕ) (reason : Reason) (place : ℕ) (outcome : Outcome ℕ) → judgedPartial (outFor lean) bytes ≡ fault reason place
+pub build-refused : (lean : Bool) (bytes room : List ℕ) (reason : Reason) (place : ℕ) (outcome : Outcome ℕ) → judgedPartial (outFor lean) bytes ≡ fault reason place
     → outcome ≡ refuses reason room → BuildsBy (outFor lean) bytes room outcome
-partial-refused lean bytes room reason place outcome e q = rw e q
+build-refused lean bytes room reason place outcome e q = rw e q
 
 module _ (lean : Bool) (bytes words left : List ℕ) (v n count kept at : ℕ) (known : KnownPartial lean bytes words left v n count kept at) where
   abbrev T : Task

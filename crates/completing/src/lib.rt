@@ -6,13 +6,15 @@ ghost use lib.ListN.{length, take, drop};
 ghost use Rattle.meaning.specs.Limits.{numberEnd};
 ghost use Rattle.meaning.specs.Task.{State};
 ghost use Rattle.meaning.specs.Answer.{delivered};
-ghost use Rattle.meaning.specs.Partial.{BuildsBy};
+ghost use Rattle.meaning.specs.Partial.{BuildsBy, BuildsPartial, BuildsPartialLean};
 ghost use Rattle.theory.specs.PartialParts.{outFor};
 ghost use Rattle.pairs.specs.Ready.{Listed};
 ghost use Rattle.order.specs.Answer.{KnownPartial};
 ghost use Rattle.writer.specs.Answer.{outcomeOf};
 ghost use Rattle.completing.specs.Parts.{keptBytes, operatorsBytes, BuiltParts, builtBytes};
+use limits::HEADER_WORDS;
 use number::Reason;
+use order::Judged;
 use writer::Written;
 
 // Writes the forgetting operators that are kept, by variable and value.
@@ -116,4 +118,45 @@ fn complete(
         lean,
         room,
     )
+}
+
+// Builds the task of a partial file: the file is judged wholly, then 8.
+fn build(partial: &[u8], lean: bool, room: &mut [u8]) -> Written
+    ensures { λ r. ⌜ BuildsBy (outFor lean) (now (partial .entry)) (now (room .entry)) (outcomeOf r (now (room .exit))) ⌝ }
+{
+    let mut header = [0u64; HEADER_WORDS];
+    match order::judge(partial, lean, &mut header) {
+        Judged::Accepted {
+            variables,
+            features,
+            operators,
+            kept,
+            at,
+        } => complete(
+            partial,
+            &header,
+            variables,
+            features,
+            operators,
+            kept,
+            at,
+            lean,
+            room,
+        ),
+        Judged::Refused(reason, _) => writer::refuse(reason),
+    }
+}
+
+// Builds the task of a partial file, with what section 5.2 of source 002 permits left out.
+pub fn build_partial(partial: &[u8], room: &mut [u8]) -> Written
+    ensures { λ r. ⌜ BuildsPartial (now (partial .entry)) (now (room .entry)) (outcomeOf r (now (room .exit))) ⌝ }
+{
+    build(partial, false, room)
+}
+
+// Builds the lean task of a partial file: no value of a variable that is named is forgotten.
+pub fn build_partial_lean(partial: &[u8], room: &mut [u8]) -> Written
+    ensures { λ r. ⌜ BuildsPartialLean (now (partial .entry)) (now (room .entry)) (outcomeOf r (now (room .exit))) ⌝ }
+{
+    build(partial, true, room)
 }

@@ -26,7 +26,7 @@ use reader::Header;
 const MARK_END: usize = 2;
 
 // N of the built task, by the file's own sizes.
-fn built_features(sizes: &[u64]) -> usize
+pub fn built_features(sizes: &[u64]) -> usize
     requires { ⌜ Within mostPartialSize (now sizes) ⌝ }
     ensures { λ r. ⌜ r ≡ features (builtSizes (now (sizes .entry))) ⌝ }
 {

@@ -10,7 +10,7 @@ ghost use Rattle.silencing.specs.Parts.{Front, partsBytes, pairsPlace};
 ghost use Rattle.silencing.specs.Answer.{Parted, Silent};
 use limits::HEADER_WORDS;
 use limits::MOST_FEATURES;
-use limits::MOST_SIZE;
+use limits::MOST_PARTIAL_SIZE;
 use limits::MOST_VARIABLES;
 use number::Reason;
 use task::Judged;
@@ -36,7 +36,7 @@ fn are_roomy(sizes: &[u64]) -> bool
 {
     let mut i = 0;
     while i < sizes.len() {
-        if MOST_SIZE <= numbering::size(sizes, i) {
+        if MOST_PARTIAL_SIZE < numbering::size(sizes, i) {
             return false;
         }
         i += 1;
@@ -129,7 +129,7 @@ fn silence_judged(
     if !are_roomy(sizes) {
         return writer::refuse(Reason::Outgrown);
     }
-    if MOST_FEATURES < numbering::built_features(sizes) {
+    if MOST_FEATURES < partial::built_features(sizes) {
         return writer::refuse(Reason::Outgrown);
     }
     deliver(task, sizes, start, goal, marks, room)

@@ -7,8 +7,8 @@ use borrow.Author.Tests.{not-true, not-false}
 use borrow.Author.Needs.{needs}
 use Rattle.meaning.specs.Number.{Range, Outgrown}
 use Rattle.theory.specs.Spent.{Bytes}
-use Rattle.numbering.specs.Sizes.{built-small}
 use Rattle.writer.specs.Answer.{refused-so}
+use Rattle.reader.specs.Header.{Within}
 use Rattle.silencing.specs.Marks.{areMarks, areRoomy, are-roomy}
 use Rattle.silencing.specs.Answer.{parted-limits, parted-silent, silence-refused, wrong-number, wrong-mark, no-room, too-many, silence-delivered}
 use Rattle.silencing.proofs.silence_judged.Statement.{statement}
@@ -67,8 +67,11 @@ returns-3 c =
 
 built-features-requires : tie.Need-built-features-requires
 built-features-requires c κs =
-    let s = start (c .before) in
-    built-small (s .args .sizes .now) (parted-limits (s .args .task .now) (s .args .sizes .now) (s .args .start .now) (s .args .goal .now) (s .pre) .variables .1) (are-roomy (s .args .sizes .now) (sym (c .before .are-roomy .ensures) ∙ not-false _ (c .if3 .left)))
+    let a = start (c .before) .args in
+    record {
+      few = parted-limits (a .task .now) (a .sizes .now) (a .start .now) (a .goal .now) (start (c .before) .pre) .variables .1;
+      small = are-roomy (a .sizes .now) (sym (c .before .are-roomy .ensures) ∙ not-false _ (c .if3 .left));
+    }
 
 refuse-requires-4 : tie.Need-refuse-requires-4
 refuse-requires-4 c κs = search needs

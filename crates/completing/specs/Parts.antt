@@ -154,9 +154,9 @@ module _ (count kept : ℕ) (own sizes start goal pairs : List ℕ) (lean : Bool
   builtBytes = frontBytes sizes start goal (membersIn pairs) ++ operatorsBytes (count + kept) own sizes pairs goal lean
 
   module _ (parts : BuiltParts count kept sizes start goal pairs lean) where
-    pub built-length : length builtBytes ≡ length (frontBytes sizes start goal (membersIn pairs)) + (length (numberBytes (count + kept)) + length own + 4 * kept)
+    pub file-length : length builtBytes ≡ length (frontBytes sizes start goal (membersIn pairs)) + (length (numberBytes (count + kept)) + length own + 4 * kept)
     unfolding builtBytes
-    built-length = omega (
+    file-length = omega (
       arith,
       length-append (frontBytes sizes start goal (membersIn pairs)) (operatorsBytes (count + kept) own sizes pairs goal lean),
       operators-length (count + kept) own sizes pairs goal lean,
@@ -164,12 +164,12 @@ module _ (count kept : ℕ) (own sizes start goal pairs : List ℕ) (lean : Bool
     )
 
     -- The whole is short but for the file's operators.
-    pub built-few : length builtBytes ≤ 16 * numberEnd + length own
-    built-few = omega (arith, built-length, front-few sizes start goal pairs (parts .front), number-bytes-length (count + kept) .1, parts .countable)
+    pub file-few : length builtBytes ≤ 16 * numberEnd + length own
+    file-few = omega (arith, file-length, front-few sizes start goal pairs (parts .front), number-bytes-length (count + kept) .1, parts .countable)
 
-    pub built-delivered : (room room₁ room₂ : List ℕ) (next end : ℕ) → length builtBytes ≤ length room
+    pub file-delivered : (room room₁ room₂ : List ℕ) (next end : ℕ) → length builtBytes ≤ length room
         → next ≡ length (frontBytes sizes start goal (membersIn pairs)) → room₁ ≡ frontBytes sizes start goal (membersIn pairs) ++ drop next room
         → end ≡ next + length (operatorsBytes (count + kept) own sizes pairs goal lean) → room₂ ≡ take next room₁ ++ (operatorsBytes (count + kept) own sizes pairs goal lean ++ drop end room₁)
         → outcomeOf (Done end) room₂ ≡ delivered builtBytes room
     unfolding builtBytes
-    built-delivered room room₁ room₂ next end fit p₁ w₁ p₂ w₂ = parts-delivered builtBytes (frontBytes sizes start goal (membersIn pairs)) (operatorsBytes (count + kept) own sizes pairs goal lean) room room₁ room₂ next end refl fit p₁ w₁ p₂ w₂
+    file-delivered room room₁ room₂ next end fit p₁ w₁ p₂ w₂ = parts-delivered builtBytes (frontBytes sizes start goal (membersIn pairs)) (operatorsBytes (count + kept) own sizes pairs goal lean) room room₁ room₂ next end refl fit p₁ w₁ p₂ w₂

@@ -20,7 +20,7 @@ use Rattle.theory.specs.Accepted.{accepted, accepted-bytes}
 use Rattle.writer.specs.Parts.{Countable}
 use Rattle.writer.specs.Front.{sizes-countable, state-countable}
 use Rattle.silencing.specs.Marks.{areMarks, areRoomy, Marked, are-marked, judgedBy, marks-judged, picked, picked-in}
-use Rattle.silencing.specs.Parts.{Front, pairsPlace, partsBytes, place-within, silenced-bytes}
+use Rattle.silencing.specs.Parts.{PartialFront, pairsPlace, partsBytes, place-within, silenced-bytes}
 
 -- A task that was accepted, by its file and its parts.
 pub record Parted (bytes sizes start goal : List ℕ) : Type 0 where
@@ -42,7 +42,7 @@ pub record Silent (bytes sizes start goal marks : List ℕ) : Type 0 where
 
 module _ {bytes sizes start goal marks : List ℕ} (silent : Silent bytes sizes start goal marks) where
   -- The front with the goal values that are named can be written.
-  pub silent-front : (named : List ℕ) → length named ≤ length marks → named ≡ picked marks goal → Front sizes marks start named
+  pub silent-front : (named : List ℕ) → length named ≤ length marks → named ≡ picked marks goal → PartialFront sizes marks start named
   silent-front named few e = (
     silent .sizes-fit,
     omega (arith, silent .few, silent .marked .long),

@@ -30,8 +30,8 @@ unfoldable pub partsBytes : List ℕ → List ℕ → List ℕ → List ℕ → 
 partsBytes sizes marks start named rest = counted numberBytes sizes ++ (marks ++ (bytesOf numberBytes start ++ (bytesOf numberBytes named ++ rest)))
 
 -- What can be written so.
-abbrev pub Front : List ℕ → List ℕ → List ℕ → List ℕ → Type 0
-Front sizes marks start named = Countable sizes × (length marks < numberEnd) × Countable start × Countable named
+abbrev pub PartialFront : List ℕ → List ℕ → List ℕ → List ℕ → Type 0
+PartialFront sizes marks start named = Countable sizes × (length marks < numberEnd) × Countable start × Countable named
 
 module _ (sizes marks start named rest : List ℕ) where
   pub parts-length : length (partsBytes sizes marks start named rest)
@@ -48,12 +48,12 @@ module _ (sizes marks start named rest : List ℕ) where
       )
 
   -- A front is short.
-  pub parts-few : Front sizes marks start named → length (partsBytes sizes marks start named rest) ≤ 8 * numberEnd + length rest
+  pub parts-few : PartialFront sizes marks start named → length (partsBytes sizes marks start named rest) ≤ 8 * numberEnd + length rest
   parts-few (s, m, b, n) = omega (arith, parts-length, list-few sizes, numbers-few start, numbers-few named, s .0, m, b .0, n .0)
 
   -- Parts that were written one after the other are the whole file.
   module _ (room room₁ room₂ room₃ room₄ room₅ : List ℕ) (second third fourth fifth end : ℕ) where
-    pub parts-delivered : length (partsBytes sizes marks start named rest) ≤ length room
+    pub partial-delivered : length (partsBytes sizes marks start named rest) ≤ length room
         → (second ≡ 0 + length (counted numberBytes sizes)) × (room₁ ≡ take 0 room ++ (counted numberBytes sizes ++ drop second room))
         → (third ≡ second + length marks) × (room₂ ≡ take second room₁ ++ (marks ++ drop third room₁))
         → (fourth ≡ third + length (bytesOf numberBytes start)) × (room₃ ≡ take third room₂ ++ (bytesOf numberBytes start ++ drop fourth room₂))
@@ -61,7 +61,7 @@ module _ (sizes marks start named rest : List ℕ) where
         → (end ≡ fifth + length rest) × (room₅ ≡ take fifth room₄ ++ (rest ++ drop end room₄))
         → outcomeOf (Done end) room₅ ≡ delivered (partsBytes sizes marks start named rest) room
     unfolding partsBytes
-    parts-delivered fit a b c d e =
+    partial-delivered fit a b c d e =
         let file = partsBytes sizes marks start named rest in
         let r₁ = remains-after (remains-all room 0 file (omega arith)) (counted numberBytes sizes) _ room₁ second refl (a .0) (a .1) in
         let r₂ = remains-after r₁ marks _ room₂ third refl (b .0) (b .1) in

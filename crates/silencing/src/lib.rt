@@ -6,7 +6,7 @@ ghost use Rattle.meaning.specs.Answer.{delivered};
 ghost use Rattle.meaning.specs.Partial.{Silences};
 ghost use Rattle.writer.specs.Answer.{outcomeOf};
 ghost use Rattle.silencing.specs.Marks.{areMarks, areRoomy, Marked, picked};
-ghost use Rattle.silencing.specs.Parts.{Front, partsBytes, pairsPlace};
+ghost use Rattle.silencing.specs.Parts.{PartialFront, partsBytes, pairsPlace};
 ghost use Rattle.silencing.specs.Answer.{Parted, Silent};
 use limits::HEADER_WORDS;
 use limits::MOST_FEATURES;
@@ -68,7 +68,7 @@ fn write_partial(
     rest: &[u8],
     room: &mut [u8],
 ) -> Written
-    requires { ⌜ Front (now sizes) (now marks) (now start) (now named) ⌝ }
+    requires { ⌜ PartialFront (now sizes) (now marks) (now start) (now named) ⌝ }
     ensures { λ r. ⌜ outcomeOf r (now (room .exit))
         ≡ delivered (partsBytes (now (sizes .entry)) (now (marks .entry)) (now (start .entry)) (now (named .entry)) (now (rest .entry))) (now (room .entry)) ⌝ }
 {

@@ -35,7 +35,7 @@ returns : tie.Need-returns
 returns c = search needs
 
 returns-2 : tie.Need-returns-2
-returns-2 c = 
+returns-2 c =
     let a = c .before .before .before .before .before .before .before .before .before .args in
     let reason = reasonOf (c .before .before .reason .given .0 .0) in
     build-refused (a .lean) (a .partial .now) (a .room .now) _ _ _ (partial-refused _ _ _ _ _ (c .before .before .before .before .before .judge .ensures) _ _ (c .before .before .reason .given .1)) (refused-so (c .refuse .result) reason _ (c .refuse .ensures))

@@ -9,7 +9,7 @@ use Rattle.meaning.specs.Limits.{numberEnd}
 use Rattle.meaning.specs.Number.{Small}
 use Rattle.writer.specs.Answer.{refused-so}
 use Rattle.writer.specs.Remains.{delivered-small}
-use Rattle.completing.specs.Parts.{one-triples, one-width, builtBytes, operators-length, built-length, built-few, built-delivered}
+use Rattle.completing.specs.Parts.{one-triples, one-width, builtBytes, operators-length, file-length, file-few, file-delivered}
 use Rattle.completing.proofs.write_built.Statement.{statement}
 use Rattle.completing.proofs.write_built.Tie as tie
 
@@ -26,10 +26,10 @@ each c = ap (λ n. n * start c .args .kept) (c .before .operator-width .ensures 
 whole : (c : tie.After-width) → length (file (start c))
     ≡ c .before .before .before .before .before .front-width .result + (c .width .result + length (start c .args .own .now) + c .before .operator-width .result * start c .args .kept)
 whole c = let a = start c .args in
-    omega (arith, built-length (a .count) (a .kept) (a .own .now) (a .sizes .now) (a .start .now) (a .goal .now) (a .pairs .now) (a .lean) (start c .pre), c .before .before .before .before .before .front-width .ensures, c .width .ensures, each c)
+    omega (arith, file-length (a .count) (a .kept) (a .own .now) (a .sizes .now) (a .start .now) (a .goal .now) (a .pairs .now) (a .lean) (start c .pre), c .before .before .before .before .before .front-width .ensures, c .width .ensures, each c)
 
 few : (s : tie.Start) → length (file s) ≤ 16 * numberEnd + length (s .args .own .now)
-few s = let a = s .args in built-few (a .count) (a .kept) (a .own .now) (a .sizes .now) (a .start .now) (a .goal .now) (a .pairs .now) (a .lean) (s .pre)
+few s = let a = s .args in file-few (a .count) (a .kept) (a .own .now) (a .sizes .now) (a .start .now) (a .goal .now) (a .pairs .now) (a .lean) (s .pre)
 
 front-width-requires : tie.Need-front-width-requires
 front-width-requires c κs = search needs
@@ -95,7 +95,7 @@ returns-2 c =
     let a = s .args in
     let w = c .before .before .before .before .before .before .write-front .ensures in
     let v = c .before .before .write-operators .ensures in
-    built-delivered (a .count) (a .kept) (a .own .now) (a .sizes .now) (a .start .now) (a .goal .now) (a .pairs .now) (a .lean) (s .pre) (a .room .now) _ _ _ _ (omega (arith, whole (c .before .before .before .before .before .before .before .before .before), c .before .before .before .before .before .before .before .before .if1 .left)) (w .0) (w .1) (v .0) (v .1)
+    file-delivered (a .count) (a .kept) (a .own .now) (a .sizes .now) (a .start .now) (a .goal .now) (a .pairs .now) (a .lean) (s .pre) (a .room .now) _ _ _ _ (omega (arith, whole (c .before .before .before .before .before .before .before .before .before), c .before .before .before .before .before .before .before .before .if1 .left)) (w .0) (w .1) (v .0) (v .1)
 
 pub write-built-spec : {M : Type 1} → statement M
 write-built-spec =

@@ -10,7 +10,7 @@ use Rattle.meaning.specs.Number.{Small}
 use Rattle.writer.specs.Answer.{refused-so}
 use Rattle.writer.specs.Widths.{list-few, numbers-few}
 use Rattle.writer.specs.Remains.{delivered-small}
-use Rattle.silencing.specs.Parts.{partsBytes, parts-length, parts-few, parts-delivered}
+use Rattle.silencing.specs.Parts.{partsBytes, parts-length, parts-few, partial-delivered}
 use Rattle.silencing.proofs.write_partial.Statement.{statement}
 use Rattle.silencing.proofs.write_partial.Tie as tie
 
@@ -75,7 +75,7 @@ same-length : tie.Need-same-length
 same-length c = search needs
 
 returns-2 : tie.Need-returns-2
-returns-2 c = let s = start (c .before .before .before .before .before .before .before .before .before .before .before .before .before .before .before .before .before .before .before .before .before) in parts-delivered _ _ _ _ _ (s .args .room .now) _ _ _ _ _ _ _ _ _ _ (omega (arith, whole (c .before .before .before .before .before .before .before .before .before .before .before .before .before .before .before .before .before .before .before .before .before), c .before .before .before .before .before .before .before .before .before .before .before .before .before .before .before .before .before .before .before .before .if1 .left)) (c .before .before .before .before .before .before .before .before .before .before .before .before .before .before .before .before .before .before .write-list .ensures) (c .before .before .before .before .before .before .before .before .before .before .before .before .before .before .write-bytes .ensures) (c .before .before .before .before .before .before .before .before .before .before .write-numbers .ensures) (c .before .before .before .before .before .before .write-numbers2 .ensures) (c .before .before .write-bytes2 .ensures)
+returns-2 c = let s = start (c .before .before .before .before .before .before .before .before .before .before .before .before .before .before .before .before .before .before .before .before .before) in partial-delivered _ _ _ _ _ (s .args .room .now) _ _ _ _ _ _ _ _ _ _ (omega (arith, whole (c .before .before .before .before .before .before .before .before .before .before .before .before .before .before .before .before .before .before .before .before .before), c .before .before .before .before .before .before .before .before .before .before .before .before .before .before .before .before .before .before .before .before .if1 .left)) (c .before .before .before .before .before .before .before .before .before .before .before .before .before .before .before .before .before .before .write-list .ensures) (c .before .before .before .before .before .before .before .before .before .before .before .before .before .before .write-bytes .ensures) (c .before .before .before .before .before .before .before .before .before .before .write-numbers .ensures) (c .before .before .before .before .before .before .write-numbers2 .ensures) (c .before .before .write-bytes2 .ensures)
 
 pub write-partial-spec : {M : Type 1} → statement M
 write-partial-spec =

@@ -1,10 +1,7 @@
 -- `weight_file` refuses words that have a feature out of range, and otherwise delivers the set of the words that can have one in range.
-use Prim.Native.Nat.{ℕ, _-_}
-use mathlib.Core.Path.{_≡_, sym, ap, _∙_, subst}
-use mathlib.Core.List.{List}
+use mathlib.Core.Path.{refl, sym, ap, _∙_, subst}
 use native.Mathlib.Omega.{arith}
-use lib.ListN.{length, drop, length-drop, take}
-use lib.Seq.{length-take-le, take-all}
+use lib.Seq.{length-take-le}
 use borrow.Author.Needs.{needs}
 use borrow.Author.Tests.{not-true, not-false}
 use Rattle.meaning.specs.Number.{Range}
@@ -12,14 +9,12 @@ use Rattle.theory.specs.Tells.{Tells, tells-no}
 use Rattle.words.specs.Next.{Empty}
 use Rattle.words.specs.Members.{membersIn, members-front}
 use Rattle.writer.specs.Answer.{refused-so}
+use Rattle.writer.specs.Copied.{lent-behind}
 use Rattle.writer.specs.Weights.{weightsWritten}
 use Rattle.writer.specs.Judging.{weights-refused}
 use Rattle.writer.specs.Sets.{mostWords, outside-range, in-range-behind}
 use Rattle.writer.proofs.weight_file.Statement.{statement}
 use Rattle.writer.proofs.weight_file.Tie as tie
-
-behind : (words : List ℕ) → take (length words - mostWords) (drop mostWords words) ≡ drop mostWords words
-behind words = take-all (length words - mostWords) (drop mostWords words) (omega (arith, length-drop mostWords words))
 
 -- Where the call began, seen from the test of the words behind the most.
 abbrev start : tie.After-is-empty → tie.Start
@@ -53,7 +48,7 @@ returns-2 : tie.Need-returns-2
 returns-2 c =
     let a = start (c .before .before) .args in
     let words = a .words .now in
-    let none = tells-no (subst (λ l. Tells (c .before .before .is-empty .result) (Empty l)) (behind words) (c .before .before .is-empty .ensures)) (not-true _ (c .before .if2 .taken)) in
+    let none = tells-no (subst (λ l. Tells (c .before .before .is-empty .result) (Empty l)) (lent-behind words mostWords mostWords refl) (c .before .before .is-empty .ensures)) (not-true _ (c .before .if2 .taken)) in
     refused-so (c .refuse .result) Range (a .room .now) (c .refuse .ensures) ∙ sym (weights-refused (membersIn words) (a .room .now) _ (outside-range words (λ h. none (in-range-behind words h))))
 
 slice-aggregate-deliver-set : tie.Need-slice-aggregate-deliver-set
@@ -69,7 +64,7 @@ returns-3 : tie.Need-returns-3
 returns-3 c =
     let a = start (c .before .before .before .before .before .before) .args in
     let words = a .words .now in
-    let empty = subst Empty (behind words) (c .before .before .before .before .before .before .is-empty .ensures .yes (not-false _ (c .before .before .before .before .before .if2 .left))) in
+    let empty = subst Empty (lent-behind words mostWords mostWords refl) (c .before .before .before .before .before .before .is-empty .ensures .yes (not-false _ (c .before .before .before .before .before .if2 .left))) in
     c .before .before .deliver-set2 .ensures ∙ ap (λ l. weightsWritten l (a .room .now)) (members-front mostWords words empty)
 
 pub weight-file-spec : {M : Type 1} → statement M

@@ -17,7 +17,8 @@ use Rattle.meaning.specs.Partial.{Partial, forgettings, builtTask, judgedPartia
 use Rattle.theory.specs.Run.{members, members-listed, run-wider}
 use Rattle.theory.specs.Spent.{Bytes}
 use Rattle.theory.specs.Parts.{operators-said}
-use Rattle.theory.specs.PartialFile.{bytes-join, accepted-partial}
+use Rattle.theory.specs.BytesOf.{bytes-join}
+use Rattle.theory.specs.PartialFile.{accepted-partial}
 use Rattle.theory.specs.PartialParts.{operators-copied, forgettings-width, outFor}
 use Rattle.words.specs.Members.{membersIn}
 use Rattle.layout.specs.Parts.{sizesPart, startPart, goalPart, pairsPart}

@@ -9,7 +9,7 @@ silence-requires : tie.Need-silence-requires
 silence-requires c κs = search needs
 
 written-number-requires : tie.Need-written-number-requires
-written-number-requires c κs = let start = c .before .before .before .before .before .before .args in
+written-number-requires c κs = let start = c .before .before .before .before .before .before .before .args in
     silences-fit (start .task .now) (start .marks .now) (start .room .now) (outcomeOf (c .before .before .silence .result) _) (c .before .before .silence .ensures)
 
 same-length : tie.Need-same-length

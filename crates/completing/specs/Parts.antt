@@ -37,20 +37,23 @@ operatorsBytes count own sizes pairs goal lean = numberBytes count ++ (own ++ ke
 -- ---- the walk
 
 module _ (sizes pairs goal : List ℕ) (lean : Bool) where
+  abbrev out : ℕ → ℕ → Bool
+  out = outBy sizes (has pairs) goal lean
+
   abbrev kept : List Operator
   kept = keptIn sizes (has pairs) goal lean
 
   -- The walk stands at one that is kept, k come before it, and from it on they are still to be written.
   pub record Writing (room₀ : List ℕ) (at : ℕ) (room : List ℕ) (next : ℕ) (r : Kept) : Type 0 where
     pub k : ℕ
-    pub stands : Stands sizes (outBy sizes (has pairs) goal lean) r k
+    pub stands : Stands sizes out r k
     pub remains : Remains room₀ at (keptBytes sizes pairs goal lean) room next (bytesOf operatorBytes (drop k kept))
 
   -- How many are left.
   abbrev pub leftFrom : Kept → ℕ
-  leftFrom r = length kept - length (keptBefore sizes (outBy sizes (has pairs) goal lean) (r .variable) (r .value))
+  leftFrom r = length kept - length (keptBefore sizes out (r .variable) (r .value))
 
-  pub writing-first : (room : List ℕ) (at : ℕ) (r : Kept) → at + length (keptBytes sizes pairs goal lean) ≤ length room → Found sizes (outBy sizes (has pairs) goal lean) 0 0 r
+  pub writing-first : (room : List ℕ) (at : ℕ) (r : Kept) → at + length (keptBytes sizes pairs goal lean) ≤ length room → Found sizes out 0 0 r
       → Writing room at room at r
   unfolding keptBytes
   writing-first room at r fit found = record { k = 0; stands = stands-first _ _ r found; remains = remains-all room at _ fit }
@@ -72,14 +75,14 @@ module _ (sizes pairs goal : List ℕ) (lean : Bool) where
       writing-fits = part-fits (w .remains) one _ split
 
       pub writing-next : (room' : List ℕ) (after : ℕ) (r' : Kept) → after ≡ next + length one → room' ≡ take next room ++ (one ++ drop after room)
-          → Found sizes (outBy sizes (has pairs) goal lean) (r .variable) (r .value + 1) r' → Writing room₀ at room' after r'
+          → Found sizes out (r .variable) (r .value + 1) r' → Writing room₀ at room' after r'
       writing-next room' after r' p v found = record {
         k = w .k + 1;
         stands = stands-next _ _ r (w .k) (w .stands) r' l found;
         remains = remains-after (w .remains) one _ room' after split p v;
       }
 
-    pub writing-less : r .variable < length sizes → (r' : Kept) → Found sizes (outBy sizes (has pairs) goal lean) (r .variable) (r .value + 1) r' → leftFrom r' < leftFrom r
+    pub writing-less : r .variable < length sizes → (r' : Kept) → Found sizes out (r .variable) (r .value + 1) r' → leftFrom r' < leftFrom r
     writing-less l r' found =
         omega (arith, w .stands .before, stands-below _ _ r (w .k) (w .stands) l, stands-next _ _ r (w .k) (w .stands) r' l found .before)
 
@@ -98,7 +101,7 @@ kept-triples sizes i x unknown limits l h known = let small = limits .each i l .
 
 -- ---- the whole
 
--- What is asked of the parts of a built task: the file's operators, and so many forgetting ones, of four bytes each.
+-- What is asked of the parts of a built task with so many operators of the file and so many forgetting ones: these have four bytes each.
 pub record BuiltParts (count kept : ℕ) (sizes start goal pairs : List ℕ) (lean : Bool) : Type 0 where
   pub front : Front sizes start goal pairs
   pub ready : Listed sizes pairs

@@ -17,6 +17,9 @@ use Rattle.completing.proofs.write_built.Tie as tie
 abbrev start : tie.After-width → tie.Start
 start c = c .before .before .before .before .before .before .before .before .before .before .before .before
 
+abbrev front : tie.After-width → tie.After-front-width
+front c = c .before .before .before .before .before
+
 abbrev file : tie.Start → List ℕ
 file s = let a = s .args in builtBytes (a .count) (a .kept) (a .own .now) (a .sizes .now) (a .start .now) (a .goal .now) (a .pairs .now) (a .lean)
 
@@ -24,9 +27,9 @@ each : (c : tie.After-width) → c .before .operator-width .result * start c .ar
 each c = ap (λ n. n * start c .args .kept) (c .before .operator-width .ensures ∙ one-width)
 
 whole : (c : tie.After-width) → length (file (start c))
-    ≡ c .before .before .before .before .before .front-width .result + (c .width .result + length (start c .args .own .now) + c .before .operator-width .result * start c .args .kept)
+    ≡ front c .front-width .result + (c .width .result + length (start c .args .own .now) + c .before .operator-width .result * start c .args .kept)
 whole c = let a = start c .args in
-    omega (arith, file-length (a .count) (a .kept) (a .own .now) (a .sizes .now) (a .start .now) (a .goal .now) (a .pairs .now) (a .lean) (start c .pre), c .before .before .before .before .before .front-width .ensures, c .width .ensures, each c)
+    omega (arith, file-length (a .count) (a .kept) (a .own .now) (a .sizes .now) (a .start .now) (a .goal .now) (a .pairs .now) (a .lean) (start c .pre), front c .front-width .ensures, c .width .ensures, each c)
 
 few : (s : tie.Start) → length (file s) ≤ 16 * numberEnd + length (s .args .own .now)
 few s = let a = s .args in file-few (a .count) (a .kept) (a .own .now) (a .sizes .now) (a .start .now) (a .goal .now) (a .pairs .now) (a .lean) (s .pre)
@@ -78,12 +81,25 @@ add-write-operators c = search needs
 
 write-operators-requires : tie.Need-write-operators-requires
 write-operators-requires c κs =
-    let s = start (c .before .before .before .before .before .before) in
+    let written = c .before .before .before in
+    let tested = written .before .before in
+    let widths = tested .before in
+    let s = start widths in
     let a = s .args in (
       s .pre .countable,
       s .pre .ready,
       s .pre .is-goal,
-      omega (arith, operators-length (a .count + a .kept) (a .own .now) (a .sizes .now) (a .pairs .now) (a .goal .now) (a .lean), s .pre .width, each (c .before .before .before .before .before .before), c .before .before .before .before .before .before .width .ensures, c .before .before .before .before .before .before .before .before .before .before .before .front-width .ensures, c .before .before .before .write-front .ensures .0, c .before .before .before .write-front .kept, c .before .before .before .before .before .if1 .left),
+      omega (
+        arith,
+        operators-length (a .count + a .kept) (a .own .now) (a .sizes .now) (a .pairs .now) (a .goal .now) (a .lean),
+        s .pre .width,
+        each widths,
+        widths .width .ensures,
+        front widths .front-width .ensures,
+        written .write-front .ensures .0,
+        written .write-front .kept,
+        tested .if1 .left,
+      ),
     )
 
 same-length : tie.Need-same-length
@@ -91,11 +107,16 @@ same-length c = search needs
 
 returns-2 : tie.Need-returns-2
 returns-2 c =
-    let s = start (c .before .before .before .before .before .before .before .before .before) in
+    let operators = c .before .before in
+    let written = operators .before .before .before .before in
+    let tested = written .before .before in
+    let widths = tested .before in
+    let s = start widths in
     let a = s .args in
-    let w = c .before .before .before .before .before .before .write-front .ensures in
-    let v = c .before .before .write-operators .ensures in
-    file-delivered (a .count) (a .kept) (a .own .now) (a .sizes .now) (a .start .now) (a .goal .now) (a .pairs .now) (a .lean) (s .pre) (a .room .now) _ _ _ _ (omega (arith, whole (c .before .before .before .before .before .before .before .before .before), c .before .before .before .before .before .before .before .before .if1 .left)) (w .0) (w .1) (v .0) (v .1)
+    let w = written .write-front .ensures in
+    let v = operators .write-operators .ensures in
+    file-delivered (a .count) (a .kept) (a .own .now) (a .sizes .now) (a .start .now) (a .goal .now) (a .pairs .now) (a .lean) (s .pre) (a .room .now) _ _ _ _
+    (omega (arith, whole widths, tested .if1 .left)) (w .0) (w .1) (v .0) (v .1)
 
 pub write-built-spec : {M : Type 1} → statement M
 write-built-spec =

@@ -27,6 +27,10 @@ unknown c = ap (λ d. d - 1) (c .size .ensures)
 inside : (c : tie.After-size Inv-loop μ-loop) → top c .loop .kept .value < unknownOf (start c .args .sizes .now) (top c .loop .kept .variable)
 inside c = top c .loop .inv .stands .found .there (c .before .if1 .taken) .0
 
+-- The turn, seen from where its operator was written.
+abbrev turned : tie.After-slice-known2 Inv-loop μ-loop → tie.After-size Inv-loop μ-loop
+turned c = c .before .before .before .before .before .before .before
+
 next-kept-requires : tie.Need-next-kept-requires Inv-loop μ-loop
 next-kept-requires c κs = search needs
 
@@ -49,19 +53,29 @@ slice-aggregate-write-operator-3 : tie.Need-slice-aggregate-write-operator-3 Inv
 slice-aggregate-write-operator-3 c = search needs
 
 write-operator-requires : tie.Need-write-operator-requires Inv-loop μ-loop
-write-operator-requires c κs = let turn = c .before .before .before .before in let l = turn .before .if1 .taken in (kept-triples _ _ _ _ (start turn .pre .0 .limits) l (inside turn) (unknown turn), writing-fits _ _ _ _ _ _ _ _ _ (top turn .loop .inv) l _ (unknown turn))
+write-operator-requires c κs =
+    let turn = c .before .before .before .before in
+    let l = turn .before .if1 .taken in
+    (kept-triples _ _ _ _ (start turn .pre .0 .limits) l (inside turn) (unknown turn), writing-fits _ _ _ _ _ _ _ _ _ (top turn .loop .inv) l _ (unknown turn))
 
 add-next-kept : tie.Need-add-next-kept Inv-loop μ-loop
-add-next-kept c = let turn = c .before .before .before .before .before .before .before in omega (arith, inside turn, start turn .pre .0 .limits .each _ (turn .before .if1 .taken))
+add-next-kept c = let turn = turned c in omega (arith, inside turn, start turn .pre .0 .limits .each _ (turn .before .if1 .taken))
 
 next-kept-requires-2 : tie.Need-next-kept-requires-2 Inv-loop μ-loop
-next-kept-requires-2 c κs = let turn = c .before .before .before .before .before .before .before in let (ready, state, _) = start turn .pre in let l = turn .before .if1 .taken in (ready, state, omega arith, omega (arith, inside turn))
+next-kept-requires-2 c κs =
+    let turn = turned c in
+    let (ready, state, _) = start turn .pre in
+    let l = turn .before .if1 .taken in
+    (ready, state, omega arith, omega (arith, inside turn))
 
 loop-less : tie.Need-loop-less Inv-loop μ-loop
-loop-less c = let turn = c .before .before .before .before .before .before .before .before in writing-less _ _ _ _ _ _ _ _ _ (top turn .loop .inv) (turn .before .if1 .taken) _ (c .next-kept2 .ensures)
+loop-less c = let turn = turned (c .before) in writing-less _ _ _ _ _ _ _ _ _ (top turn .loop .inv) (turn .before .if1 .taken) _ (c .next-kept2 .ensures)
 
 loop-again : tie.Need-loop-again Inv-loop μ-loop
-loop-again c = let turn = c .before .before .before .before .before .before .before .before in let w = c .before .before .before .write-operator .ensures in writing-next _ _ _ _ _ _ _ _ _ (top turn .loop .inv) (turn .before .if1 .taken) _ (unknown turn) _ _ _ (w .0) (w .1) (c .next-kept2 .ensures)
+loop-again c =
+    let turn = turned (c .before) in
+    let w = c .before .before .before .write-operator .ensures in
+    writing-next _ _ _ _ _ _ _ _ _ (top turn .loop .inv) (turn .before .if1 .taken) _ (unknown turn) _ _ _ (w .0) (w .1) (c .next-kept2 .ensures)
 
 same-length : tie.Need-same-length Inv-loop μ-loop
 same-length c = c .before .before .loop .inv .remains .kept

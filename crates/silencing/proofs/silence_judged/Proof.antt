@@ -8,7 +8,6 @@ use borrow.Author.Needs.{needs}
 use Rattle.meaning.specs.Number.{Range, Outgrown}
 use Rattle.theory.specs.Spent.{Bytes}
 use Rattle.writer.specs.Answer.{refused-so}
-use Rattle.reader.specs.Header.{Within}
 use Rattle.silencing.specs.Marks.{areMarks, areRoomy, are-roomy}
 use Rattle.silencing.specs.Answer.{parted-limits, parted-silent, silence-refused, wrong-number, wrong-mark, no-room, too-many, silence-delivered}
 use Rattle.silencing.proofs.silence_judged.Statement.{statement}

@@ -75,7 +75,16 @@ same-length : tie.Need-same-length
 same-length c = search needs
 
 returns-2 : tie.Need-returns-2
-returns-2 c = let s = start (c .before .before .before .before .before .before .before .before .before .before .before .before .before .before .before .before .before .before .before .before .before) in partial-delivered _ _ _ _ _ (s .args .room .now) _ _ _ _ _ _ _ _ _ _ (omega (arith, whole (c .before .before .before .before .before .before .before .before .before .before .before .before .before .before .before .before .before .before .before .before .before), c .before .before .before .before .before .before .before .before .before .before .before .before .before .before .before .before .before .before .before .before .if1 .left)) (c .before .before .before .before .before .before .before .before .before .before .before .before .before .before .before .before .before .before .write-list .ensures) (c .before .before .before .before .before .before .before .before .before .before .before .before .before .before .write-bytes .ensures) (c .before .before .before .before .before .before .before .before .before .before .write-numbers .ensures) (c .before .before .before .before .before .before .write-numbers2 .ensures) (c .before .before .write-bytes2 .ensures)
+returns-2 c =
+    let fifth = c .before .before in
+    let fourth = fifth .before .before .before .before in
+    let third = fourth .before .before .before .before in
+    let second = third .before .before .before .before in
+    let first = second .before .before .before .before in
+    let tested = first .before .before in
+    let widths = tested .before in
+    partial-delivered _ _ _ _ _ (start widths .args .room .now) _ _ _ _ _ _ _ _ _ _ (omega (arith, whole widths, tested .if1 .left)) (first .write-list .ensures) (second .write-bytes .ensures)
+    (third .write-numbers .ensures) (fourth .write-numbers2 .ensures) (fifth .write-bytes2 .ensures)
 
 pub write-partial-spec : {M : Type 1} → statement M
 write-partial-spec =

@@ -11,7 +11,6 @@ ghost use Rattle.forgetting.specs.Out.{namedBy, againstAt, againstBy, ou
 ghost use Rattle.forgetting.specs.Kept.{FoundIn, Found, keptIn};
 
 // A forgetting operator: its variable, and the value that it forgets. At the end the variable is the number of variables, and the value is 0.
-#[repr(C)]
 pub struct Kept {
     pub variable: usize,
     pub value: usize,

@@ -1,8 +1,8 @@
--- Partial tasks in order are written and read back; the built task's file in parts; the tests of what is left out, on the built task.
+-- Partial tasks in order are written and read back; the operators' bytes in a file; the tests of what is left out, on the built task.
 use Prim.Native.Nat.{ℕ, suc, _+_, _*_, _<_, _≤_}
 use mathlib.Core.Path.{_≡_, refl, ap, sym, _∙_}
 use mathlib.Core.Bool.{Bool, true, false, _&&_, cond}
-use mathlib.Core.List.{List, [], _∷_, _++_, append-assoc, append-nil, List·Memᴰ as In, List·Memᴰ·tail as there}
+use mathlib.Core.List.{List, [], _∷_, _++_, append-nil, List·Memᴰ as In, List·Memᴰ·tail as there}
 use native.Mathlib.Omega.{arith}
 use native.Mathlib.Nat.{mul-le-mul-left, suc-mul}
 use lib.Dec.{leb, ltb}
@@ -14,7 +14,7 @@ use Rattle.meaning.specs.Task.{Operator, State, value, size}
 use Rattle.meaning.specs.Feature.{sumOf, pairsOf, atoms, features}
 use Rattle.meaning.specs.Pair.{paired, stuck, closed, holds}
 use Rattle.meaning.specs.Number.{Range, got, groupBytes, numberBytes}
-use Rattle.meaning.specs.File.{operatorsOf, bytesOf, counted, entryBytes, operatorBytes, weightBytes, taskBytes}
+use Rattle.meaning.specs.File.{operatorsOf, bytesOf, counted, entryBytes, operatorBytes}
 use Rattle.meaning.specs.Partial.{Partial, Ordered, named, builtSizes, builtPairs, forgetting, forgettings, builtTask, againstGoal, leftOut, leftOutLean}
 use Rattle.meaning.specs.Partial.{partialHeader, goalOf, partialOf, judgedPartial, marksIn, namedIn, partialBytes}
 use Rattle.theory.specs.Tells.{tells-agree, tells-map, tells-lt}
@@ -27,7 +27,7 @@ use Rattle.theory.specs.Spent.{Bytes}
 use Rattle.theory.specs.Parts.{each-more, operators-said}
 use Rattle.theory.specs.PartialPairs.{built-length, built-size, paired-known}
 use Rattle.theory.specs.PartialTask.{forgettings-in, closed-built, holds-built, all-closed}
-use Rattle.theory.specs.BytesOf.{bytes-join, bytes-each}
+use Rattle.theory.specs.BytesOf.{bytes-each}
 
 -- ---- written and read back
 
@@ -117,19 +117,7 @@ partial-accepted P ok out few free rules =
       shut,
     ) refl
 
--- ---- the built task's file in parts
-
--- What stands before the operator count.
-unfoldable pub frontBytes : Partial → List ℕ
-frontBytes P =
-    counted numberBytes (builtSizes (P .sizes))
-    ++ (bytesOf numberBytes (P .start) ++ (bytesOf numberBytes (P .goal) ++ weightBytes (builtPairs (P .sizes) (listed (P .pairs)))))
-
--- Front, count, the file's operators, the forgetting ones.
-pub built-bytes : (P : Partial) (out : ℕ → ℕ → Bool) → taskBytes (builtTask P out)
-    ≡ frontBytes P ++ (numberBytes (length (P .operators) + length (forgettings (P .sizes) out)) ++ (bytesOf operatorBytes (P .operators) ++ bytesOf operatorBytes (forgettings (P .sizes) out)))
-unfolding taskBytes builtTask frontBytes counted
-built-bytes P out = rw (length-append (P .operators) (forgettings (P .sizes) out), bytes-join operatorBytes (P .operators) (forgettings (P .sizes) out)) (sym (simp append-assoc))
+-- ---- the operators' bytes
 
 -- The bytes of the operators that were read up to the end of the file are those that are written for them: they may be copied.
 pub operators-copied : (bytes sizes : List ℕ) (k place : ℕ) (os : List Operator) (next : ℕ) → Bytes bytes → operatorsOf sizes k bytes place ≡ got os next → length bytes ≤ next

@@ -20,11 +20,9 @@ use Rattle.meaning.specs.Partial.{Partial, named, Reaches, Met, Completes, Orde
 use Rattle.theory.specs.Truth.{clash}
 use Rattle.theory.specs.Flat.{flat-few}
 use Rattle.theory.specs.Tells.{tells-every, tells-and, tells-le, tells-lt}
-use Rattle.theory.specs.Reading.{got-value}
 use Rattle.theory.specs.ReadBack.{read-back, whole}
 use Rattle.theory.specs.BayMoves.{Moves, plan-moves, moves-plan, moves-labels, neighbours-apart, same-labels-state, bay-length, bay-size, bay-value, one-only}
 use Rattle.theory.specs.BayTask.{AcceptedBay, accepted-bay, bay-accepted, bay-writable, mostOperators, operators-most, slide-rules}
-use Rattle.theory.specs.Demands.{accepted-unsolvable}
 use Rattle.theory.specs.PartialPlans.{Permitted, lean-permitted}
 use Rattle.theory.specs.PartialParts.{partial-accepted, partial-back}
 use Rattle.theory.specs.PartialDemands.{built-met, accepted-unmet}
@@ -126,13 +124,6 @@ module _ (bytes : List ℕ) (b : Bay) (next : ℕ) (accepted-file : judgedBay by
   pub none-completed : ((c : List ℕ) → Completes order c → Unsolvable (bayTask (withGoal b c))) → Met order → ⊥
   unfolding silenced taskFor
   none-completed none met = let (c, completes, (plan, from, leads)) = order-met .0 met in none c completes plan from leads
-
-  -- So if weights are accepted for every completion, each asked as a full order, no sequence of moves meets the order.
-  pub each-impossible : ((c : List ℕ) → Completes order c → (weights : List ℕ) × Checks (taskBytes (bayTask (withGoal b c))) weights (done accepted)) → Met order → ⊥
-  each-impossible each = none-completed (λ c completes.
-      let (weights, checks) = each c completes in
-      let (T, end, read, hopeless) = accepted-unsolvable (taskBytes (bayTask (withGoal b c))) weights checks in
-      rw (got-value (sym read ∙ completion-asked c completes)) at hopeless)
 
   -- ---- the built task
 

@@ -57,3 +57,4 @@ pub mod PartialNamed
 pub mod PartialDemands
 pub mod Silence
 pub mod BayOrders
+pub mod Asked

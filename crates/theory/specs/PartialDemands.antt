@@ -89,9 +89,13 @@ outgrown-exactly out file = (
         → onRead read (λ P next. cond (ltb (length (builtTask P (out P) .operators)) numberEnd) (judgedPairs (builtTask P (out P)) next) (fault Outgrown 0)) ≡ fault Outgrown 0
         → (P : Partial) × (next : ℕ) × (read ≡ got P next) × (numberEnd ≤ length (builtTask P (out P) .operators))
     by (fault reason place) plain e = let z : reason ≡ Outgrown = cc in absurd (clash (plain .reasoned reason place refl) (rw z refl))
-    by (got P next) plain e = let T = builtTask P (out P) in
-        (P, next, refl, ltb-false _ _ (within (ltb (length (T .operators)) numberEnd) (holds (T .sizes) (listed (T .pairs)) (T .start))
-        (allOf (closed (T .sizes) (listed (T .pairs))) (T .operators)) T next e))
+    by (got P next) plain e = let T = builtTask P (out P) in (
+      P,
+      next,
+      refl,
+      ltb-false _ _ (within (ltb (length (T .operators)) numberEnd) (holds (T .sizes) (listed (T .pairs)) (T .start))
+          (allOf (closed (T .sizes) (listed (T .pairs))) (T .operators)) T next e),
+    )
 
 -- open_partial: the partial file's first fault; then 8.
 pub open-partial-refuses : (file room : List ℕ) → RefusesExactly (OpensPartial file room) room (Faulty (openJudged (judgedPartial leftOut file) room))

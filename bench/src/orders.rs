@@ -33,7 +33,9 @@ pub fn measure(wanted: &str) -> Result<Option<Opened>, String> {
     let [of_order, of_task] = &mut rooms;
     let due = library::open_partial(&order, of_order);
     if due != library::open(&task, of_task) || answer::value(due).is_none() {
-        return Err(format!("{NAME}: the two openings answer differently, or are refused"));
+        return Err(format!(
+            "{NAME}: the two openings answer differently, or are refused"
+        ));
     }
     if of_order != of_task {
         return Err(format!("{NAME}: the two openings leave different words"));

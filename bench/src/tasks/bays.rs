@@ -28,7 +28,8 @@ fn bay_file(rows: u8, columns: u8) -> Vec<u8> {
 /// The file that a call of the library writes.
 pub fn written(call: impl Fn(&mut [u8]) -> u64) -> Vec<u8> {
     let mut room = vec![0; ROOM];
-    let length = answer::value(call(&mut room)).expect("the library writes a file within its limits");
+    let length =
+        answer::value(call(&mut room)).expect("the library writes a file within its limits");
     room.truncate(length);
     room
 }

@@ -1,5 +1,5 @@
 -- The worked examples of document 01, each by computing: a sentence of the document and the fact that it states.
-use Prim.Native.Nat.{ℕ, _-_}
+use Prim.Native.Nat.{ℕ, _-_, _*_}
 use mathlib.Core.Path.{_≡_, refl}
 use mathlib.Core.Bool.{true}
 use mathlib.Core.List.{List, [], _∷_, _++_, List·Memᴰ·head as here, List·Memᴰ·tail as there}
@@ -15,7 +15,7 @@ use Rattle.meaning.specs.File.{header, judgedTask, bytesOf, counted, entryBytes
 use Rattle.meaning.specs.Workspace.{wordsOf, packed, contentOf}
 use Rattle.meaning.specs.Answer.{done, refused, Opens}
 use Rattle.meaning.specs.Line.{separating, Says, Prints, digits, word, wordsIn, line}
-use Rattle.meaning.specs.Bay.{Bay, sidesOf, bayOf, occurrences, eachOnce, judgedBay, neighbours, slide, bayOperators, bayPairs, taskFor, bayTask, Builds}
+use Rattle.meaning.specs.Bay.{Bay, sidesOf, bayOf, occurrences, oneGap, equalLots, judgedLots, judgedBay, neighbours, slide, bayOperators, bayPairs, taskFor, bayTask, Builds}
 use Rattle.marked.specs.Decide.{computing, slotsIn, slots?, slots-of}
 use Rattle.marked.specs.Table.{finds, fileB, marked, marked-right}
 
@@ -29,7 +29,7 @@ unfolding computing wordsOf packed table
 opening = tt
 
 building : Unit {0}
-unfolding computing writing judgedBay bayOf sidesOf eachOnce occurrences taskFor bayPairs bayOperators neighbours slide
+unfolding computing writing judgedBay bayOf sidesOf judgedLots oneGap equalLots occurrences taskFor bayPairs bayOperators neighbours slide
 building = tt
 
 -- ---- numbers
@@ -175,7 +175,16 @@ pub builds-bay : Builds (1 ∷ 2 ∷ 0 ∷ 1 ∷ 1 ∷ 0 ∷ []) (replicate 25 0
 unfolding building
 builds-bay = refl
 
--- "Three by three has 192."
-pub operators-3-3 : length (bayOperators 9 (neighbours 3)) ≡ 192
+-- A bay of three by three, by its start; the goal does not matter here.
+abbrev bay33 : List ℕ → Bay
+bay33 start = record { rows = 3; columns = 3; start = start; goal = start }
+
+-- "Three by three has 192.": where all labels are different.
+pub operators-3-3 : length (bayTask (bay33 (0 ∷ 1 ∷ 2 ∷ 3 ∷ 4 ∷ 5 ∷ 6 ∷ 7 ∷ 8 ∷ [])) .operators) ≡ 192
 unfolding building
 operators-3-3 = refl
+
+-- With two lots of four: 24 places of the gap beside a pallet, for two labels; and pairs of the gap alone, one for each two of nine slots.
+pub lots-3-3 : let T = bayTask (bay33 (0 ∷ 1 ∷ 1 ∷ 1 ∷ 1 ∷ 2 ∷ 2 ∷ 2 ∷ 2 ∷ [])) in (length (T .operators) ≡ 24 * 2) × (length (T .pairs) ≡ 36)
+unfolding building
+lots-3-3 = (refl, refl)

@@ -10,7 +10,7 @@ use Rattle.meaning.specs.Sets.{every, flat}
 use Rattle.meaning.specs.Limits.{leastSide, mostSide, leastSlots, mostSlots}
 use Rattle.meaning.specs.Task.{Operator, Task, applies, applied, value}
 use Rattle.meaning.specs.Feature.{double}
-use Rattle.meaning.specs.Number.{Limit, Mislabelled, Read, got, fault, onRead}
+use Rattle.meaning.specs.Number.{Limit, Gaps, Unequal, Read, got, fault, onRead}
 use Rattle.meaning.specs.File.{Parser, give, then, inside, item, limited, ended, valuesOf, taskBytes}
 use Rattle.meaning.specs.Answer.{Outcome, refuses, delivered, byRead}
 
@@ -52,15 +52,29 @@ unfoldable pub occurrences : ℕ → List ℕ → ℕ
 occurrences label [] = 0
 occurrences label (x ∷ xs) = cond (eqb x label) 1 0 + occurrences label xs
 
--- "0 for the gap, each once in each list"
-unfoldable pub eachOnce : ℕ → List ℕ → Bool
-eachOnce n labels = every n (λ label. eqb (occurrences label labels) 1)
+-- "Bay labels are lots from now on and may repeat; the gap still occurs once." (Document 01 said: "each once in each list", "No two pallets are alike".)
+unfoldable pub oneGap : List ℕ → Bool
+oneGap labels = eqb (occurrences 0 labels) 1
 
--- "(10, judged start first, after 5 and before 8)"
+-- "Start and goal must hold each label equally often."
+unfoldable pub equalLots : ℕ → List ℕ → List ℕ → Bool
+equalLots n start goal = every n (λ label. eqb (occurrences label start) (occurrences label goal))
+
+-- What was read of n slots, with labels in its start and its goal: "10 now means no gap or more than one, in the start and then in the goal; 11, after 10, means
+-- unequal lots". (Document 01 said: "(10, judged start first, after 5 and before 8)".)
+unfoldable pub judgedLots : {A : Type 0} → ℕ → List ℕ → List ℕ → Read A → Read A
+judgedLots n start goal whole = cond (oneGap start) (cond (oneGap goal) (cond (equalLots n start goal) whole (fault Unequal 0)) (fault Gaps 0)) (fault Gaps 0)
+
+-- A bay file that was read whole: after 5 and before 8.
 unfoldable pub judgedBay : List ℕ → Read Bay
-judgedBay bytes =
-    onRead (bayOf bytes 0)
-    (λ b next. cond (eachOnce (slotCount b) (b .start) && eachOnce (slotCount b) (b .goal)) (got b next) (fault Mislabelled 0))
+judgedBay bytes = onRead (bayOf bytes 0) (λ b next. judgedLots (slotCount b) (b .start) (b .goal) (got b next))
+
+-- Whether a label occurs in a list, and whether it occurs once.
+abbrev pub occursIn : List ℕ → ℕ → Bool
+occursIn labels label = ltb 0 (occurrences label labels)
+
+abbrev pub onceIn : List ℕ → ℕ → Bool
+onceIn labels label = eqb (occurrences label labels) 1
 
 -- ---- moves
 
@@ -106,18 +120,20 @@ exchange i j a b = record { variable = i; before = a; after = b } ∷ record { v
 unfoldable pub slide : ℕ → ℕ → ℕ → Operator
 slide p q t = cond (ltb p q) (exchange p q 0 t) (exchange q p t 0)
 
--- "Operators: for each slot p with the gap, each neighbour q in increasing order, each label t from 1".
-unfoldable pub bayOperators : ℕ → (ℕ → ℕ → Bool) → List Operator
-bayOperators n near = flat n (λ p. flat n (λ q. cond (near p q) (flat (n - 1) (λ k. slide p q (suc k) ∷ [])) []))
+-- "Operators: for each slot p with the gap, each neighbour q in increasing order, each label t from 1", and "an operator is made for each label that occurs".
+unfoldable pub bayOperators : ℕ → (ℕ → ℕ → Bool) → (ℕ → Bool) → List Operator
+bayOperators n near occurs =
+    flat n (λ p. flat n (λ q. cond (near p q) (flat (n - 1) (λ k. cond (occurs (suc k)) (slide p q (suc k) ∷ []) [])) []))
 
--- "lists as pairs all features that put one label in two slots"
-unfoldable pub bayPairs : ℕ → List ℕ
-bayPairs n = flat n (λ i. flat n (λ j. cond (ltb i j) (flat n (λ label. double (baySizes n) i label j label ∷ [])) []))
+-- "lists as pairs all features that put one label in two slots", and "Only labels that occur once give exclusive pairs".
+unfoldable pub bayPairs : ℕ → (ℕ → Bool) → List ℕ
+bayPairs n once =
+    flat n (λ i. flat n (λ j. cond (ltb i j) (flat n (λ label. cond (once label) (double (baySizes n) i label j label ∷ []) [])) []))
 
--- "The task has n variables of size n".
+-- "The task has n variables of size n". What occurs is judged in the start, and the goal holds the same.
 unfoldable pub taskFor : ℕ → (ℕ → ℕ → Bool) → List ℕ → List ℕ → Task
 taskFor n near start goal =
-    record { sizes = baySizes n; start = start; goal = goal; pairs = bayPairs n; operators = bayOperators n near }
+    record { sizes = baySizes n; start = start; goal = goal; pairs = bayPairs n (onceIn start); operators = bayOperators n near (occursIn start) }
 
 -- The task of a bay.
 abbrev pub bayTask : Bay → Task

@@ -16,4 +16,5 @@ pub mod Line
 pub mod History
 pub mod Facts
 pub mod FactsOfA
+pub mod LotFacts
 pub mod PartialFacts

@@ -8,7 +8,7 @@ use Rattle.meaning.specs.Limits.{group, mostGroups}
 
 -- Why a call refuses. The first three are told apart here, and share the paper's number 1.
 pub data Reason : Type 0 where
-  Ends Padded Endless Limit Range Unordered LeftOver Outgrown Held Unclosed Small Malformed Mislabelled : Reason
+  Ends Padded Endless Limit Range Unordered LeftOver Outgrown Held Unclosed Small Malformed Gaps Unequal : Reason
 
 -- The paper's number for a reason.
 abbrev pub refusal : Reason → ℕ
@@ -36,8 +36,10 @@ refusal Unclosed = 7
 refusal Small = 8
 -- "a workspace isn't well formed"
 refusal Malformed = 9
--- "a bay list misses or repeats a label"
-refusal Mislabelled = 10
+-- "no gap or more than one, in the start and then in the goal" (document 01 said: "a bay list misses or repeats a label")
+refusal Gaps = 10
+-- "unequal lots"
+refusal Unequal = 11
 
 -- Whether a reason has a place in a file: a number is at fault. What is judged after the last number has none.
 abbrev pub hasPlace : Reason → Bool
@@ -53,7 +55,8 @@ hasPlace Held = false
 hasPlace Unclosed = false
 hasPlace Small = false
 hasPlace Malformed = false
-hasPlace Mislabelled = false
+hasPlace Gaps = false
+hasPlace Unequal = false
 
 -- What stands at a place: a value and the place after it; or the first fault, with the place of the first byte of the number at fault.
 -- Where a reason has no place, the place of a fault says nothing.

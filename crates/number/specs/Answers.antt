@@ -24,7 +24,8 @@ reasonOf code.Held = meaning.Held
 reasonOf code.Unclosed = meaning.Unclosed
 reasonOf code.Small = meaning.Small
 reasonOf code.Malformed = meaning.Malformed
-reasonOf code.Mislabelled = meaning.Mislabelled
+reasonOf code.Gaps = meaning.Gaps
+reasonOf code.Unequal = meaning.Unequal
 
 abbrev pub declaredOf : meaning.Reason → Reason
 declaredOf meaning.Ends = code.Ends
@@ -39,7 +40,8 @@ declaredOf meaning.Held = code.Held
 declaredOf meaning.Unclosed = code.Unclosed
 declaredOf meaning.Small = code.Small
 declaredOf meaning.Malformed = code.Malformed
-declaredOf meaning.Mislabelled = code.Mislabelled
+declaredOf meaning.Gaps = code.Gaps
+declaredOf meaning.Unequal = code.Unequal
 
 -- The two are inverse.
 pub declared-reason : (reason : Reason) → declaredOf (reasonOf reason) ≡ reason
@@ -55,7 +57,8 @@ declared-reason code.Held = refl
 declared-reason code.Unclosed = refl
 declared-reason code.Small = refl
 declared-reason code.Malformed = refl
-declared-reason code.Mislabelled = refl
+declared-reason code.Gaps = refl
+declared-reason code.Unequal = refl
 
 pub reason-declared : (reason : meaning.Reason) → reasonOf (declaredOf reason) ≡ reason
 reason-declared meaning.Ends = refl
@@ -70,7 +73,8 @@ reason-declared meaning.Held = refl
 reason-declared meaning.Unclosed = refl
 reason-declared meaning.Small = refl
 reason-declared meaning.Malformed = refl
-reason-declared meaning.Mislabelled = refl
+reason-declared meaning.Gaps = refl
+reason-declared meaning.Unequal = refl
 
 -- What an answer says was read.
 abbrev pub numberOf : Number → meaning.Read ℕ

@@ -22,7 +22,8 @@ pub enum Reason {
     Unclosed,
     Small,
     Malformed,
-    Mislabelled,
+    Gaps,
+    Unequal,
 }
 
 // What stands where a number is due: its value and the place after it; or a reason, and the place of the first byte of the number at fault.
@@ -60,7 +61,8 @@ pub fn refusal(reason: Reason) -> u64
         Reason::Unclosed => 7,
         Reason::Small => 8,
         Reason::Malformed => 9,
-        Reason::Mislabelled => 10,
+        Reason::Gaps => 10,
+        Reason::Unequal => 11,
     }
 }
 

@@ -6,7 +6,7 @@ use native.Mathlib.Omega.{arith}
 use lib.ListN.{length, take, drop, length-append}
 use lib.Seq.{take-at}
 use Rattle.meaning.specs.Number.{Reason, Ends, Padded, Endless, Limit, Range, Unordered, LeftOver, Outgrown, Held, Unclosed}
-use Rattle.meaning.specs.Number.{Small, Malformed, Mislabelled, refusal}
+use Rattle.meaning.specs.Number.{Small, Malformed, Gaps, Unequal, refusal}
 use Rattle.meaning.specs.Line.{word, refusedLine}
 use Rattle.decimal.specs.Decimal.{wordWidth, word-few}
 use Rattle.decimal.specs.Put.{Put, put-behind}
@@ -56,4 +56,5 @@ refusal-short Held = omega arith
 refusal-short Unclosed = omega arith
 refusal-short Small = omega arith
 refusal-short Malformed = omega arith
-refusal-short Mislabelled = omega arith
+refusal-short Gaps = omega arith
+refusal-short Unequal = omega arith

@@ -9,13 +9,14 @@ use native.Mathlib.Omega.{arith}
 use lib.ListN.{length, set, length-set, length-replicate, getD-replicate}
 use lib.Seq.{getD-set-other, set-comm}
 use lib.Dec.{eqb, ltb}
-use borrow.Author.Tests.{eqb-true, eq-eqb, ne-eqb}
-use Rattle.meaning.specs.Sets.{allOf}
+use borrow.Author.Tests.{eqb-true, eq-eqb, ne-eqb, lt-ltb}
+use Rattle.meaning.specs.Sets.{allOf, count}
 use Rattle.meaning.specs.Task.{Operator, State, applies, applied, value, size}
 use Rattle.meaning.specs.Weight.{Leads}
-use Rattle.meaning.specs.Bay.{baySizes, occurrences, oneApart, neighbours, Move, Step, SameLabels, exchange, slide, bayOperators}
+use Rattle.meaning.specs.Bay.{baySizes, occurrences, oneApart, neighbours, Move, Step, SameLabels, exchange, slide, occursIn, bayOperators}
 use Rattle.theory.specs.Truth.{on, off, test, clash}
 use Rattle.theory.specs.Search.{or-neither, and-none-right}
+use Rattle.theory.specs.Count.{count-split}
 use Rattle.theory.specs.Tells.{Tells, tells-agree, tells-map, tells-and, tells-eq, tells-true}
 use Rattle.theory.specs.Flat.{in-flat, flat-in, in-when, when-in}
 
@@ -28,6 +29,12 @@ pub occurrences-most : (label : ℕ) (l : List ℕ) → occurrences label l ≤ 
 unfolding occurrences
 occurrences-most label [] = omega arith
 occurrences-most label (x ∷ xs) = elim (test (eqb x label)) [ on e ↦ rw e (omega (arith, occurrences-most label xs)) | off e ↦ rw e (omega (arith, occurrences-most label xs)) ]
+
+-- The places in which a label stands.
+pub occurrences-count : (label : ℕ) (l : List ℕ) → occurrences label l ≡ count (length l) (λ i. eqb (value l i) label)
+unfolding occurrences count
+occurrences-count label [] = refl
+occurrences-count label (x ∷ xs) = ap (λ k. cond (eqb x label) 1 0 + k) (occurrences-count label xs) ∙ sym (count-split 1 (length xs) (λ i. eqb (value (x ∷ xs) i) label))
 
 -- A label that stands somewhere is counted.
 pub occurrences-at : (label : ℕ) (l : List ℕ) (i : ℕ) → i < length l → value l i ≡ label → 1 ≤ occurrences label l
@@ -101,6 +108,12 @@ bay-value n s S i l = rw (bay-size n i l) at (S .values i (rw (length-replicate 
 
 -- ---- the same labels, each as often
 
+pub labels-same : (s : List ℕ) → SameLabels s s
+labels-same s = record { as-long = refl; as-often = λ label. refl }
+
+pub labels-then : (a b c : List ℕ) → SameLabels a b → SameLabels b c → SameLabels a c
+labels-then a b c p q = record { as-long = q .as-long ∙ p .as-long; as-often = λ label. q .as-often label ∙ p .as-often label }
+
 -- A list with the labels of a state of the bay is a state of the bay.
 pub same-labels-state : (n : ℕ) (start s : List ℕ) → State (baySizes n) start → SameLabels start s → State (baySizes n) s
 same-labels-state n start s S a = bay-state n s long (λ i l. below i (rw long l))
@@ -129,7 +142,7 @@ move-labels n near s t e m = record {
 -- ---- operators and moves
 
 -- An operator of a bay: a pallet with some label slides from a slot into the gap beside it.
-pub record Slide (n : ℕ) (near : ℕ → ℕ → Bool) (o : Operator) : Type 0 where
+pub record Slide (n : ℕ) (near : ℕ → ℕ → Bool) (occurs : ℕ → Bool) (o : Operator) : Type 0 where
   pub gap : ℕ
   pub slot : ℕ
   pub label : ℕ
@@ -138,22 +151,24 @@ pub record Slide (n : ℕ) (near : ℕ → ℕ → Bool) (o : Operator) : Type 0
   pub beside : near gap slot ≡ true
   pub is-pallet : 1 ≤ label
   pub is-label : label < n
+  pub is-there : occurs label ≡ true
   pub form : o ≡ slide gap slot label
 
-pub operator-slide : (n : ℕ) (near : ℕ → ℕ → Bool) (o : Operator) → In o (bayOperators n near) → Slide n near o
+pub operator-slide : (n : ℕ) (near : ℕ → ℕ → Bool) (occurs : ℕ → Bool) (o : Operator) → In o (bayOperators n near occurs) → Slide n near occurs o
 unfolding bayOperators
-operator-slide n near o m =
+operator-slide n near occurs o m =
     let (p, l, m₁) = flat-in n _ o m in
     let (q, k, m₂) = flat-in n _ o m₁ in
     let (e, m₃) = in-when (near p q) _ m₂ in
     let (t, h, m₄) = flat-in (n - 1) _ o m₃ in
-    record { gap = p; slot = q; label = suc t; gap-place = l; slot-place = k; beside = e; is-pallet = omega arith; is-label = omega arith; form = eq-of-singleton m₄ }
+    let (c, m₅) = in-when (occurs (suc t)) _ m₄ in
+    record { gap = p; slot = q; label = suc t; gap-place = l; slot-place = k; beside = e; is-pallet = omega arith; is-label = omega arith; is-there = c; form = eq-of-singleton m₅ }
 
-pub slide-operator : (n : ℕ) (near : ℕ → ℕ → Bool) (p q t : ℕ) → p < n → q < n → near p q ≡ true → 1 ≤ t → t < n → In (slide p q t) (bayOperators n near)
+pub slide-operator : (n : ℕ) (near : ℕ → ℕ → Bool) (occurs : ℕ → Bool) (p q t : ℕ) → p < n → q < n → near p q ≡ true → 1 ≤ t → t < n → occurs t ≡ true → In (slide p q t) (bayOperators n near occurs)
 unfolding bayOperators
-slide-operator n near p q zero l k e h h' = absurd (omega arith)
-slide-operator n near p q (suc t) l k e h h' =
-    in-flat n _ p _ l (in-flat n _ q _ k (when-in (near p q) _ e (in-flat (n - 1) _ t _ (omega arith) (here refl))))
+slide-operator n near occurs p q zero l k e h h' c = absurd (omega arith)
+slide-operator n near occurs p q (suc t) l k e h h' c =
+    in-flat n _ p _ l (in-flat n _ q _ k (when-in (near p q) _ e (in-flat (n - 1) _ t _ (omega arith) (when-in (occurs (suc t)) _ c (here refl)))))
 
 -- The slide applies where the gap is at one place and the pallet at the other.
 pub tells-exchange : (i j a b : ℕ) (s : List ℕ) → Tells (applies (exchange i j a b) s) ((value s i ≡ a) × (value s j ≡ b))
@@ -172,12 +187,12 @@ pub applied-slide : (p q t : ℕ) (s : List ℕ) → p ≢ q → applied (slide 
 unfolding slide applied
 applied-slide p q t s d = elim (test (ltb p q)) [ on e ↦ rw e refl | off e ↦ rw e (set-comm s q p 0 t (λ z. d (sym z))) ]
 
-pub step-move : (n : ℕ) (near : ℕ → ℕ → Bool) (s t : List ℕ) → Step (bayOperators n near) s t → Move n near s t
-step-move n near s t step =
+pub step-move : (n : ℕ) (near : ℕ → ℕ → Bool) (occurs : ℕ → Bool) (s t : List ℕ) → Step (bayOperators n near occurs) s t → Move n near s t
+step-move n near occurs s t step =
     record { gap = o .gap; slot = o .slot; gap-place = o .gap-place; slot-place = o .slot-place; beside = o .beside; is-gap = able .0; is-pallet = pallet; result = result }
   where
-    o : Slide n near (step .by)
-    o = operator-slide n near (step .by) (step .has)
+    o : Slide n near occurs (step .by)
+    o = operator-slide n near occurs (step .by) (step .has)
 
     able : (value s (o .gap) ≡ 0) × (value s (o .slot) ≡ o .label)
     able = tells-slide (o .gap) (o .slot) (o .label) s .yes (ap (λ b. applies b s) (sym (o .form)) ∙ step .able)
@@ -189,17 +204,25 @@ step-move n near s t step =
     result = step .result ∙ ap (λ b. applied b s) (o .form) ∙ applied-slide (o .gap) (o .slot) (o .label) s (λ q. pallet (ap (value s) (sym q) ∙ able .0))
         ∙ ap (λ x. set (set s (o .gap) x) (o .slot) 0) (sym (able .1))
 
-pub move-step : (n : ℕ) (near : ℕ → ℕ → Bool) (s t : List ℕ) → State (baySizes n) s → Move n near s t → Step (bayOperators n near) s t
-move-step n near s t S m = record {
+pub move-step : (n : ℕ) (near : ℕ → ℕ → Bool) (start s t : List ℕ) → State (baySizes n) start → SameLabels start s → Move n near s t → Step (bayOperators n near (occursIn start)) s t
+move-step n near start s t S a m = record {
   by = slide (m .gap) (m .slot) (value s (m .slot));
-  has = slide-operator n near (m .gap) (m .slot) _ (m .gap-place) (m .slot-place) (m .beside) (omega (arith, m .is-pallet)) (bay-value n s S (m .slot) (m .slot-place));
+  has = slide-operator n near (occursIn start) (m .gap) (m .slot) _ (m .gap-place) (m .slot-place) (m .beside) (omega (arith, m .is-pallet)) (bay-value n s state (m .slot) (m .slot-place)) there-is;
   able = tells-slide (m .gap) (m .slot) _ s .back (m .is-gap, refl);
   result = m .result ∙ sym (applied-slide (m .gap) (m .slot) _ s (move-apart n near s t m));
 }
+  where
+    state : State (baySizes n) s
+    state = same-labels-state n start s S a
+
+    -- The pallet's label stands in the state, so it stands in the start.
+    there-is : occursIn start (value s (m .slot)) ≡ true
+    there-is = lt-ltb 0 (occurrences (value s (m .slot)) start)
+        (omega (arith, a .as-often (value s (m .slot)), occurrences-at (value s (m .slot)) s (m .slot) (omega (arith, bay-length n s state, m .slot-place)) refl))
 
 -- "From every state that holds the start's labels, each as often, one operator leads to exactly the states that one move leads to."
-pub same-moves : (n : ℕ) (near : ℕ → ℕ → Bool) (start s t : List ℕ) → State (baySizes n) start → SameLabels start s → Move n near s t ↔ Step (bayOperators n near) s t
-same-moves n near start s t S a = (move-step n near s t (same-labels-state n start s S a), step-move n near s t)
+pub same-moves : (n : ℕ) (near : ℕ → ℕ → Bool) (start s t : List ℕ) → State (baySizes n) start → SameLabels start s → Move n near s t ↔ Step (bayOperators n near (occursIn start)) s t
+same-moves n near start s t S a = (move-step n near start s t S a, step-move n near (occursIn start) s t)
 
 -- ---- many moves
 
@@ -209,31 +232,30 @@ Moves n near [] s t = s ≡ t
 Moves n near (m ∷ ms) s t = Move n near s m × Moves n near ms m t
 
 -- A plan of operators is a way to move.
-pub plan-moves : (n : ℕ) (near : ℕ → ℕ → Bool) (plan : List Operator) (s t : List ℕ) → ((o : Operator) → In o plan → In o (bayOperators n near))
+pub plan-moves : (n : ℕ) (near : ℕ → ℕ → Bool) (occurs : ℕ → Bool) (plan : List Operator) (s t : List ℕ) → ((o : Operator) → In o plan → In o (bayOperators n near occurs))
     → Leads plan s t → (ms : List (List ℕ)) × Moves n near ms s t
-plan-moves n near [] s t from z = ([], z)
-plan-moves n near (o ∷ plan) s t from (able, rest) =
-    let (ms, moves) = plan-moves n near plan (applied o s) t (λ b m. from b (there m)) rest in
-    (applied o s ∷ ms, (step-move n near s (applied o s) (record { by = o; has = from o (here refl); able = able; result = refl }), moves))
+plan-moves n near occurs [] s t from z = ([], z)
+plan-moves n near occurs (o ∷ plan) s t from (able, rest) =
+    let (ms, moves) = plan-moves n near occurs plan (applied o s) t (λ b m. from b (there m)) rest in
+    (applied o s ∷ ms, (step-move n near occurs s (applied o s) (record { by = o; has = from o (here refl); able = able; result = refl }), moves))
 
--- A way to move from a state of the bay is a plan of operators.
-pub moves-plan : (n : ℕ) (near : ℕ → ℕ → Bool) (ms : List (List ℕ)) (s t : List ℕ) → State (baySizes n) s → Moves n near ms s t
-    → (plan : List Operator) × ((o : Operator) → In o plan → In o (bayOperators n near)) × Leads plan s t
-moves-plan n near [] s t S z = ([], λ o m. absurd (not-nil m), z)
-moves-plan n near (m ∷ ms) s t S (move, rest) =
-    let (plan, from, leads) = moves-plan n near ms m t (same-labels-state n s m S (move-labels n near s m (bay-length n s S) move)) rest in
+-- A way to move from a state with the start's labels is a plan of operators.
+pub moves-plan : (n : ℕ) (near : ℕ → ℕ → Bool) (start : List ℕ) (ms : List (List ℕ)) (s t : List ℕ) → State (baySizes n) start → SameLabels start s → Moves n near ms s t
+    → (plan : List Operator) × ((o : Operator) → In o plan → In o (bayOperators n near (occursIn start))) × Leads plan s t
+moves-plan n near start [] s t S a z = ([], λ o m. absurd (not-nil m), z)
+moves-plan n near start (m ∷ ms) s t S a (move, rest) =
+    let (plan, from, leads) = moves-plan n near start ms m t S (labels-then start s m a (move-labels n near s m (bay-length n s (same-labels-state n start s S a)) move)) rest in
     (step .by ∷ plan, λ o k. elim (cases-cons k) [ inl z ↦ rw z (step .has) | inr k' ↦ from o k' ], (step .able, subst (λ x. Leads plan x t) (step .result) leads))
   where
-    step : Step (bayOperators n near) s m
-    step = move-step n near s m S move
+    step : Step (bayOperators n near (occursIn start)) s m
+    step = move-step n near start s m S a move
 
 -- Moves keep the labels.
 pub moves-labels : (n : ℕ) (near : ℕ → ℕ → Bool) (ms : List (List ℕ)) (s t : List ℕ) → length s ≡ n → Moves n near ms s t → SameLabels s t
-moves-labels n near [] s t e z = rw (← z) (record { as-long = refl; as-often = λ label. refl })
+moves-labels n near [] s t e z = rw (← z) (labels-same s)
 moves-labels n near (m ∷ ms) s t e (move, rest) =
     let first = move-labels n near s m e move in
-    let others = moves-labels n near ms m t (first .as-long ∙ e) rest in
-    record { as-long = others .as-long ∙ first .as-long; as-often = λ label. others .as-often label ∙ first .as-often label }
+    labels-then s m t first (moves-labels n near ms m t (first .as-long ∙ e) rest)
 
 -- ---- neighbours share a side
 

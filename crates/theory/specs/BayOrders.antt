@@ -1,13 +1,13 @@
 -- Orders that name some slots of a bay: moves keep the labels, so such an order is met exactly when one of its completions is reached; and its partial file is always accepted.
 use Prim.Native.Nat.{ℕ, suc, _+_, _*_, _<_, _≤_}
-use mathlib.Core.Path.{_≡_, refl, sym, _∙_}
-use mathlib.Core.Logic.{_≢_, _↔_, Iff·trans}
-use mathlib.Core.Bool.{Bool, true, false, _&&_, cond}
+use mathlib.Core.Path.{_≡_, refl, sym, ap, _∙_}
+use mathlib.Core.Logic.{_↔_, Iff·trans}
+use mathlib.Core.Bool.{Bool, true, false, not, _&&_, cond}
 use mathlib.Core.List.{List, [], _∷_}
 use native.Mathlib.Omega.{arith}
-use lib.Dec.{leb, ltb}
+use lib.Dec.{eqb, leb, ltb}
 use lib.ListN.{length, length-append, length-replicate}
-use Rattle.meaning.specs.Sets.{every}
+use Rattle.meaning.specs.Sets.{every, count}
 use Rattle.meaning.specs.Limits.{mostSlots, mostFeatures, numberEnd}
 use Rattle.meaning.specs.Task.{Operator, Task, State, value}
 use Rattle.meaning.specs.Feature.{sumOf, pairsOf, atoms, features}
@@ -15,13 +15,13 @@ use Rattle.meaning.specs.Weight.{Unsolvable}
 use Rattle.meaning.specs.Number.{got}
 use Rattle.meaning.specs.File.{judgedTask, taskBytes}
 use Rattle.meaning.specs.Answer.{done, accepted, Checks}
-use Rattle.meaning.specs.Bay.{Bay, SameLabels, slotCount, neighbours, baySizes, occurrences, bayOperators, bayTask, taskFor, judgedBay}
+use Rattle.meaning.specs.Bay.{Bay, SameLabels, slotCount, neighbours, baySizes, occurrences, occursIn, onceIn, bayOperators, bayTask, taskFor, judgedBay}
 use Rattle.meaning.specs.Partial.{Partial, named, Reaches, Met, Completes, Ordered, builtSizes, forgettings, builtTask, leftOutLean, partialOf, partialBytes, judgedPartial, silenced}
-use Rattle.theory.specs.Truth.{clash}
 use Rattle.theory.specs.Flat.{flat-few}
+use Rattle.theory.specs.Count.{count-cong, count-kinds}
 use Rattle.theory.specs.Tells.{tells-every, tells-and, tells-le, tells-lt}
 use Rattle.theory.specs.ReadBack.{read-back, whole}
-use Rattle.theory.specs.BayMoves.{Moves, plan-moves, moves-plan, moves-labels, neighbours-apart, same-labels-state, bay-length, bay-size, bay-value, one-only}
+use Rattle.theory.specs.BayMoves.{Moves, plan-moves, moves-plan, moves-labels, labels-same, neighbours-apart, same-labels-state, bay-length, bay-size, occurrences-count}
 use Rattle.theory.specs.BayTask.{AcceptedBay, accepted-bay, bay-accepted, bay-writable, mostOperators, operators-most, slide-rules}
 use Rattle.theory.specs.PartialPlans.{Permitted, lean-permitted}
 use Rattle.theory.specs.PartialParts.{partial-accepted, partial-back}
@@ -72,7 +72,7 @@ module _ (bytes : List ℕ) (b : Bay) (next : ℕ) (accepted-file : judgedBay by
   pub reached-labels : (state : List ℕ) → Reaches (order .operators) (order .start) state → SameLabels (b .start) state
   unfolding silenced taskFor
   reached-labels state (plan, from, leads) =
-      let (ms, moves) = plan-moves n near plan (b .start) state from leads in
+      let (ms, moves) = plan-moves n near (occursIn (b .start)) plan (b .start) state from leads in
       moves-labels n near ms (b .start) state (bay-length n (b .start) (bay .readable .start-state)) moves
 
   -- One of its completions is reached.
@@ -91,11 +91,11 @@ module _ (bytes : List ℕ) (b : Bay) (next : ℕ) (accepted-file : judgedBay by
   pub order-moves : Met order ↔ ((c : List ℕ) × Completes order c × (ms : List (List ℕ)) × Moves n near ms (b .start) c)
   unfolding silenced taskFor
   order-moves = Iff·trans order-met (
-    λ h. let (c, completes, (plan, from, leads)) = h in let (ms, moves) = plan-moves n near plan (b .start) c from leads in (c, completes, ms, moves),
-    λ h. let (c, completes, ms, moves) = h in (c, completes, moves-plan n near ms (b .start) c (bay .readable .start-state) moves),
+    λ h. let (c, completes, (plan, from, leads)) = h in let (ms, moves) = plan-moves n near (occursIn (b .start)) plan (b .start) c from leads in (c, completes, ms, moves),
+    λ h. let (c, completes, ms, moves) = h in (c, completes, moves-plan n near (b .start) ms (b .start) c (bay .readable .start-state) (labels-same (b .start)) moves),
   )
 
-  -- In a completion the silent slots hold the labels that are left: none that a named slot holds.
+  -- A completion is a state of the bay, and its silent slots hold of each label what the named ones leave.
   module _ (c : List ℕ) (completes : Completes order c) where
     completed : SameLabels (b .start) c
     unfolding silenced taskFor
@@ -104,21 +104,24 @@ module _ (bytes : List ℕ) (b : Bay) (next : ℕ) (accepted-file : judgedBay by
     pub completion-state : State (baySizes n) c
     completion-state = same-labels-state n (b .start) c (bay .readable .start-state) completed
 
-    pub completion-once : (label : ℕ) → label < n → occurrences label c ≡ 1
-    completion-once label l = completed .as-often label ∙ bay .start-once label l
-
-    pub left-labels : (i j : ℕ) → i < n → j < n → named order i ≡ false → named order j ≡ true → value c i ≢ value (order .goal) j
-    unfolding silenced taskFor
-    left-labels i j l k silent is-named same =
-        let long = bay-length n c completion-state in
-        let there : value c j ≡ value (order .goal) j = completes .meets j (rw (length-replicate n n) k) is-named in
-        let at : i ≡ j = one-only (value c i) c i j (omega (arith, completion-once (value c i) (bay-value n c completion-state i l))) (omega arith) (omega arith) refl (there ∙ sym same) in
-        clash is-named (rw (← at) silent)
+    pub left-lots : (label : ℕ)
+        → count n (λ i. named order i && eqb (value (order .goal) i) label) + count n (λ i. not (named order i) && eqb (value c i) label) ≡ occurrences label (b .start)
+    left-lots label =
+        ap (λ k. k + count n (λ i. not (named order i) && eqb (value c i) label)) (count-cong n _ _ (λ i l. agree i l (named order i) refl))
+        ∙ sym (count-kinds n (named order) (λ i. eqb (value c i) label))
+        ∙ ap (λ k. count k (λ i. eqb (value c i) label)) (sym (bay-length n c completion-state))
+        ∙ sym (occurrences-count label c)
+        ∙ completed .as-often label
+      where
+        agree : (i : ℕ) → i < n → (t : Bool) → named order i ≡ t → (t && eqb (value (order .goal) i) label) ≡ (t && eqb (value c i) label)
+        unfolding silenced taskFor
+        agree i l true is-named = ap (λ x. eqb x label) (sym (completes .meets i (rw (length-replicate n n) l) is-named))
+        agree i l false silent = refl
 
     -- So a completion is a full order of the same bay, and its task can be asked.
     pub completion-asked : judgedTask (taskBytes (bayTask (withGoal b c))) ≡ got (bayTask (withGoal b c)) (length (taskBytes (bayTask (withGoal b c))))
     completion-asked = read-back (bayTask (withGoal b c)) (bay-writable n near (b .start) c (bay .readable .slots-limit .0) (bay .readable .slots-limit .1)
-        (neighbours-apart (b .columns)) (bay .readable .start-state) completion-state (λ label l. omega (arith, bay .start-once label l)))
+        (neighbours-apart (b .columns)) (bay .readable .start-state) completion-state)
 
   -- If no completion can be reached, no sequence of moves meets the order.
   pub none-completed : ((c : List ℕ) → Completes order c → Unsolvable (bayTask (withGoal b c))) → Met order → ⊥
@@ -138,13 +141,13 @@ module _ (bytes : List ℕ) (b : Bay) (next : ℕ) (accepted-file : judgedBay by
   order-accepted out = partial-accepted order order-ordered out
       (omega (
         arith,
-        length-append (bayOperators n near) (forgettings (baySizes n) (out order)),
-        operators-most n near,
+        length-append (bayOperators n near (occursIn (b .start))) (forgettings (baySizes n) (out order)),
+        operators-most n near (occursIn (b .start)),
         forgettings-most n (out order),
         order-room n (bay .readable .slots-limit .1),
       ))
       (bay-accepted bytes b next accepted-file .acceptable .free)
-      (λ o m. let rules = slide-rules n near (neighbours-apart (b .columns)) o m in (rules .1, rules .2))
+      (λ o m. let rules = slide-rules n near (occursIn (b .start)) (onceIn (b .start)) (neighbours-apart (b .columns)) o m in (rules .1, rules .2))
 
   -- With whatever permitted operators left out, the built goal is reached exactly when a completion is: nothing is lost.
   module _ (out : Partial → ℕ → ℕ → Bool) (permitted : Permitted order (out order)) where

@@ -3,6 +3,7 @@ pub mod Search
 pub mod Flat
 pub mod Run
 pub mod Tells
+pub mod Count
 pub mod Parity
 pub mod Cut
 pub mod Slots

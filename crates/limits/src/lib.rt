@@ -15,6 +15,11 @@ pub const LEAST_PARTIAL_SIZE: usize = 1;
 
 pub const MOST_PARTIAL_SIZE: usize = 63;
 
+// "rows times columns, n, is 2 to 9"
+pub const LEAST_SLOTS: usize = 2;
+
+pub const MOST_SLOTS: usize = 9;
+
 // "N at most 4,096"
 pub const MOST_FEATURES: usize = 4096;
 

@@ -5,7 +5,7 @@ use mathlib.Core.Bool.{Bool, cond}
 use mathlib.Core.List.{List, [], _∷_}
 use lib.ListN.{length, getD}
 use lib.Dec.{eqb, ltb}
-use Rattle.meaning.specs.Sets.{flat}
+use Rattle.meaning.specs.Sets.{flat, count}
 use Rattle.meaning.specs.Limits.{leastSlots, mostSlots}
 use Rattle.meaning.specs.Task.{Operator, Task, State}
 use Rattle.meaning.specs.Feature.{double}
@@ -32,6 +32,13 @@ pub record Slots (near labels : List ℕ) : Type 0 where
 -- The sizes of their task.
 abbrev pub Uniform : List ℕ → Type 0
 Uniform sizes = (sizes ≡ baySizes (length sizes)) × (length sizes ≤ mostSlots)
+
+-- How many places of a table say that a pallet may slide, and how many labels from 1 on occur.
+abbrev pub placesIn : List ℕ → ℕ
+placesIn near = count (length near) (λ place. eqb (getD near place 0) 1)
+
+abbrev pub lotsIn : List ℕ → ℕ
+lotsIn start = count (length start - 1) (λ k. occursIn start (k + 1))
 
 -- ---- the task
 

@@ -1,20 +1,18 @@
 // The core of a builder: the task of slots between which pallets slide, from lent tables: which slots are neighbours, and the labels of the start and of the goal.
 ghost use mathlib.Core.Path.{_≡_};
 ghost use mathlib.Core.List.{_++_};
-ghost use Prim.Native.Nat.{_+_, _-_, _<_, _≤_};
+ghost use Prim.Native.Nat.{_+_, _*_, _<_, _≤_};
 ghost use lib.ListN.{length, take, drop};
-ghost use Rattle.meaning.specs.Sets.{count};
 ghost use Rattle.meaning.specs.Limits.{mostSlots, wordBits};
 ghost use Rattle.meaning.specs.Task.{State};
 ghost use Rattle.meaning.specs.Feature.{features};
 ghost use Rattle.meaning.specs.File.{operatorBytes, counted, taskBytes};
-ghost use Rattle.meaning.specs.Bay.{occurrences, occursIn, onceIn, equalLots, baySizes, bayPairs, slide};
+ghost use Rattle.meaning.specs.Bay.{occurrences, onceIn, equalLots, baySizes, bayPairs, slide};
 ghost use Rattle.meaning.specs.Answer.{delivered};
 ghost use Rattle.words.specs.Toggled.{toggledAll};
 ghost use Rattle.writer.specs.Answer.{outcomeOf};
 ghost use Rattle.sliding.specs.Parts.{Slots, Uniform, TaskParts, operatorsIn, taskIn, builtIn, labelPair, labelPairs, slotPairs};
-ghost use Rattle.sliding.specs.Parts.{lotBytes, slideBytes, gapBytes, walkBytes};
-ghost use Rattle.sliding.specs.Counts.{placesIn, lotsIn};
+ghost use Rattle.sliding.specs.Parts.{placesIn, lotsIn, lotBytes, slideBytes, gapBytes, walkBytes};
 use limits::MOST_SLOTS;
 use limits::MOST_WORDS;
 use number::Reason;

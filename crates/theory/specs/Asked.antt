@@ -1,4 +1,4 @@
--- What the tool asks of an order that names some slots, call by call, and what an accepted verdict says then.
+-- What the tool asks of an order, call by call, and what an accepted verdict says then.
 use Prim.Native.Nat.{ℕ}
 use mathlib.Core.Path.{_≡_, sym, _∙_, subst}
 use mathlib.Core.List.{List}
@@ -7,12 +7,22 @@ use Rattle.meaning.specs.Task.{Task}
 use Rattle.meaning.specs.Number.{got}
 use Rattle.meaning.specs.File.{judgedTask}
 use Rattle.meaning.specs.Answer.{done, accepted, Checks}
-use Rattle.meaning.specs.Bay.{Bay, judgedBay, bayTask, Builds}
+use Rattle.meaning.specs.Bay.{Bay, slotCount, neighbours, judgedBay, bayTask, Builds}
 use Rattle.meaning.specs.Partial.{Met, Completes, silenced, Silences, BuildsPartialLean}
 use Rattle.theory.specs.Reading.{got-value}
+use Rattle.theory.specs.BayMoves.{Moves}
 use Rattle.theory.specs.Demands.{built, accepted-unsolvable}
 use Rattle.theory.specs.PartialDemands.{silenced-file, lean-unmet}
 use Rattle.theory.specs.BayOrders.{order, withGoal, none-completed}
+
+-- A bay file is built, and weights for its task are accepted: no moves lead from its start to its goal, whichever pallets of a lot stand where.
+pub bay-asked : (bay weights room lent : List ℕ) (k : ℕ) → Builds bay room (record { answer = done k; lent = lent }) → Checks (take k lent) weights (done accepted)
+    → (b : Bay) × (end : ℕ) × (judgedBay bay ≡ got b end) × ((ms : List (List ℕ)) → Moves (slotCount b) (neighbours (b .columns)) ms (b .start) (b .goal) → ⊥)
+bay-asked bay weights room lent k builds checks =
+    let first = built bay room lent k builds in
+    let (T, end, read, hopeless) = accepted-unsolvable (take k lent) weights checks in
+    let task : T ≡ bayTask (first .bay) = got-value (sym read ∙ first .task) in
+    (first .bay, first .end, first .accepted, first .unsolvable .0 (rw (← task) hopeless))
 
 -- A bay with some wanted arrangement is built, its task is silenced as the marks say, the lean task is built for that, and weights for it are accepted: no sequence of the
 -- bay's moves meets the order, whichever way its silent slots are filled.

@@ -1,6 +1,6 @@
 -- Bays over any neighbour relation: counts of labels, what a move leaves as it was, and that operators lead where moves lead.
 use Prim.Native.Nat.{ℕ, zero, suc, _+_, _-_, _/_, _%_, _<_, _≤_}
-use mathlib.Core.Path.{_≡_, refl, sym, ap, _∙_, subst}
+use mathlib.Core.Path.{_≡_, refl, sym, ap, ap₂, _∙_, subst}
 use mathlib.Core.Logic.{_≢_, _↔_, inl, inr}
 use mathlib.Core.Bool.{Bool, true, false, _&&_, cond}
 use mathlib.Core.List.{List, [], _∷_, List·Memᴰ as In, List·Memᴰ·head as here, List·Memᴰ·tail as there, List·Memᴰ·eq-of-singleton as eq-of-singleton}
@@ -16,9 +16,9 @@ use Rattle.meaning.specs.Weight.{Leads}
 use Rattle.meaning.specs.Bay.{baySizes, occurrences, oneApart, neighbours, Move, Step, SameLabels, exchange, slide, occursIn, bayOperators}
 use Rattle.theory.specs.Truth.{on, off, test, clash}
 use Rattle.theory.specs.Search.{or-neither, and-none-right}
-use Rattle.theory.specs.Count.{count-split}
+use Rattle.theory.specs.Count.{count-front}
 use Rattle.theory.specs.Tells.{Tells, tells-agree, tells-map, tells-and, tells-eq, tells-true}
-use Rattle.theory.specs.Flat.{in-flat, flat-in, in-when, when-in}
+use Rattle.theory.specs.Flat.{in-flat, flat-in, flat-cong, in-when, when-in}
 
 pub eqb-mirror : (a b : ℕ) → eqb a b ≡ eqb b a
 eqb-mirror a b = tells-agree (tells-eq a b) (tells-map sym sym (tells-eq b a))
@@ -34,7 +34,7 @@ occurrences-most label (x ∷ xs) = elim (test (eqb x label)) [ on e ↦ rw e (o
 pub occurrences-count : (label : ℕ) (l : List ℕ) → occurrences label l ≡ count (length l) (λ i. eqb (value l i) label)
 unfolding occurrences count
 occurrences-count label [] = refl
-occurrences-count label (x ∷ xs) = ap (λ k. cond (eqb x label) 1 0 + k) (occurrences-count label xs) ∙ sym (count-split 1 (length xs) (λ i. eqb (value (x ∷ xs) i) label))
+occurrences-count label (x ∷ xs) = ap (λ k. cond (eqb x label) 1 0 + k) (occurrences-count label xs) ∙ sym (count-front (length xs) (λ i. eqb (value (x ∷ xs) i) label))
 
 -- A label that stands somewhere is counted.
 pub occurrences-at : (label : ℕ) (l : List ℕ) (i : ℕ) → i < length l → value l i ≡ label → 1 ≤ occurrences label l
@@ -169,6 +169,13 @@ unfolding bayOperators
 slide-operator n near occurs p q zero l k e h h' c = absurd (omega arith)
 slide-operator n near occurs p q (suc t) l k e h h' c =
     in-flat n _ p _ l (in-flat n _ q _ k (when-in (near p q) _ e (in-flat (n - 1) _ t _ (omega arith) (when-in (occurs (suc t)) _ c (here refl)))))
+
+-- Relations and sets of labels that agree below n give the same operators.
+pub operators-cong : (n : ℕ) (near near' : ℕ → ℕ → Bool) (occurs occurs' : ℕ → Bool) → ((p q : ℕ) → p < n → q < n → near p q ≡ near' p q)
+    → ((t : ℕ) → t < n → occurs t ≡ occurs' t) → bayOperators n near occurs ≡ bayOperators n near' occurs'
+unfolding bayOperators
+operators-cong n near near' occurs occurs' beside labels = flat-cong n _ _ (λ p l. flat-cong n _ _ (λ q k. ap₂ (λ b s. cond b s []) (beside p q l k)
+    (flat-cong (n - 1) _ _ (λ t h. ap (λ b. cond b (slide p q (suc t) ∷ []) []) (labels (suc t) (omega arith))))))
 
 -- The slide applies where the gap is at one place and the pallet at the other.
 pub tells-exchange : (i j a b : ℕ) (s : List ℕ) → Tells (applies (exchange i j a b) s) ((value s i ≡ a) × (value s j ≡ b))

@@ -106,6 +106,7 @@ module _ (bytes : List ℕ) (b : Bay) (next : ℕ) (accepted-file : judgedBay by
 
     pub left-lots : (label : ℕ)
         → count n (λ i. named order i && eqb (value (order .goal) i) label) + count n (λ i. not (named order i) && eqb (value c i) label) ≡ occurrences label (b .start)
+    unfolding silenced taskFor
     left-lots label =
         ap (λ k. k + count n (λ i. not (named order i) && eqb (value c i) label)) (count-cong n _ _ (λ i l. agree i l (named order i) refl))
         ∙ sym (count-kinds n (named order) (λ i. eqb (value c i) label))
@@ -114,7 +115,6 @@ module _ (bytes : List ℕ) (b : Bay) (next : ℕ) (accepted-file : judgedBay by
         ∙ completed .as-often label
       where
         agree : (i : ℕ) → i < n → (t : Bool) → named order i ≡ t → (t && eqb (value (order .goal) i) label) ≡ (t && eqb (value c i) label)
-        unfolding silenced taskFor
         agree i l true is-named = ap (λ x. eqb x label) (sym (completes .meets i (rw (length-replicate n n) l) is-named))
         agree i l false silent = refl
 

@@ -1,4 +1,4 @@
--- The pairs of a bay for any set of labels: they are in order, and two atoms of different slots are paired exactly when they have one label of the set.
+-- The pairs of a bay: they are in order, and two atoms of different slots are paired exactly when they have one label, and it occurs once.
 use Prim.Native.Nat.{ℕ, _+_, _*_, _<_}
 use mathlib.Core.Path.{_≡_, refl, sym, ap, _∙_}
 use mathlib.Core.Logic.{_≢_}
@@ -16,12 +16,19 @@ use Rattle.meaning.specs.Pair.{paired}
 use Rattle.meaning.specs.Bay.{baySizes, bayPairs}
 use Rattle.theory.specs.Truth.{on, off, test, less, same, more, order}
 use Rattle.theory.specs.Search.{and-left, and-right, and-both, true-together, listed-in, in-listed}
-use Rattle.theory.specs.Flat.{in-flat, flat-in, in-when, when-in}
+use Rattle.theory.specs.Flat.{in-flat, flat-in, flat-cong, in-when, when-in}
 use Rattle.theory.specs.Run.{run-one, run-when, run-wider, run-flat}
 use Rattle.theory.specs.Numbering.{double-only, both-less, both-more}
 use Rattle.theory.specs.TrueList.{run-pairs}
 use Rattle.theory.specs.BayMoves.{eqb-mirror, bay-size, bay-below}
 
+-- Sets of labels that agree below n give the same pairs.
+pub pairs-cong : (n : ℕ) (once once' : ℕ → Bool) → ((label : ℕ) → label < n → once label ≡ once' label) → bayPairs n once ≡ bayPairs n once'
+unfolding bayPairs
+pairs-cong n once once' labels = flat-cong n _ _ (λ i l. flat-cong n _ _ (λ j k. ap (λ s. cond (ltb i j) s [])
+    (flat-cong n _ _ (λ label h. ap (λ b. cond b (double (baySizes n) i label j label ∷ []) []) (labels label h)))))
+
+-- Over any set of labels that are said to occur once.
 module _ (once : ℕ → Bool) where
   -- The features that put one label in the slots i < j.
   label-run : (n i j : ℕ) → i < j → j < n → Run (atoms (baySizes n) + pairStart (baySizes n) i j) (flat n (λ label. cond (once label) (double (baySizes n) i label j label ∷ []) []))
@@ -39,7 +46,7 @@ module _ (once : ℕ → Bool) where
   unfolding bayPairs
   in-pairs n i j label l k h c = in-flat n _ i _ (omega arith) (in-flat n _ j _ k (when-in (ltb i j) _ (lt-ltb i j l) (in-flat n _ label _ h (when-in (once label) _ c (here refl)))))
 
-  -- A listed feature puts one label in two slots.
+  -- A listed feature puts one label in two slots, a label that occurs once.
   pub record OneLabel (n f : ℕ) : Type 0 where
     pub first : ℕ
     pub second : ℕ
@@ -73,7 +80,7 @@ module _ (once : ℕ → Bool) where
       back : (eqb x y && once x) ≡ true → listed (bayPairs n once) (double (baySizes n) i x j y) ≡ true
       back e = in-listed (bayPairs n once) _ (rw (← (eqb-true x y (and-left (eqb x y) (once x) e))) (in-pairs n i j x l k h (and-right (eqb x y) (once x) e)))
 
-  -- Two atoms of different slots are paired exactly when they have one label.
+  -- Two atoms of different slots are paired exactly when they have one label, and it occurs once.
   pub paired-bay : (n i x j y : ℕ) → i ≢ j → i < n → j < n → x < n → y < n → paired (baySizes n) (listed (bayPairs n once)) i x j y ≡ (eqb x y && once x)
   unfolding paired
   paired-bay n i x j y d l k h h' = elim (order i j) [

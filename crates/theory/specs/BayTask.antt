@@ -51,6 +51,10 @@ unfolding every features atoms sumOf pairsOf
 bay-room n h = tells-every (suc mostSlots) (λ k. leb (features (baySizes k)) mostFeatures && ltb (mostOperators k) numberEnd) _
     (λ k l. tells-and (tells-le (features (baySizes k)) mostFeatures) (tells-lt (mostOperators k) numberEnd)) .yes refl n (omega arith)
 
+-- So its operators can be counted in a file.
+pub operators-countable : (n : ℕ) (near : ℕ → ℕ → Bool) (occurs : ℕ → Bool) → n ≤ mostSlots → length (bayOperators n near occurs) < numberEnd
+operators-countable n near occurs h = omega (arith, operators-most n near occurs, bay-room n h)
+
 pub bay-limits : (n : ℕ) → leastSlots ≤ n → n ≤ mostSlots → InLimits (baySizes n)
 bay-limits n h k = record {
   variables = rw (length-replicate n n) (omega arith, omega arith);
@@ -172,8 +176,11 @@ bay-free n once s S few = some-not _ _ (λ j l. let k : j < n = rw (length-repli
     apart i j l k =
         paired-bay once n i (value s i) j (value s j) (omega arith) (omega arith) k (bay-value n s S i (omega arith)) (bay-value n s S j k)
         ∙ elim (test (eqb (value s i) (value s j) && once (value s i))) [
-          | on q ↦ absurd (omega (arith, one-only (value s i) s i j (few (value s i) (and-right (eqb (value s i) (value s j)) (once (value s i)) q))
-              (omega (arith, bay-length n s S)) (omega (arith, bay-length n s S)) refl (sym (eqb-true _ _ (and-left (eqb (value s i) (value s j)) (once (value s i)) q)))))
+          | on q ↦ absurd (omega (
+            arith,
+            one-only (value s i) s i j (few (value s i) (and-right (eqb (value s i) (value s j)) (once (value s i)) q))
+                (omega (arith, bay-length n s S)) (omega (arith, bay-length n s S)) refl (sym (eqb-true _ _ (and-left (eqb (value s i) (value s j)) (once (value s i)) q))),
+          ))
           | off q ↦ q
         ]
 
@@ -191,7 +198,7 @@ bay-writable n near start goal h k apart S G = record {
     free = bay-free n (onceIn start) start S (λ label e. omega (arith, eqb-true (occurrences label start) 1 e));
     closed-under = λ o m. slide-rules n near (occursIn start) (onceIn start) apart o m .1;
   };
-  countable = omega (arith, operators-most n near (occursIn start), bay-room n k);
+  countable = operators-countable n near (occursIn start) k;
 }
 
 -- ---- what an accepted bay file says

@@ -20,6 +20,12 @@ unfolding count
 count-cong zero p q h = refl
 count-cong (suc n) p q h = ap₂ (λ a b. a + cond b 1 0) (count-cong n p q (λ i l. h i (omega arith))) (h n (omega arith))
 
+-- The first, and those after it.
+pub count-front : (n : ℕ) (p : ℕ → Bool) → count (suc n) p ≡ cond (p 0) 1 0 + count n (λ k. p (suc k))
+unfolding count
+count-front zero p = omega arith
+count-front (suc n) p = omega (arith, count-front n p)
+
 -- The first a, and those after them.
 pub count-split : (a n : ℕ) (p : ℕ → Bool) → count (a + n) p ≡ count a p + count n (λ k. p (a + k))
 unfolding count

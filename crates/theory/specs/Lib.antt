@@ -48,6 +48,7 @@ pub mod Delivered
 pub mod BayMoves
 pub mod BayPairs
 pub mod BayTask
+pub mod BayLots
 pub mod Demands
 pub mod PartialPairs
 pub mod PartialTask

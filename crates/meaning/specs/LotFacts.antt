@@ -61,7 +61,6 @@ different-pairs : bayTask (row (0 ∷ 1 ∷ 2 ∷ []) (2 ∷ 1 ∷ 0 ∷ [])) .p
 unfolding making
 different-pairs = refl
 
--- The operators of a row for one label, by the gap's slot and the pallet's.
 different-operators : bayTask (row (0 ∷ 1 ∷ 2 ∷ []) (2 ∷ 1 ∷ 0 ∷ [])) .operators ≡ exchange 0 1 0 1 ∷ exchange 0 1 0 2 ∷ exchange 0 1 1 0 ∷ exchange 0 1 2 0
     ∷ exchange 1 2 0 1 ∷ exchange 1 2 0 2 ∷ exchange 1 2 1 0 ∷ exchange 1 2 2 0 ∷ []
 unfolding making

@@ -64,7 +64,8 @@ enum {
     FLORUMEJA_UNCLOSED = 7,    /* the pairs aren't closed under an operator */
     FLORUMEJA_SMALL = 8,       /* lent room is too small */
     FLORUMEJA_MALFORMED = 9,   /* a workspace isn't well formed */
-    FLORUMEJA_MISLABELLED = 10 /* a bay list misses or repeats a label */
+    FLORUMEJA_GAPS = 10,       /* a bay's start, or then its goal, has no gap or more than one */
+    FLORUMEJA_UNEQUAL = 11     /* a bay's start and goal don't hold each label equally often */
 };
 
 static inline uint32_t florumeja_case(uint64_t answer) { return (uint32_t)(answer >> 32); }
@@ -72,7 +73,7 @@ static inline uint32_t florumeja_case(uint64_t answer) { return (uint32_t)(answe
 static inline uint32_t florumeja_value(uint64_t answer) { return (uint32_t)(answer & 0xffffffffu); }
 
 /* Room that is never too small. A workspace of v variables and N features has 1 + 3v + W + N*W words and an answer has W, where W is N/64 rounded
- * up; v is at most 64 and N at most 4,096. The task file of a bay of three by three has 2,019 bytes. The longest line has the count and 640
+ * up; v is at most 64 and N at most 4,096. The task file of a bay has at most 2,019 bytes: three by three, all labels different. The longest line has the count and 640
  * features; the longest line of a verdict has the number of an operator. The longest weight file has the count and 4,096 features, the first 128 of
  * one byte each, the others and the count of two. */
 #define FLORUMEJA_WORKSPACE_WORDS 262401
@@ -108,7 +109,7 @@ uint64_t florumeja_add_operator(uint64_t *workspace, size_t workspace_length, ui
 uint64_t florumeja_replace_start(uint64_t *workspace, size_t workspace_length, const uint64_t *values, size_t values_length);
 uint64_t florumeja_replace_goal(uint64_t *workspace, size_t workspace_length, const uint64_t *values, size_t values_length);
 
-/* Builds the task file of a bay file. */
+/* Builds the task file of a bay file: rows, columns, the start's labels and the goal's, slots row by row, 0 for the gap. Pallets with one label are alike. */
 uint64_t florumeja_build(const uint8_t *bay, size_t bay_length, uint8_t *room, size_t room_length);
 
 /* The line that the finder's program prints for an input, its line end included. The program's own refusals are lines too: case 3 is given

@@ -81,15 +81,22 @@ static void edits(void) {
     expect(refused(florumeja_replace_goal(room, 0, ends, 2), FLORUMEJA_MALFORMED), "no words at all: refused 9");
 }
 
+/* In the row 1 1 0 only the gap occurs once: its pairs are 9, 18 and 27, and the lot slides between each two neighbours, either way. */
 static void builds_and_lines(void) {
-    static const uint8_t bay[] = {1, 2, 0, 1, 1, 0}, twice[] = {1, 2, 0, 0, 1, 0}, high[] = {10, 1};
+    static const uint8_t bay[] = {1, 2, 0, 1, 1, 0}, gaps[] = {1, 2, 0, 0, 1, 0}, full[] = {1, 2, 0, 1, 1, 1}, unequal[] = {1, 3, 0, 1, 1, 0, 1, 2}, high[] = {10, 1};
+    static const uint8_t alike[] = {1, 3, 1, 1, 0, 0, 1, 1};
+    static const uint8_t lot[] = {3, 3, 3, 3, 1, 1, 0, 0, 1, 1, 3, 9, 18, 27, 4, 2, 0, 0, 1, 1, 1, 0, 2, 0, 1, 0, 1, 0, 1, 2, 1, 0, 1, 2, 1, 0, 2, 1, 1, 0, 2, 0, 1, 7};
     static const uint8_t largest[] = {3, 3, 0, 1, 2, 3, 4, 5, 6, 7, 8, 0, 1, 2, 3, 4, 5, 6, 8, 7};
     static const uint8_t task[] = {2, 2, 2, 0, 1, 1, 0, 2, 4, 7, 2, 2, 0, 0, 1, 1, 1, 0, 2, 0, 1, 0, 1, 0, 1, 7};
     uint8_t room[FLORUMEJA_LINE_BYTES];
     memset(room, 7, sizeof room);
     expect(refused(florumeja_build(bay, sizeof bay, room, 24), FLORUMEJA_SMALL) && room[0] == 7, "24 bytes are too few for the bay 1 by 2");
     expect(is(florumeja_build(bay, sizeof bay, room, sizeof room), FLORUMEJA_DONE, 25) && SAME(room, task), "the bay 1 by 2");
-    expect(refused(florumeja_build(twice, sizeof twice, room, sizeof room), FLORUMEJA_MISLABELLED), "a label twice: refused 10");
+    expect(refused(florumeja_build(gaps, sizeof gaps, room, sizeof room), FLORUMEJA_GAPS), "two gaps: refused 10");
+    expect(refused(florumeja_build(full, sizeof full, room, sizeof room), FLORUMEJA_GAPS), "no gap in the goal, and unequal lots: refused 10");
+    expect(refused(florumeja_build(unequal, sizeof unequal, room, 0), FLORUMEJA_UNEQUAL), "unequal lots and no room: refused 11");
+    memset(room, 7, sizeof room);
+    expect(is(florumeja_build(alike, sizeof alike, room, sizeof room), FLORUMEJA_DONE, 43) && SAME(room, lot), "a row with a lot of two");
     expect(refused(florumeja_build(high, sizeof high, room, sizeof room), FLORUMEJA_LIMIT), "ten rows: refused 2");
     expect(refused(florumeja_build(largest, sizeof largest, room, FLORUMEJA_BAY_BYTES - 1), FLORUMEJA_SMALL), "a byte too few for the bay 3 by 3");
     expect(is(florumeja_build(largest, sizeof largest, room, FLORUMEJA_BAY_BYTES), FLORUMEJA_DONE, FLORUMEJA_BAY_BYTES), "the bay 3 by 3");

@@ -17,6 +17,7 @@ use Rattle.meaning.specs.Weight.{Considered, Keeps, Allows, Meets, Separates}
 use Rattle.meaning.specs.Number.{Reason, refusal, Read, got, fault, groups, number, numbersOn}
 use Rattle.meaning.specs.File.{item, judge, limited, rising, ended, itemsOf, sizeList, header, featuresOf, featureList, entriesOf, operatorOf, operatorsOf, taskOf, judgedTask, judgedWeights}
 use Rattle.meaning.specs.Answer.{Answer, done, refused, byRead, Verdict, accepted, endsAlike, breaks, Breaks, Judges, Checks}
+use Rattle.meaning.specs.Bay.{sidesOf, bayOf, occurrences, oneGap, equalLots, judgedLots, judgedBay, neighbours, slide, bayOperators, bayPairs, taskFor}
 use Rattle.meaning.specs.Line.{Found, nothing, separating, Seeks, Says}
 use Rattle.theory.specs.Truth.{on, off, test}
 use Rattle.theory.specs.Search.{and-left, and-right, every-at, all-at, listed-in}
@@ -291,3 +292,8 @@ unfolding says? checks? byRead? refused? done? judges? breaks? seeks? least? run
     sumOf pairsOf atoms features single pairStart double both trueIn parity paired possible clashing stuck idle clashingAfter uncovered closed holds
     groups number numbersOn item judge limited rising ended itemsOf sizeList header featuresOf featureList entriesOf operatorOf operatorsOf taskOf judgedTask judgedWeights
 computing = tt
+
+-- And this, beside it, all that a bay file and the task of a bay are.
+unfoldable pub bays : Unit {0}
+unfolding computing judgedBay bayOf sidesOf judgedLots oneGap equalLots occurrences taskFor bayPairs bayOperators neighbours slide
+bays = tt

@@ -15,8 +15,8 @@ use Rattle.meaning.specs.File.{header, judgedTask, bytesOf, counted, entryBytes
 use Rattle.meaning.specs.Workspace.{wordsOf, packed, contentOf}
 use Rattle.meaning.specs.Answer.{done, refused, Opens}
 use Rattle.meaning.specs.Line.{separating, Says, Prints, digits, word, wordsIn, line}
-use Rattle.meaning.specs.Bay.{Bay, sidesOf, bayOf, occurrences, oneGap, equalLots, judgedLots, judgedBay, neighbours, slide, bayOperators, bayPairs, taskFor, bayTask, Builds}
-use Rattle.marked.specs.Decide.{computing, slotsIn, slots?, slots-of}
+use Rattle.meaning.specs.Bay.{Bay, judgedBay, bayTask, Builds}
+use Rattle.marked.specs.Decide.{computing, bays, slotsIn, slots?, slots-of}
 use Rattle.marked.specs.Table.{finds, fileB, marked, marked-right}
 
 -- To name one of these on an `unfolding` line opens what the bytes of a task, the words of a workspace, a bay are computed with.
@@ -29,7 +29,7 @@ unfolding computing wordsOf packed table
 opening = tt
 
 building : Unit {0}
-unfolding computing writing judgedBay bayOf sidesOf judgedLots oneGap equalLots occurrences taskFor bayPairs bayOperators neighbours slide
+unfolding bays writing
 building = tt
 
 -- ---- numbers

@@ -11,18 +11,17 @@ use Rattle.meaning.specs.Weight.{Separates}
 use Rattle.meaning.specs.Number.{got}
 use Rattle.meaning.specs.File.{weightBytes, taskBytes}
 use Rattle.meaning.specs.Answer.{done, accepted, Checks}
-use Rattle.meaning.specs.Bay.{Bay, sidesOf, bayOf, occurrences, oneGap, equalLots, judgedLots, judgedBay, neighbours, slide, bayOperators, bayPairs, taskFor, bayTask}
+use Rattle.meaning.specs.Bay.{Bay, judgedBay, bayTask}
 use Rattle.meaning.specs.Partial.{Partial, Met, named, eachPair, builtPairs, forgettings, builtTask, againstGoal, leftOutLean, silenced, partialBytes}
 use Rattle.theory.specs.ReadBack.{weights-back}
 use Rattle.theory.specs.Demands.{accepts-exactly}
 use Rattle.theory.specs.PartialDemands.{built-accepted}
 use Rattle.theory.specs.BayOrders.{order-accepted, lean-impossible}
-use Rattle.marked.specs.Decide.{computing, tells-separates}
+use Rattle.marked.specs.Decide.{bays, tells-separates}
 
 -- To name it on an `unfolding` line opens what a bay and its order are computed with.
 ordering : Unit {0}
-unfolding computing judgedBay bayOf sidesOf judgedLots oneGap equalLots occurrences taskFor bayPairs bayOperators neighbours slide
-    silenced table builtTask builtPairs eachPair forgettings againstGoal leftOutLean named
+unfolding bays silenced table builtTask builtPairs eachPair forgettings againstGoal leftOutLean named
 ordering = tt
 
 -- The order is completed by the gap in the last slot.

@@ -65,7 +65,7 @@ bay-limits n h k = record {
 -- ---- the operators
 
 -- Slots i < j exchange the labels a and b.
-module _ (once : ℕ → Bool) (n i j a b : ℕ) (ordered : i < j) (place : j < n) (label-a : a < n) (label-b : b < n) where
+module _ (n i j a b : ℕ) (ordered : i < j) (place : j < n) (label-a : a < n) (label-b : b < n) where
   exchange-operator : IsOperator (baySizes n) (exchange i j a b)
   exchange-operator = record {
     filled = omega arith;
@@ -83,69 +83,71 @@ module _ (once : ℕ → Bool) (n i j a b : ℕ) (ordered : i < j) (place : j < 
   unfolding names anyOf
   unnamed u e = (eqb-false i u (or-none-left (eqb i u) (eqb j u || false) e), eqb-false j u (or-none-left (eqb j u) false (or-none-right (eqb i u) (eqb j u || false) e)))
 
-  possible-bay : (u y : ℕ) → i ≢ u → j ≢ u → u < n → y < n → possible (baySizes n) (listed (bayPairs n once)) (exchange i j a b) u y ≡ not ((eqb a y && once a) || (eqb b y && once b))
-  unfolding possible anyOf
-  possible-bay u y d d' l h = rw (paired-bay once n i a u y d (omega arith) l label-a h, paired-bay once n j b u y d' place l label-b h, or-false (eqb b y && once b)) refl
+  -- Over any set of labels that are said to occur once.
+  module _ (once : ℕ → Bool) where
+    possible-bay : (u y : ℕ) → i ≢ u → j ≢ u → u < n → y < n → possible (baySizes n) (listed (bayPairs n once)) (exchange i j a b) u y ≡ not ((eqb a y && once a) || (eqb b y && once b))
+    unfolding possible anyOf
+    possible-bay u y d d' l h = rw (paired-bay once n i a u y d (omega arith) l label-a h, paired-bay once n j b u y d' place l label-b h, or-false (eqb b y && once b)) refl
 
-  -- An after atom with the label c of a named slot v is paired only with what a before atom is paired with.
-  cover : (v c : ℕ) → v < n → c < n → ((u : ℕ) → names (exchange i j a b) u ≡ false → v ≢ u) → ((y : ℕ) → ((eqb c y && once c) && not ((eqb a y && once a) || (eqb b y && once b))) ≡ false)
-      → some (length (baySizes n)) (λ u. not (names (exchange i j a b) u) && some (size (baySizes n) u) (λ y. paired (baySizes n) (listed (bayPairs n once)) v c u y
-      && possible (baySizes n) (listed (bayPairs n once)) (exchange i j a b) u y)) ≡ false
-  cover v c l h apart known = some-not _ _ (λ u k. elim (test (names (exchange i j a b) u)) [
-    | on e ↦ rw e refl
-    | off e ↦ and-none-right (not (names (exchange i j a b) u)) _ (some-not _ _ (λ y t. pair u y e (rw (length-replicate n n) at k) t))
-  ])
-    where
-      pair : (u y : ℕ) → names (exchange i j a b) u ≡ false → u < n → y < size (baySizes n) u
-          → (paired (baySizes n) (listed (bayPairs n once)) v c u y && possible (baySizes n) (listed (bayPairs n once)) (exchange i j a b) u y) ≡ false
-      pair u y e k t = let t' : y < n = rw (bay-size n u k) at t in
-          rw (paired-bay once n v c u y (apart u e) l k h t', possible-bay u y (unnamed u e .0) (unnamed u e .1) k t') (known y)
+    -- An after atom with the label c of a named slot v is paired only with what a before atom is paired with.
+    cover : (v c : ℕ) → v < n → c < n → ((u : ℕ) → names (exchange i j a b) u ≡ false → v ≢ u) → ((y : ℕ) → ((eqb c y && once c) && not ((eqb a y && once a) || (eqb b y && once b))) ≡ false)
+        → some (length (baySizes n)) (λ u. not (names (exchange i j a b) u) && some (size (baySizes n) u) (λ y. paired (baySizes n) (listed (bayPairs n once)) v c u y
+        && possible (baySizes n) (listed (bayPairs n once)) (exchange i j a b) u y)) ≡ false
+    cover v c l h apart known = some-not _ _ (λ u k. elim (test (names (exchange i j a b) u)) [
+      | on e ↦ rw e refl
+      | off e ↦ and-none-right (not (names (exchange i j a b) u)) _ (some-not _ _ (λ y t. pair u y e (rw (length-replicate n n) at k) t))
+    ])
+      where
+        pair : (u y : ℕ) → names (exchange i j a b) u ≡ false → u < n → y < size (baySizes n) u
+            → (paired (baySizes n) (listed (bayPairs n once)) v c u y && possible (baySizes n) (listed (bayPairs n once)) (exchange i j a b) u y) ≡ false
+        pair u y e k t = let t' : y < n = rw (bay-size n u k) at t in
+            rw (paired-bay once n v c u y (apart u e) l k h t', possible-bay u y (unnamed u e .0) (unnamed u e .1) k t') (known y)
 
-  covered : uncovered (baySizes n) (listed (bayPairs n once)) (exchange i j a b) ≡ false
-  unfolding uncovered
-  covered = any-not _ _ (λ e m. elim (in-two m) [
-    | inl q ↦ rw q (cover i b (omega arith) label-b (λ u e. unnamed u e .0) (λ y. second (eqb a y && once a) (eqb b y && once b)))
-    | inr q ↦ rw q (cover j a place label-a (λ u e. unnamed u e .1) (λ y. first (eqb a y && once a) (eqb b y && once b)))
-  ])
-    where
-      first : (p q : Bool) → (p && not (p || q)) ≡ false
-      first true q = refl
-      first false q = refl
+    covered : uncovered (baySizes n) (listed (bayPairs n once)) (exchange i j a b) ≡ false
+    unfolding uncovered
+    covered = any-not _ _ (λ e m. elim (in-two m) [
+      | inl q ↦ rw q (cover i b (omega arith) label-b (λ u e. unnamed u e .0) (λ y. second (eqb a y && once a) (eqb b y && once b)))
+      | inr q ↦ rw q (cover j a place label-a (λ u e. unnamed u e .1) (λ y. first (eqb a y && once a) (eqb b y && once b)))
+    ])
+      where
+        first : (p q : Bool) → (p && not (p || q)) ≡ false
+        first true q = refl
+        first false q = refl
 
-      second : (p q : Bool) → (q && not (p || q)) ≡ false
-      second true true = refl
-      second true false = refl
-      second false true = refl
-      second false false = refl
+        second : (p q : Bool) → (q && not (p || q)) ≡ false
+        second true true = refl
+        second true false = refl
+        second false true = refl
+        second false false = refl
 
-  pub closed-bay : a ≢ b → closed (baySizes n) (listed (bayPairs n once)) (exchange i j a b) ≡ true
-  unfolding closed clashingAfter twoOf anyOf
-  closed-bay d = or-right (idle (baySizes n) (listed (bayPairs n once)) (exchange i j a b)) _ (rw (after, covered) refl)
-    where
-      after : clashingAfter (baySizes n) (listed (bayPairs n once)) (exchange i j a b) ≡ false
-      after = rw (paired-bay once n i b j a (omega arith) (omega arith) place label-b label-a, ne-eqb b a (λ q. d (sym q))) refl
+    pub closed-bay : a ≢ b → closed (baySizes n) (listed (bayPairs n once)) (exchange i j a b) ≡ true
+    unfolding closed clashingAfter twoOf anyOf
+    closed-bay d = or-right (idle (baySizes n) (listed (bayPairs n once)) (exchange i j a b)) _ (rw (after, covered) refl)
+      where
+        after : clashingAfter (baySizes n) (listed (bayPairs n once)) (exchange i j a b) ≡ false
+        after = rw (paired-bay once n i b j a (omega arith) (omega arith) place label-b label-a, ne-eqb b a (λ q. d (sym q))) refl
 
-  -- A third slot has a third label.
-  third-label : (u : ℕ) → u < n → names (exchange i j a b) u ≡ false → some (size (baySizes n) u) (possible (baySizes n) (listed (bayPairs n once)) (exchange i j a b) u) ≡ true
-  third-label u l e =
-      let (y, h, p, q) = third a b (omega (arith, ordered, place, l, unnamed u e)) in
-      some-at (size (baySizes n) u) _ y (bay-below n u y l h) (rw (possible-bay u y (unnamed u e .0) (unnamed u e .1) l h, ne-eqb a y p, ne-eqb b y q) refl)
-    where
-      third : (a b : ℕ) → 3 ≤ n → (y : ℕ) × (y < n) × (a ≢ y) × (b ≢ y)
-      third zero zero h = (1, omega arith, omega arith, omega arith)
-      third zero (suc zero) h = (2, omega arith, omega arith, omega arith)
-      third zero (suc (suc b)) h = (1, omega arith, omega arith, omega arith)
-      third (suc zero) zero h = (2, omega arith, omega arith, omega arith)
-      third (suc (suc a)) zero h = (1, omega arith, omega arith, omega arith)
-      third (suc a) (suc b) h = (0, omega arith, omega arith, omega arith)
+    -- A third slot has a third label.
+    third-label : (u : ℕ) → u < n → names (exchange i j a b) u ≡ false → some (size (baySizes n) u) (possible (baySizes n) (listed (bayPairs n once)) (exchange i j a b) u) ≡ true
+    third-label u l e =
+        let (y, h, p, q) = third a b (omega (arith, ordered, place, l, unnamed u e)) in
+        some-at (size (baySizes n) u) _ y (bay-below n u y l h) (rw (possible-bay u y (unnamed u e .0) (unnamed u e .1) l h, ne-eqb a y p, ne-eqb b y q) refl)
+      where
+        third : (a b : ℕ) → 3 ≤ n → (y : ℕ) × (y < n) × (a ≢ y) × (b ≢ y)
+        third zero zero h = (1, omega arith, omega arith, omega arith)
+        third zero (suc zero) h = (2, omega arith, omega arith, omega arith)
+        third zero (suc (suc b)) h = (1, omega arith, omega arith, omega arith)
+        third (suc zero) zero h = (2, omega arith, omega arith, omega arith)
+        third (suc (suc a)) zero h = (1, omega arith, omega arith, omega arith)
+        third (suc a) (suc b) h = (0, omega arith, omega arith, omega arith)
 
-  -- So no slide is idle for want of a possible label.
-  never-stuck : stuck (baySizes n) (listed (bayPairs n once)) (exchange i j a b) ≡ false
-  unfolding stuck
-  never-stuck = some-not _ _ (λ u l. elim (test (names (exchange i j a b) u)) [
-    | on e ↦ rw e refl
-    | off e ↦ and-none-right (not (names (exchange i j a b) u)) _ (ap not (third-label u (rw (length-replicate n n) at l) e))
-  ])
+    -- So no slide is idle for want of a possible label.
+    never-stuck : stuck (baySizes n) (listed (bayPairs n once)) (exchange i j a b) ≡ false
+    unfolding stuck
+    never-stuck = some-not _ _ (λ u l. elim (test (names (exchange i j a b) u)) [
+      | on e ↦ rw e refl
+      | off e ↦ and-none-right (not (names (exchange i j a b) u)) _ (ap not (third-label u (rw (length-replicate n n) at l) e))
+    ])
 
 -- Every operator of a bay is one, the pairs are closed under it, and it is not idle for want of a possible label.
 pub slide-rules : (n : ℕ) (near : ℕ → ℕ → Bool) (occurs once : ℕ → Bool) → ((p q : ℕ) → near p q ≡ true → p ≢ q) → (o : Operator) → In o (bayOperators n near occurs)
@@ -163,7 +165,7 @@ slide-rules n near occurs once apart o m = elim (order (f .gap) (f .slot)) [
 
     rules : (i j a b : ℕ) → i < j → j < n → a < n → b < n → a ≢ b → IsOperator (baySizes n) (exchange i j a b)
         × (closed (baySizes n) (listed (bayPairs n once)) (exchange i j a b) ≡ true) × (stuck (baySizes n) (listed (bayPairs n once)) (exchange i j a b) ≡ false)
-    rules i j a b l k h h' d = (exchange-operator once n i j a b l k h h', closed-bay once n i j a b l k h h' d, never-stuck once n i j a b l k h h')
+    rules i j a b l k h h' d = (exchange-operator n i j a b l k h h', closed-bay n i j a b l k h h' once d, never-stuck n i j a b l k h h' once)
 
 -- ---- the whole task
 

@@ -1,4 +1,4 @@
-//! Bays: files, the task of a bay, and moves on the grid itself.
+//! Bays: files, the task of a bay, and moves on the grid itself. Labels are lots and may repeat.
 
 use crate::features::{Atom, Features};
 use crate::numbers::{encode, Reader};
@@ -10,7 +10,10 @@ pub const MOST_SIDE: usize = 9;
 pub const LEAST_SLOTS: usize = 2;
 pub const MOST_SLOTS: usize = 9;
 
-/// A bay with its labels row by row; label 0 is the gap.
+/// The gap's label; any other is the lot of a pallet.
+pub const GAP: usize = 0;
+
+/// A bay with its labels row by row.
 #[derive(Clone, Debug, PartialEq, Eq)]
 pub struct Bay {
     pub rows: usize,
@@ -19,8 +22,16 @@ pub struct Bay {
     pub goal: Vec<usize>,
 }
 
-/// Reads a bay file; the first fault in document 01's order decides.
+/// Reads a bay file; the first fault in the documents' order decides.
 pub fn read_bay(bytes: &[u8]) -> Result<Bay, Refusal> {
+    let bay = read_lists(bytes)?;
+    bay.judge_gaps()?;
+    bay.judge_lots()?;
+    Ok(bay)
+}
+
+/// Reads a bay file up to its last byte; what its lists hold isn't judged yet.
+pub fn read_lists(bytes: &[u8]) -> Result<Bay, Refusal> {
     let mut reader = Reader::new(bytes);
     let rows = reader.number_within(&(1..MOST_SIDE + 1), Refusal::Limit)?;
     let columns = reader.number_within(&(1..MOST_SIDE + 1), Refusal::Limit)?;
@@ -31,8 +42,6 @@ pub fn read_bay(bytes: &[u8]) -> Result<Bay, Refusal> {
     let start = read_labels(&mut reader, slots)?;
     let goal = read_labels(&mut reader, slots)?;
     reader.finish()?;
-    judge_labels(&start)?;
-    judge_labels(&goal)?;
     Ok(Bay {
         rows,
         columns,
@@ -47,19 +56,49 @@ fn read_labels(reader: &mut Reader, slots: usize) -> Result<Vec<usize>, Refusal>
         .collect()
 }
 
-fn judge_labels(labels: &[usize]) -> Result<(), Refusal> {
-    let mut sorted = labels.to_vec();
-    sorted.sort_unstable();
-    if sorted.into_iter().eq(0..labels.len()) {
-        Ok(())
-    } else {
-        Err(Refusal::Labels)
-    }
+/// How often a list holds a label.
+pub fn times(labels: &[usize], label: usize) -> usize {
+    labels.iter().filter(|each| **each == label).count()
 }
 
 impl Bay {
     pub fn slots(&self) -> usize {
         self.rows * self.columns
+    }
+
+    /// The gap occurs once, in the start and then in the goal.
+    pub fn judge_gaps(&self) -> Result<(), Refusal> {
+        for labels in [&self.start, &self.goal] {
+            if times(labels, GAP) != 1 {
+                return Err(Refusal::Gap);
+            }
+        }
+        Ok(())
+    }
+
+    /// Start and goal hold each label equally often.
+    pub fn judge_lots(&self) -> Result<(), Refusal> {
+        if (0..self.slots()).all(|label| self.equally_often(label)) {
+            Ok(())
+        } else {
+            Err(Refusal::Lots)
+        }
+    }
+
+    pub fn equally_often(&self, label: usize) -> bool {
+        times(&self.start, label) == times(&self.goal, label)
+    }
+
+    /// The labels that occur as often as asked, judged in the start: the goal holds the same.
+    pub fn labels(&self, asked: impl Fn(usize) -> bool) -> Vec<usize> {
+        let mut labels: Vec<usize> = (0..self.slots()).collect();
+        labels.retain(|label| asked(times(&self.start, *label)));
+        labels
+    }
+
+    /// Whether two pallets are alike.
+    pub fn has_alike(&self) -> bool {
+        !self.labels(|times| times > 1).is_empty()
     }
 
     /// The numbers of the bay file, in order.
@@ -91,7 +130,7 @@ impl Bay {
 
     /// The labels after each move: a neighbouring pallet slides into the gap.
     pub fn moves(&self, labels: &[usize]) -> Vec<Vec<usize>> {
-        let gap = labels.iter().position(|label| *label == 0);
+        let gap = labels.iter().position(|label| *label == GAP);
         let gap = gap.expect("a gap in every bay");
         let slide = |neighbour| {
             let mut moved = labels.to_vec();
@@ -101,15 +140,15 @@ impl Bay {
         self.neighbours(gap).into_iter().map(slide).collect()
     }
 
-    /// The features that put one label in two slots.
-    fn pairs(&self) -> Vec<usize> {
+    /// The features that put one of these labels in two slots.
+    pub fn pairs(&self, labels: &[usize]) -> Vec<usize> {
         let slots = self.slots();
         let features = Features::new(&vec![slots; slots]);
         let mut pairs = Vec::new();
-        for label in 0..slots {
+        for label in labels {
             let atom = |variable| Atom {
                 variable,
-                value: label,
+                value: *label,
             };
             for slot in 0..slots {
                 pairs.extend(
@@ -126,39 +165,40 @@ impl Bay {
         let mut entries = vec![
             Entry {
                 variable: gap,
-                before: 0,
+                before: GAP,
                 after: label,
             },
             Entry {
                 variable: neighbour,
                 before: label,
-                after: 0,
+                after: GAP,
             },
         ];
         entries.sort_by_key(|entry| entry.variable);
         Operator { entries }
     }
 
-    fn operators(&self) -> Vec<Operator> {
+    /// The operators that slide these labels; the gap itself never slides.
+    pub fn operators(&self, labels: &[usize]) -> Vec<Operator> {
         let mut operators = Vec::new();
         for gap in 0..self.slots() {
             for neighbour in self.neighbours(gap) {
-                for label in 1..self.slots() {
-                    operators.push(Bay::slide(gap, neighbour, label));
-                }
+                let pallets = labels.iter().filter(|label| **label != GAP);
+                operators.extend(pallets.map(|label| Bay::slide(gap, neighbour, *label)));
             }
         }
         operators
     }
 
+    /// The bay's task: pairs of each label that occurs once, operators for each that occurs.
     pub fn task(&self) -> Task {
         let slots = self.slots();
         Task {
             sizes: vec![slots; slots],
             start: self.start.clone(),
             goal: self.goal.clone(),
-            pairs: self.pairs(),
-            operators: self.operators(),
+            pairs: self.pairs(&self.labels(|times| times == 1)),
+            operators: self.operators(&self.labels(|times| times > 0)),
         }
     }
 }

@@ -1,6 +1,6 @@
 //! The refusal numbers.
 
-/// Why a call is refused; the discriminants are document 01's numbers.
+/// Why a call is refused; the discriminants are the documents' numbers.
 #[derive(Clone, Copy, Debug, PartialEq, Eq, PartialOrd, Ord)]
 pub enum Refusal {
     /// Input ends inside what is due, or a number is badly formed.
@@ -21,8 +21,10 @@ pub enum Refusal {
     Room = 8,
     /// A workspace isn't well formed.
     Workspace = 9,
-    /// A bay list misses or repeats a label.
-    Labels = 10,
+    /// A bay list has no gap or more than one.
+    Gap = 10,
+    /// A bay's start and goal hold some label unequally often.
+    Lots = 11,
 }
 
 impl Refusal {

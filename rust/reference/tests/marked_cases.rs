@@ -1,4 +1,4 @@
-//! Document 01's cases A to L and its worked bytes and words.
+//! Document 01's cases A to L, its worked bytes and words, and bays with lots worked out by hand.
 
 use reference::bay::Bay;
 use reference::calls;
@@ -191,7 +191,74 @@ fn three_by_three_has_192_operators() {
         goal: (0..9).rev().collect(),
     };
     assert_eq!(bay.task().operators.len(), 192);
+    // Each of nine labels in each two of nine slots.
+    assert_eq!(bay.task().pairs.len(), 9 * 36);
     assert_eq!(read_task(&bay.task().file()), Ok(bay.task()));
+}
+
+/// Two pallets of lot 1 in a row of three: lot 2 doesn't occur, and only the gap gives pairs.
+#[test]
+fn smallest_bay_with_a_lot() {
+    let expected = [
+        // Three variables of size 3, start, goal.
+        3, 3, 3, 3, 0, 1, 1, 1, 1, 0, //
+        // Nine single atoms, then nine features for each two slots, the gap in both the first.
+        3, 9, 18, 27, //
+        4, 2, 0, 0, 1, 1, 1, 0, // Slot 1 into slot 0.
+        2, 0, 1, 0, 1, 0, 1, // Slot 0 into slot 1.
+        2, 1, 0, 1, 2, 1, 0, // Slot 2 into slot 1.
+        2, 1, 1, 0, 2, 0, 1, // Slot 1 into slot 2.
+    ];
+    let mut room = [9; 45];
+    assert_eq!(calls::build(&[1, 3, 0, 1, 1, 1, 1, 0], &mut room), 43);
+    assert_eq!(room[..43], expected);
+    assert_eq!(room[43..], [9, 9]);
+}
+
+/// Labels of all kinds in a square: 1 occurs twice, 2 doesn't, the gap and 3 occur once.
+#[test]
+fn labels_that_occur_once_give_pairs() {
+    let bay = Bay {
+        rows: 2,
+        columns: 2,
+        start: vec![1, 0, 3, 1],
+        goal: vec![1, 1, 0, 3],
+    };
+    // After 16 single atoms, 16 features for each two slots: 0 with 0 first, 3 with 3 last.
+    let pairs = [16, 31, 32, 47, 48, 63, 64, 79, 80, 95, 96, 111];
+    assert_eq!(bay.task().pairs, pairs);
+    // Each slot has two neighbours; labels 1 and 3 slide.
+    let operators = bay.task().operators;
+    assert_eq!(operators.len(), 4 * 2 * 2);
+    let first = [
+        operator(&[(0, 0, 1), (1, 1, 0)]),
+        operator(&[(0, 0, 3), (1, 3, 0)]),
+        operator(&[(0, 0, 1), (2, 1, 0)]),
+        operator(&[(0, 0, 3), (2, 3, 0)]),
+        operator(&[(0, 1, 0), (1, 0, 1)]),
+    ];
+    assert_eq!(operators[..5], first);
+    assert_eq!(read_task(&bay.task().file()), Ok(bay.task()));
+}
+
+#[test]
+fn two_lots_of_four() {
+    let bay = Bay {
+        rows: 3,
+        columns: 3,
+        start: vec![0, 1, 1, 1, 1, 2, 2, 2, 2],
+        goal: vec![2, 1, 2, 1, 0, 1, 2, 1, 2],
+    };
+    // 24 ways from a slot to a neighbour, two lots.
+    assert_eq!(bay.task().operators.len(), 24 * 2);
+    // The gap alone: the first feature of each of the 36 pairs of slots, 81 apart.
+    let pairs: Vec<usize> = (1..=36).map(|place| 81 * place).collect();
+    assert_eq!(bay.task().pairs, pairs);
+    // v, sizes, start, goal; the first pair in one byte and the others in two; operators of seven.
+    let due = 1 + 3 * 9 + 1 + (1 + 35 * 2) + 1 + 48 * 7;
+    let mut room = vec![9; due];
+    assert_eq!(calls::build(&bay.file(), &mut room), due as u64);
+    assert_eq!(read_task(&room), Ok(bay.task()));
 }
 
 #[test]

@@ -1,10 +1,12 @@
 //! Partial files: built tasks worked out by hand, and what breadth-first search says of them.
 
+use reference::bay::times;
 use reference::calls::{self, broken, denied, done};
 use reference::feature_set::FeatureSet;
 use reference::features::Features;
 use reference::operators::{Entry, Operator};
 use reference::partial::{read_built, read_partial, LeftOut, Partial};
+use reference::sample::bays::arrangements;
 use reference::sample::partials::{
     accepted_partial, completed, scaled_partial, silenced_bay, sizes,
 };
@@ -441,33 +443,31 @@ fn all_silent() {
 
 /// The ways to fill a bay's silent slots with the labels that are left.
 fn completions(bay: &Partial) -> Vec<Vec<usize>> {
-    let mut filled = vec![Vec::new()];
-    for goal in &bay.goal {
-        let mut longer = Vec::new();
-        for labels in &filled {
-            for label in 0..bay.sizes.len() {
-                let asked = goal.map_or(!bay.goal.contains(&Some(label)), |asked| asked == label);
-                if asked && !labels.contains(&label) {
-                    longer.push([&labels[..], &[label]].concat());
-                }
-            }
-        }
-        filled = longer;
-    }
-    filled
+    let mut completions = arrangements(&bay.start);
+    completions.retain(|labels| bay.met_by(labels));
+    completions
+}
+
+/// How many ways there are: the orders of all labels that are left over those of equal ones.
+fn ways(bay: &Partial) -> usize {
+    let factorial = |number: usize| (1..=number).product::<usize>();
+    let named: Vec<usize> = bay.goal.iter().flatten().copied().collect();
+    let silent = bay.goal.len() - named.len();
+    let left = |label| times(&bay.start, label) - times(&named, label);
+    let alike = (0..bay.goal.len()).map(|label| factorial(left(label)));
+    factorial(silent) / alike.product::<usize>()
 }
 
 /// Moves keep the labels, so a bay's order is met exactly when one of its completions is reached.
 #[test]
 fn orders_of_bays_are_met_by_completions() {
     let mut generator = Generator::new(0x9A4D);
-    let ways = [1, 1, 2, 6, 24];
     for _ in 0..120 {
         let shape = generator.choose(&[(2, 2), (1, 4), (2, 3), (5, 1)]);
         let silent = generator.below(5);
         let bay = silenced_bay(&mut generator, shape, silent);
         let completions = completions(&bay);
-        assert_eq!(completions.len(), ways[silent]);
+        assert_eq!(completions.len(), ways(&bay));
         let within = own_states(&bay);
         let met = completions.iter().any(|labels| within.contains(labels));
         assert_eq!(can_meet(&bay), met, "{bay:?}");

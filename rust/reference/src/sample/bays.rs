@@ -1,7 +1,7 @@
-//! Random bays.
+//! Random bays, and all lists of labels for small ones.
 
 use super::Generator;
-use crate::bay::{Bay, MOST_SIDE, MOST_SLOTS};
+use crate::bay::{times, Bay, GAP, MOST_SIDE, MOST_SLOTS};
 use crate::feature_set::FeatureSet;
 use crate::features::{Atom, Features};
 
@@ -18,19 +18,91 @@ pub fn shapes() -> Vec<(usize, usize)> {
     shapes
 }
 
+/// The shapes of at most so many slots.
+pub fn shapes_within(most: usize) -> Vec<(usize, usize)> {
+    let mut shapes = shapes();
+    shapes.retain(|(rows, columns)| rows * columns <= most);
+    shapes
+}
+
+/// The gap and any lots; now and then all labels are different.
 pub fn labels(generator: &mut Generator, slots: usize) -> Vec<usize> {
     let mut labels: Vec<usize> = (0..slots).collect();
+    if !generator.once_in(3) {
+        // Few lots as often as many, so that some occur often and others never.
+        let few = generator.between(1, slots - 1);
+        let lots: Vec<usize> = (0..few).map(|_| generator.between(1, slots - 1)).collect();
+        labels[1..].fill_with(|| generator.choose(&lots));
+    }
+    shuffled(generator, &labels)
+}
+
+/// The same labels, each as often, in any slots.
+pub fn shuffled(generator: &mut Generator, labels: &[usize]) -> Vec<usize> {
+    let mut labels = labels.to_vec();
     generator.shuffle(&mut labels);
     labels
 }
 
 pub fn bay(generator: &mut Generator, (rows, columns): (usize, usize)) -> Bay {
+    let start = labels(generator, rows * columns);
     Bay {
         rows,
         columns,
-        start: labels(generator, rows * columns),
-        goal: labels(generator, rows * columns),
+        goal: shuffled(generator, &start),
+        start,
     }
+}
+
+/// Spoils labels: no gap or several, unequal lots; now and then both lists hold the same, so that
+/// only the gap can be at fault.
+pub fn mislabel(generator: &mut Generator, bay: &mut Bay) {
+    let slots = bay.slots();
+    for _ in 0..generator.between(1, 2) {
+        let list = if generator.once_in(2) {
+            &mut bay.start
+        } else {
+            &mut bay.goal
+        };
+        let gap = list.iter().position(|label| *label == GAP);
+        let place = gap.filter(|_| generator.once_in(4));
+        let label = if generator.once_in(4) {
+            GAP
+        } else {
+            generator.below(slots)
+        };
+        list[place.unwrap_or(generator.below(slots))] = label;
+    }
+    if generator.once_in(5) {
+        bay.goal = shuffled(generator, &bay.start);
+    }
+}
+
+/// Lists of labels grown slot by slot, as long as what has grown so far is kept.
+fn grown(slots: usize, kept: impl Fn(&[usize]) -> bool) -> Vec<Vec<usize>> {
+    let mut lists = vec![Vec::new()];
+    for _ in 0..slots {
+        let mut longer = Vec::new();
+        for list in &lists {
+            longer.extend((0..slots).map(|label| [&list[..], &[label]].concat()));
+        }
+        longer.retain(|list| kept(list));
+        lists = longer;
+    }
+    lists
+}
+
+/// Every list of labels in range, good or not.
+pub fn every_list(slots: usize) -> Vec<Vec<usize>> {
+    grown(slots, |_| true)
+}
+
+/// Every list that holds the same labels, each as often.
+pub fn arrangements(labels: &[usize]) -> Vec<Vec<usize>> {
+    grown(labels.len(), |list| {
+        let spent = |label: &usize| times(list, *label) <= times(labels, *label);
+        list.iter().all(spent)
+    })
 }
 
 /// Weights that every move keeps: out-of-order labels, and the colour of the gap's slot.

@@ -3,6 +3,7 @@
 use crate::lent::{Item, Lent};
 use crate::library;
 use crate::tally::{answer, shown, Comparison, Outcome, Tally};
+use reference::bay::read_bay;
 use reference::calls;
 use reference::workspace::Record;
 
@@ -157,8 +158,11 @@ impl Both<'_> {
         expected
     }
 
+    /// Good bays in which two pallets are alike are counted apart.
     pub fn build(&mut self, bay: &[u8], room: &[u8]) -> Outcome<u8> {
-        self.filled("build", ("bay", bay), room, calls::build, library::build)
+        let alike = read_bay(bay).is_ok_and(|bay| bay.has_alike());
+        let kind = if alike { "build_lots" } else { "build" };
+        self.filled(kind, ("bay", bay), room, calls::build, library::build)
     }
 
     pub fn line(&mut self, input: &[u8], room: &[u8]) -> Outcome<u8> {

@@ -63,6 +63,7 @@ fn main() -> ExitCode {
         Wish::All(plan) => {
             println!("seeds from {FIRST_SEED:#018x}");
             run_all(&mut tally, plan);
+            tally.demand();
         }
         Wish::One(group, seed) => run_case(&mut tally, group, seed),
     }
@@ -77,6 +78,7 @@ fn main() -> ExitCode {
 #[cfg(all(test, feature = "selftest"))]
 mod tests {
     use super::fake::{plant, Fault, FAULTS};
+    use super::tally::DUE;
     use super::*;
 
     fn silent() -> Tally {
@@ -89,8 +91,16 @@ mod tests {
     fn no_difference_without_a_fault() {
         let mut tally = silent();
         run_all(&mut tally, Plan { share: 50, ..WHOLE });
+        tally.demand();
         assert_eq!(tally.failed(), 0);
         assert!(tally.passed() > 5_000, "{}", tally.passed());
+    }
+
+    #[test]
+    fn what_was_never_met_is_a_difference() {
+        let mut tally = silent();
+        tally.demand();
+        assert_eq!(tally.failed(), DUE.len());
     }
 
     /// Whether a run of one of so many cases meets a difference.

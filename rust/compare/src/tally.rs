@@ -5,7 +5,7 @@ use std::collections::BTreeMap;
 use std::fmt::Write;
 
 /// The kinds of comparison, in the order of the report.
-pub const KINDS: [&str; 16] = [
+pub const KINDS: [&str; 17] = [
     "check",
     "open",
     "find",
@@ -13,6 +13,7 @@ pub const KINDS: [&str; 16] = [
     "replace_start",
     "replace_goal",
     "build",
+    "build_lots",
     "line",
     "weight_file",
     "check_line",
@@ -22,6 +23,20 @@ pub const KINDS: [&str; 16] = [
     "build_partial",
     "build_partial_lean",
     "silence",
+];
+
+/// Answers that a run of all groups has to meet, or it says nothing of them.
+pub const DUE: [(&str, &str); 10] = [
+    ("build", "done"),
+    ("build", "refused 1"),
+    ("build", "refused 2"),
+    ("build", "refused 3"),
+    ("build", "refused 5"),
+    ("build", "refused 8"),
+    ("build", "refused 10"),
+    ("build", "refused 11"),
+    ("build_lots", "done"),
+    ("build_lots", "refused 8"),
 ];
 
 /// More items than this are shown only where they differ.
@@ -149,6 +164,19 @@ impl Tally {
         count.failed += 1;
         if !self.silent && self.failed() <= MOST_DIFFERENCES {
             show(comparison, expected, found);
+        }
+    }
+
+    /// Counts each answer that is due and was never met as a difference.
+    pub fn demand(&mut self) {
+        for (kind, answer) in DUE {
+            let count = self.counts.entry(kind).or_default();
+            if !count.answers.contains_key(answer) {
+                count.failed += 1;
+                if !self.silent {
+                    println!("{kind}: never answered {answer}");
+                }
+            }
         }
     }
 

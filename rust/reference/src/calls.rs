@@ -32,12 +32,13 @@ pub fn refused(refusal: Refusal) -> u64 {
     3 * CASE + refusal.number()
 }
 
-fn settle(result: Result<u64, Refusal>) -> u64 {
+/// The number of a result or of its refusal.
+pub fn settle(result: Result<u64, Refusal>) -> u64 {
     result.unwrap_or_else(refused)
 }
 
 /// Copies what is due into lent room, leaves the rest of the room, and tells how much was due.
-fn fill<Item: Copy>(room: &mut [Item], due: &[Item]) -> Result<u64, Refusal> {
+pub fn fill<Item: Copy>(room: &mut [Item], due: &[Item]) -> Result<u64, Refusal> {
     let (filled, _) = room.split_at_mut_checked(due.len()).ok_or(Refusal::Room)?;
     filled.copy_from_slice(due);
     Ok(done(due.len()))

@@ -136,11 +136,31 @@ pub enum Fault {
     SilencingCounts,
     /// Silencing doesn't judge the limits of what it writes.
     SilencesTooLarge,
+    /// Labels that occur twice give pairs too.
+    TwicePaired,
+    /// Where labels repeat, only the gap gives pairs.
+    GapPairsAlone,
+    /// Labels that don't occur have operators too.
+    AbsentSlide,
+    /// The last label that repeats has no operators.
+    AlikeStay,
+    /// Unequal lots are judged before the gap.
+    LotsBeforeGaps,
+    /// Unequal lots are refused as a fault of the gap.
+    LotsAsGaps,
+    /// The goal's gap isn't judged.
+    StartGapAlone,
+    /// No gap, or several, pass where lots are equal.
+    EqualGapsPass,
+    /// A label of the goal only has to occur in the start.
+    GoalLotsOccur,
+    /// The last two labels aren't counted; the last one alone would follow from the others.
+    LastLotsUncounted,
 }
 
 use Fault::*;
 
-pub const FAULTS: [Fault; 65] = [
+pub const FAULTS: [Fault; 75] = [
     AcceptsAlike,
     CountsLiveOperators,
     LastOperator,
@@ -206,6 +226,16 @@ pub const FAULTS: [Fault; 65] = [
     SilencingJudgesPairs,
     SilencingCounts,
     SilencesTooLarge,
+    TwicePaired,
+    GapPairsAlone,
+    AbsentSlide,
+    AlikeStay,
+    LotsBeforeGaps,
+    LotsAsGaps,
+    StartGapAlone,
+    EqualGapsPass,
+    GoalLotsOccur,
+    LastLotsUncounted,
 ];
 
 thread_local! {

@@ -1,5 +1,6 @@
 //! Stands in for the library: the same functions over the reference, with faults to plant.
 
+mod bays;
 mod faults;
 mod files;
 mod partials;
@@ -10,12 +11,13 @@ pub use faults::plant_from_environment;
 #[cfg(test)]
 pub use faults::{plant, Fault, FAULTS};
 
+use bays::build;
 use faults::{planted, Fault::*};
 use files::{check, open};
 use partials::{build_partial, build_partial_lean, check_partial, open_partial, silence};
 use reference::workspace::Record;
 use words::{add_operator, find, replace_goal, replace_start};
-use written::{build, print, print_check, weight_file};
+use written::{print, print_check, weight_file};
 
 /// Refused 8.
 const NO_ROOM: u64 = (3 << 32) + 8;

@@ -1,39 +1,11 @@
-//! The bay builder, the lines and weight files with faults.
+//! The lines and weight files with faults.
 
 use super::faults::{planted, Fault::*};
 use super::NO_ROOM;
-use reference::bay::{read_bay, Bay};
-use reference::calls::{self, done, refused};
+use reference::calls::{self, done};
 use reference::features::count_features;
 use reference::line;
-use reference::refusal::Refusal;
 use reference::task::MOST_FEATURES;
-
-pub fn build(bay: &[u8], room: &mut [u8]) -> u64 {
-    let result = calls::build(bay, room);
-    if planted(RoomBeforeLabels) && result == refused(Refusal::Labels) && room.len() < 25 {
-        return refused(Refusal::Room);
-    }
-    match read_bay(bay) {
-        Ok(bay) if planted(NeighboursAcrossRows) && result <= u64::from(u32::MAX) => {
-            build_across_rows(&bay, room)
-        }
-        _ => result,
-    }
-}
-
-/// The task of a bay whose rows are put end to end, with the file's other parts as they were.
-fn build_across_rows(bay: &Bay, room: &mut [u8]) -> u64 {
-    let line = Bay {
-        rows: 1,
-        columns: bay.slots(),
-        ..bay.clone()
-    };
-    let file = line.task().file();
-    let length = file.len().min(room.len());
-    room[..length].copy_from_slice(&file[..length]);
-    done(length)
-}
 
 fn faulty_line(input: &[u8]) -> String {
     if planted(OneByteMore) && input.len() == line::MOST_BYTES + 1 {

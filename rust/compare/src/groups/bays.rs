@@ -1,12 +1,12 @@
-//! Bays of all sizes, their tasks, and damaged bay files.
+//! Bays of all sizes, with lots and with all labels different, their tasks, and damaged bay files.
 
-use super::{ample_room, byte_room};
+use super::{ample_room, byte_room, room_length};
 use crate::both::Both;
-use reference::bay::Bay;
+use reference::bay::{read_bay, Bay};
 use reference::calls;
 use reference::feature_set::words_for;
 use reference::features::count_features;
-use reference::sample::bays::{bay, order_weights, shapes};
+use reference::sample::bays::{bay, every_list, mislabel, order_weights, shapes, shapes_within};
 use reference::sample::damage::damaged_file;
 use reference::sample::Generator;
 use reference::weights::weight_file;
@@ -30,13 +30,11 @@ pub fn built(both: &mut Both, generator: &mut Generator) {
 /// Bay files with faults of one kind or several at once.
 pub fn damaged(both: &mut Both, generator: &mut Generator) {
     let mut bay = some_bay(generator);
-    let slots = bay.slots();
-    if generator.once_in(4) {
-        // A repeated label in either list, so that faults of labels meet others.
-        bay.start[generator.below(slots)] = generator.below(slots);
-        bay.goal[generator.below(slots)] = generator.below(slots);
+    if generator.once_in(2) {
+        // Faults of labels meet others.
+        mislabel(generator, &mut bay);
     }
-    let file = if generator.once_in(6) {
+    let file = if generator.once_in(3) {
         bay.file()
     } else {
         damaged_file(generator, &bay.numbers())
@@ -46,7 +44,42 @@ pub fn damaged(both: &mut Both, generator: &mut Generator) {
     both.build(&file, &room);
 }
 
-/// A bay from its file to the finder's answer, with weights that are known to be kept.
+/// Every bay file of up to three slots, and every square one.
+pub fn every(both: &mut Both, generator: &mut Generator) {
+    for (rows, columns) in [(1, 2), (2, 1), (1, 3), (3, 1), (2, 2)] {
+        let lists = every_list(rows * columns);
+        for start in &lists {
+            for goal in &lists {
+                let bay = Bay {
+                    rows,
+                    columns,
+                    start: start.clone(),
+                    goal: goal.clone(),
+                };
+                in_rooms(both, generator, &bay.file());
+            }
+        }
+    }
+}
+
+/// A good file of up to three slots in room of each length, any other in one.
+fn in_rooms(both: &mut Both, generator: &mut Generator, file: &[u8]) {
+    let lengths = match read_bay(file) {
+        Ok(bay) if bay.slots() <= 3 => 0..bay.task().file().len() + 3,
+        Ok(bay) => {
+            let length = room_length(generator, bay.task().file().len());
+            length..length + 1
+        }
+        Err(_) => 50..51,
+    };
+    for length in lengths {
+        let room = generator.bytes(length);
+        both.build(file, &room);
+    }
+}
+
+/// A bay from its file to the finder's answer, with weights that moves keep if no two labels are
+/// alike.
 pub fn whole_way(both: &mut Both, generator: &mut Generator, bay: &Bay) {
     let room = generator.bytes(bay.task().file().len());
     let file = both.build(&bay.file(), &room).memory;
@@ -67,11 +100,7 @@ pub fn whole_way(both: &mut Both, generator: &mut Generator, bay: &Bay) {
 
 /// Bays of up to six slots.
 pub fn solved(both: &mut Both, generator: &mut Generator) {
-    let few: Vec<_> = shapes()
-        .into_iter()
-        .filter(|(rows, columns)| rows * columns <= 6)
-        .collect();
-    let shape = generator.choose(&few);
+    let shape = generator.choose(&shapes_within(6));
     let bay = bay(generator, shape);
     whole_way(both, generator, &bay);
     let room = byte_room(generator, 60);

@@ -25,7 +25,7 @@ pub struct Group {
 }
 
 /// The counts make an optimised run take less than two minutes.
-pub const GROUPS: [Group; 32] = [
+pub const GROUPS: [Group; 33] = [
     Group {
         name: "weights",
         cases: 40_000,
@@ -185,6 +185,11 @@ pub const GROUPS: [Group; 32] = [
         name: "limits-of-silenced",
         cases: 200,
         run: silenced::limits,
+    },
+    Group {
+        name: "every-small-bay",
+        cases: 1,
+        run: bays::every,
     },
 ];
 

@@ -7,12 +7,12 @@ use reference::calls::{denied, done};
 use reference::feature_set::{words_for, FeatureSet};
 use reference::features::{count_features, Features};
 use reference::numbers::encode;
-use reference::partial::{read_built, LeftOut, Partial};
-use reference::sample::bays::shapes;
+use reference::partial::{read_built, silenced, LeftOut, Partial};
+use reference::sample::bays::{bay, shapes_within};
 use reference::sample::damage::damaged_file;
 use reference::sample::partials::{
-    accepted_partial, loose_partial, scaled_partial, silenced_bay, sizes, PARTIAL_EDGES,
-    PARTIAL_PAST_EDGES,
+    accepted_partial, loose_partial, scaled_partial, silenced_bay, silent_marks, sizes,
+    PARTIAL_EDGES, PARTIAL_PAST_EDGES,
 };
 use reference::sample::tasks::{loose_weights, Scale};
 use reference::sample::Generator;
@@ -224,16 +224,20 @@ pub fn unclosed(both: &mut Both, generator: &mut Generator) {
     some_call(both, generator, &partial.file());
 }
 
-/// Bays with some silent slots, up to six slots.
+/// Bays of up to six slots, some of them silent, from the bay's file to what is found.
 pub fn bays(both: &mut Both, generator: &mut Generator) {
-    let few: Vec<_> = shapes()
-        .into_iter()
-        .filter(|(rows, columns)| rows * columns <= 6)
-        .collect();
-    let shape = generator.choose(&few);
+    let shape = generator.choose(&shapes_within(6));
+    let bay = bay(generator, shape);
     let silent = generator.below(3);
-    let bay = silenced_bay(generator, shape, silent);
-    answer(both, generator, &bay, can_meet(&bay));
+    let marks = silent_marks(generator, bay.slots(), silent);
+    let partial = silenced(&bay.task(), &marks).expect("bays keep the limits");
+    let room = generator.bytes(bay.task().file().len());
+    let task = both.build(&bay.file(), &room).memory;
+    let room = byte_room(generator, partial.file().len());
+    both.silence(&task, &marks, &room);
+    some_call(both, generator, &partial.file());
+    built_file(both, generator, &partial, LeftOut::ByLetter);
+    answer(both, generator, &partial, can_meet(&partial));
 }
 
 /// A file that is good but for a size or its features, or one that has a bad mark after them.

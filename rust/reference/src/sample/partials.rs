@@ -111,12 +111,18 @@ pub fn scaled_partial(generator: &mut Generator, scale: Scale) -> Partial {
     accepted_partial(generator, &sizes, scale.most_operators)
 }
 
+/// Marks with so many silent slots.
+pub fn silent_marks(generator: &mut Generator, slots: usize, silent: usize) -> Vec<u8> {
+    let mut marks = vec![1; slots];
+    marks[..silent].fill(0);
+    generator.shuffle(&mut marks);
+    marks
+}
+
 /// A bay's task with so many silent slots.
 pub fn silenced_bay(generator: &mut Generator, shape: (usize, usize), silent: usize) -> Partial {
     let task = bay(generator, shape).task();
-    let mut marks = vec![1; task.sizes.len()];
-    marks[..silent].fill(0);
-    generator.shuffle(&mut marks);
+    let marks = silent_marks(generator, task.sizes.len(), silent);
     silenced(&task, &marks).expect("bays keep the limits")
 }
 

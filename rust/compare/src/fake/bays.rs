@@ -1,0 +1,64 @@
+//! The bay builder with faults.
+
+use super::faults::{planted, planted_fault, Fault::*};
+use reference::bay::{read_lists, Bay, GAP};
+use reference::calls::{fill, refused, settle};
+use reference::refusal::Refusal;
+use reference::task::Task;
+
+pub fn build(bay: &[u8], room: &mut [u8]) -> u64 {
+    let bay = read_lists(bay).and_then(|bay| judged(&bay).map(|()| bay));
+    let mislabelled = matches!(bay, Err(Refusal::Gap | Refusal::Lots));
+    if planted(RoomBeforeLabels) && mislabelled && room.len() < 25 {
+        return refused(Refusal::Room);
+    }
+    settle(bay.and_then(|bay| fill(room, &faulty_task(&bay).file())))
+}
+
+/// How a bay's labels are judged.
+fn judged(bay: &Bay) -> Result<(), Refusal> {
+    let (gaps, lots) = (bay.judge_gaps(), bay.judge_lots());
+    match planted_fault() {
+        LotsBeforeGaps => lots.and(gaps),
+        LotsAsGaps => gaps.and(lots.or(Err(Refusal::Gap))),
+        StartGapAlone => {
+            let goal = bay.start.clone();
+            Bay {
+                goal,
+                ..bay.clone()
+            }
+            .judge_gaps()
+            .and(lots)
+        }
+        EqualGapsPass if lots.is_ok() => Ok(()),
+        GoalLotsOccur if bay.goal.iter().all(|label| bay.start.contains(label)) => gaps,
+        LastLotsUncounted if (0..bay.slots() - 2).all(|label| bay.equally_often(label)) => gaps,
+        _ => gaps.and(lots),
+    }
+}
+
+fn faulty_task(bay: &Bay) -> Task {
+    let mut task = bay.task();
+    match planted_fault() {
+        NeighboursAcrossRows => {
+            let columns = bay.slots();
+            let row = Bay {
+                rows: 1,
+                columns,
+                ..bay.clone()
+            };
+            task.operators = row.task().operators;
+        }
+        TwicePaired => task.pairs = bay.pairs(&bay.labels(|times| times == 1 || times == 2)),
+        GapPairsAlone if bay.has_alike() => task.pairs = bay.pairs(&[GAP]),
+        AbsentSlide => task.operators = bay.operators(&bay.labels(|_| true)),
+        AlikeStay => {
+            let alike = bay.labels(|times| times > 1);
+            let mut sliding = bay.labels(|times| times > 0);
+            sliding.retain(|label| Some(label) != alike.last());
+            task.operators = bay.operators(&sliding);
+        }
+        _ => {}
+    }
+    task
+}

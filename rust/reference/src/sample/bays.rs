@@ -26,7 +26,7 @@ pub fn shapes_within(most: usize) -> Vec<(usize, usize)> {
 }
 
 /// The gap and any lots; now and then all labels are different.
-pub fn labels(generator: &mut Generator, slots: usize) -> Vec<usize> {
+fn labels(generator: &mut Generator, slots: usize) -> Vec<usize> {
     let mut labels: Vec<usize> = (0..slots).collect();
     if !generator.once_in(3) {
         // Few lots as often as many, so that some occur often and others never.

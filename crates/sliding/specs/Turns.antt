@@ -8,7 +8,7 @@ use lib.ListN.{length, take, drop}
 use Rattle.meaning.specs.Sets.{flat}
 use Rattle.meaning.specs.File.{bytesOf}
 use Rattle.theory.specs.BytesOf.{bytes-join}
-use Rattle.writer.specs.Remains.{Remains, remains-all, remains-none}
+use Rattle.writer.specs.Remains.{Remains, remains-all, part-fits, remains-after, remains-none}
 
 -- The lists for so many numbers from i on, one after another.
 unfoldable pub flatFrom : {A : Type 0} → ℕ → ℕ → (ℕ → List A) → List A
@@ -28,19 +28,33 @@ module _ {A : Type 0} (lists : ℕ → List A) where
   flat-from zero = refl
   flat-from (suc n) = ap₂ (λ l k. l ++ lists k) (flat-from n) (sym (zero-add n)) ∙ from-last n 0
 
-  module _ (n i : ℕ) where
-    pub left-more : i < n → flatFrom (n - i) i lists ≡ lists i ++ flatFrom (n - (i + 1)) (i + 1) lists
-    unfolding flatFrom
-    left-more h = let k : n - i ≡ suc (n - (i + 1)) = omega arith in rw k refl
+-- Of n turns, each of which writes its list, those before i are done: the lists of the others are what remains.
+pub record Turns (room₀ : List ℕ) (at : ℕ) (due : List ℕ) (n : ℕ) (lists : ℕ → List ℕ) (room : List ℕ) (next i : ℕ) : Type 0 where
+  pub within : i ≤ n
+  pub left : Remains room₀ at due room next (flatFrom (n - i) i lists)
 
-    pub left-none : n ≤ i → flatFrom (n - i) i lists ≡ []
-    unfolding flatFrom
-    left-none h = let k : n - i ≡ 0 = omega arith in rw k refl
+pub turns-begin : (room : List ℕ) (at : ℕ) (due : List ℕ) (n : ℕ) (lists : ℕ → List ℕ) → due ≡ flat n lists → at + length due ≤ length room
+    → Turns room at due n lists room at 0
+turns-begin room at due n lists e h = record { within = omega arith; left = rw (sub-zero n, ← flat-from lists n, ← e) (remains-all room at due h) }
 
--- Before the first turn all is left.
-pub remains-whole : (n : ℕ) (lists : ℕ → List ℕ) (room : List ℕ) (at : ℕ) (due : List ℕ) → due ≡ flat n lists → at + length due ≤ length room
-    → Remains room at due room at (flatFrom (n - 0) 0 lists)
-remains-whole n lists room at due e h = rw (sub-zero n, ← flat-from lists n, ← e) (remains-all room at due h)
+module _ {room₀ : List ℕ} {at : ℕ} {due : List ℕ} {n : ℕ} {lists : ℕ → List ℕ} {room : List ℕ} {next i : ℕ} (turns : Turns room₀ at due n lists room next i) where
+  more : i < n → flatFrom (n - i) i lists ≡ lists i ++ flatFrom (n - (i + 1)) (i + 1) lists
+  unfolding flatFrom
+  more h = let k : n - i ≡ suc (n - (i + 1)) = omega arith in rw k refl
+
+  -- The list of the next turn has room,
+  pub turn-fits : i < n → next + length (lists i) ≤ length room
+  turn-fits h = part-fits (turns .left) (lists i) _ (more h)
+
+  -- and when it is written, that turn is done.
+  pub turn-done : (room' : List ℕ) (after : ℕ) → i < n → after ≡ next + length (lists i) → room' ≡ take next room ++ (lists i ++ drop after room)
+      → Turns room₀ at due n lists room' after (i + 1)
+  turn-done room' after h p w = record { within = omega arith; left = remains-after (turns .left) (lists i) _ room' after (more h) p w }
+
+  -- After the last turn all that is due stands in the room.
+  pub turns-done : n ≤ i → (next ≡ at + length due) × (room ≡ take at room₀ ++ (due ++ drop next room₀))
+  unfolding flatFrom
+  turns-done h = remains-none (turns .left) (let k : n - i ≡ 0 = omega arith in rw k refl)
 
 -- Where nothing is due, nothing is written.
 pub nothing-due : (room : List ℕ) (at : ℕ) (due : List ℕ) → at + length due ≤ length room → due ≡ []

@@ -1,51 +1,27 @@
--- `operator_count` is the count of every bay within the limits, and small.
+-- `count_operators` multiplies two counts: the product is a count of operators, so it is small.
+use Prim.Native.Nat.{_*_}
+use mathlib.Core.Path.{ap₂, _∙_}
 use native.Mathlib.Omega.{arith}
 use borrow.Author.Needs.{needs}
-use Rattle.building.specs.Sides.{operators-counted, sides-few}
-use Rattle.building.proofs.operator_count.Statement.{statement}
-use Rattle.building.proofs.operator_count.Tie as tie
+use Rattle.sliding.specs.Counts.{operators-counted, operators-few}
+use Rattle.sliding.proofs.count_operators.Statement.{statement}
+use Rattle.sliding.proofs.count_operators.Tie as tie
 
-sub-sides : tie.Need-sub-sides
-sub-sides c = search needs
+count-places-requires : tie.Need-count-places-requires
+count-places-requires c κs = search needs
 
-mul-sides : tie.Need-mul-sides
-mul-sides c = omega (arith, sides-few (c .args .rows) (c .args .columns) (c .pre) .0)
-
-sub-sides-2 : tie.Need-sub-sides-2
-sub-sides-2 c = search needs
-
-mul-sides-2 : tie.Need-mul-sides-2
-mul-sides-2 c = omega (arith, sides-few (c .args .rows) (c .args .columns) (c .pre) .1)
-
-add-sides : tie.Need-add-sides
-add-sides c = omega (arith, sides-few (c .args .rows) (c .args .columns) (c .pre))
-
-mul-result : tie.Need-mul-result
-mul-result c = omega (arith, sides-few (c .args .rows) (c .args .columns) (c .pre))
-
-mul-result-2 : tie.Need-mul-result-2
-mul-result-2 c = search needs
-
-sub-result : tie.Need-sub-result
-sub-result c = search needs
-
-mul-result-3 : tie.Need-mul-result-3
-mul-result-3 c = omega (arith, operators-counted (c .args .rows) (c .args .columns) (c .pre))
+count-lots-requires : tie.Need-count-lots-requires
+count-lots-requires c κs = omega (arith, c .before .before .before .pre .least)
 
 returns : tie.Need-returns
-returns c = operators-counted (c .args .rows) (c .args .columns) (c .pre) .0
+returns c =
+    let entry = c .before .before .before .before in
+    ap₂ _*_ (c .before .count-places .ensures) (c .count-lots .ensures) ∙ operators-counted (entry .args .near .now) (entry .args .start .now) (entry .pre)
 
-pub operator-count-spec : {M : Type 1} → statement M
-operator-count-spec =
-    tie.close
-    (tie.spec
-    sub-sides
-    mul-sides
-    sub-sides-2
-    mul-sides-2
-    add-sides
-    mul-result
-    mul-result-2
-    sub-result
-    mul-result-3
-    returns)
+mul-result : tie.Need-mul-result
+mul-result c =
+    let entry = c .before .before .before .before in
+    omega (arith, returns c, operators-few (entry .args .near .now) (entry .args .start .now) (entry .pre))
+
+pub count-operators-spec : {M : Type 1} → statement M
+count-operators-spec = tie.close (tie.spec count-places-requires count-lots-requires mul-result returns)

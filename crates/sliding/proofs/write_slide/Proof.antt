@@ -4,9 +4,9 @@ use native.Mathlib.Omega.{arith}
 use lib.ListN.{length}
 use borrow.Author.Needs.{needs}
 use Rattle.meaning.specs.File.{operatorBytes}
-use Rattle.building.specs.Files.{slide-ordered, slide-turned, two-triples}
-use Rattle.building.proofs.write_slide.Statement.{statement}
-use Rattle.building.proofs.write_slide.Tie as tie
+use Rattle.sliding.specs.Operators.{slide-ordered, slide-turned, two-triples}
+use Rattle.sliding.proofs.write_slide.Statement.{statement}
+use Rattle.sliding.proofs.write_slide.Tie as tie
 
 -- Where the order of the two slots was found, seen from the call that writes them.
 abbrev ordered : tie.After-write-operator-arg4 → tie.Then1

@@ -1,55 +1,66 @@
--- `write_slides` writes a slide at each turn: those of the labels left are what remains.
-use Prim.Native.Nat.{ℕ, _+_, _-_, _≤_}
-use mathlib.Core.Path.{sym, _∙_}
+-- `write_slides` writes the slide of a label at each turn: those of the labels left are what remains.
+use Prim.Native.Nat.{ℕ, _+_, _-_, _*_, _<_}
 use mathlib.Core.List.{List}
 use native.Mathlib.Omega.{arith}
-use borrow.Author.Needs.{needs}
-use borrow.Author.Tests.{not-true, not-false}
-use Rattle.meaning.specs.File.{operatorBytes}
-use Rattle.meaning.specs.Bay.{slide}
-use Rattle.writer.specs.Remains.{Remains, part-fits, remains-after, remains-none}
-use Rattle.building.specs.Parts.{slideBytes}
-use Rattle.building.specs.Turns.{flatFrom, left-more, left-none, remains-whole, nothing-due}
-use Rattle.building.specs.Files.{slides-beside, no-slides}
-use Rattle.building.proofs.write_slides.Statement.{statement}
-use Rattle.building.proofs.write_slides.Tie as tie
+use lib.Arith.{digits-lt}
+use lib.ListN.{length}
+use borrow.Author.Tests.{eq-eqb, ne-eqb}
+use Rattle.sliding.specs.Parts.{lotBytes, slideBytes}
+use Rattle.sliding.specs.Turns.{Turns, turns-begin, turn-fits, turn-done, turns-done, nothing-due}
+use Rattle.sliding.specs.Operators.{slides-beside, no-slides}
+use Rattle.sliding.proofs.write_slides.Statement.{statement}
+use Rattle.sliding.proofs.write_slides.Tie as tie
 
 -- The bytes of the slide in a turn.
-abbrev oneSlide : ℕ → ℕ → ℕ → List ℕ
-oneSlide p q k = operatorBytes (slide p q (k + 1))
+abbrev oneLot : List ℕ → ℕ → ℕ → ℕ → List ℕ
+oneLot start p q k = lotBytes start p q (k + 1)
 
 abbrev Inv-loop : tie.InvT-loop
-Inv-loop room₀ at n columns p q next₀ k₀ room next k = (k ≤ n - 1) × Remains room₀ at (slideBytes n columns p q) room next (flatFrom (n - 1 - k) k (oneSlide p q))
+Inv-loop room₀ at near start p q n next₀ k₀ room next k =
+    Turns room₀ at (slideBytes near start p q) (length start - 1) (oneLot start p q) room next k
 
 abbrev μ-loop : tie.MeasureT-loop
-μ-loop room₀ at n columns p q next₀ k₀ room next k = n - 1 - k
+μ-loop room₀ at near start p q n next₀ k₀ room next k = length start - 1 - k
 
-neighbours-requires : tie.Need-neighbours-requires Inv-loop μ-loop
-neighbours-requires c κs = search needs
+-- The place of two slots is in the table.
+place : (c : tie.Start Inv-loop μ-loop) → let a = c .args in a .p * length (a .start .now) + a .q < length (a .near .now)
+place c = omega (arith, c .pre .0 .square, digits-lt (c .pre .1) (c .pre .2))
+
+mul-if1 : tie.Need-mul-if1 Inv-loop μ-loop
+mul-if1 c = omega (arith, place (c .before .before .before))
+
+add-if1 : tie.Need-add-if1 Inv-loop μ-loop
+add-if1 c = omega (arith, place (c .before .before .before))
+
+shared-slice-read-if1 : tie.Need-shared-slice-read-if1 Inv-loop μ-loop
+shared-slice-read-if1 c = omega (arith, place (c .before .before .before .before))
 
 returns : tie.Need-returns Inv-loop μ-loop
 returns c =
-    let a = c .before .before .before .args in
-    nothing-due (a .room .now) (a .at) (slideBytes (a .n) (a .columns) (a .p) (a .q)) (c .before .before .before .pre .4)
-    (no-slides (a .n) (a .columns) (a .p) (a .q) (sym (c .before .neighbours .ensures) ∙ not-true _ (c .if1 .taken)))
+    let entry = c .before .before .before .before .before in
+    let a = entry .args in
+    nothing-due (a .room .now) (a .at) (slideBytes (a .near .now) (a .start .now) (a .p) (a .q)) (entry .pre .3)
+    (no-slides (a .near .now) (a .start .now) (a .p) (a .q) (ne-eqb _ _ (c .if1 .taken)))
 
 loop-holds : tie.Need-loop-holds Inv-loop μ-loop
 loop-holds c =
-    let a = c .before .before .before .args in
-    (omega arith, remains-whole (a .n - 1) (oneSlide (a .p) (a .q)) _ _ _ (slides-beside (a .n) (a .columns) (a .p) (a .q) (sym (c .before .neighbours .ensures) ∙ not-false _ (c .if1 .left))) (c .before .before .before .pre .4))
+    let entry = c .before .before .before .before .before in
+    let a = entry .args in
+    turns-begin _ _ _ (length (a .start .now) - 1) (oneLot (a .start .now) (a .p) (a .q)) (slides-beside (a .near .now) (a .start .now) (a .p) (a .q) (eq-eqb _ _ (c .if1 .left))) (entry .pre .3)
 
 sub-loop : tie.Need-sub-loop Inv-loop μ-loop
 sub-loop c = omega arith
 
-add-write-slide : tie.Need-add-write-slide Inv-loop μ-loop
-add-write-slide c = omega arith
+add-write-lot : tie.Need-add-write-lot Inv-loop μ-loop
+add-write-lot c = omega arith
 
-write-slide-requires : tie.Need-write-slide-requires Inv-loop μ-loop
-write-slide-requires c κs =
-    let start = c .before .before .before .before .before .before in
-    let a = start .args in
-    let turn = c .before .before .loop in
-    (omega (arith, start .pre), omega (arith, start .pre), omega (arith, start .pre, c .before .loop-test .taken), part-fits (turn .inv .1) (oneSlide (a .p) (a .q) (turn .k)) _ (left-more (oneSlide (a .p) (a .q)) (a .n - 1) (turn .k) (c .before .loop-test .taken)))
+write-lot-requires : tie.Need-write-lot-requires Inv-loop μ-loop
+write-lot-requires c κs =
+    let turn = c .before .before in
+    let pre = turn .before .before .before .before .before .before .pre in
+    let few = pre .0 .most in
+    let taken = c .before .loop-test .taken in
+    (omega (arith, pre .1), omega (arith, pre .2), omega (arith, taken), turn-fits (turn .loop .inv) taken)
 
 add-k : tie.Need-add-k Inv-loop μ-loop
 add-k c = omega arith
@@ -59,18 +70,14 @@ loop-less c = omega arith
 
 loop-again : tie.Need-loop-again Inv-loop μ-loop
 loop-again c =
-    let a = c .before .before .before .before .before .before .before .before .before .args in
-    let turn = c .before .before .before .before .before .loop in
-    let written = c .before .before .write-slide .ensures in
-    (omega arith, remains-after (turn .inv .1) (oneSlide (a .p) (a .q) (turn .k)) _ _ _ (left-more (oneSlide (a .p) (a .q)) (a .n - 1) (turn .k) (c .before .before .before .before .loop-test .taken)) (written .0) (written .1))
+    let written = c .before .before .write-lot .ensures in
+    turn-done (c .before .before .before .before .before .loop .inv) _ _ (c .before .before .before .before .loop-test .taken) (written .0) (written .1)
 
 same-length : tie.Need-same-length Inv-loop μ-loop
-same-length c = c .before .loop .inv .1 .kept
+same-length c = c .before .loop .inv .left .kept
 
 returns-2 : tie.Need-returns-2 Inv-loop μ-loop
-returns-2 c =
-    let a = c .before .before .before .before .before .args in
-    remains-none (c .before .loop .inv .1) (left-none (oneSlide (a .p) (a .q)) (a .n - 1) (c .before .loop .k) (c .loop-test .left))
+returns-2 c = turns-done (c .before .loop .inv) (c .loop-test .left)
 
 pub write-slides-spec : {M : Type 1} → statement M
 write-slides-spec =
@@ -78,12 +85,14 @@ write-slides-spec =
     (tie.spec
     Inv-loop
     μ-loop
-    neighbours-requires
+    mul-if1
+    add-if1
+    shared-slice-read-if1
     returns
     loop-holds
     sub-loop
-    add-write-slide
-    write-slide-requires
+    add-write-lot
+    write-lot-requires
     add-k
     loop-less
     loop-again

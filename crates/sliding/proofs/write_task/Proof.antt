@@ -1,5 +1,5 @@
 -- `write_task` refuses a room that is shorter than the whole, and otherwise writes front and operators until nothing remains.
-use Prim.Native.Nat.{ℕ, _+_, _*_, _≤_}
+use Prim.Native.Nat.{ℕ, _+_, _≤_}
 use mathlib.Core.Path.{_≡_, sym, _∙_}
 use mathlib.Core.List.{List}
 use native.Mathlib.Omega.{arith}
@@ -7,39 +7,38 @@ use lib.ListN.{length}
 use borrow.Author.Needs.{needs}
 use Rattle.meaning.specs.Number.{Small}
 use Rattle.meaning.specs.File.{operatorBytes, counted, taskBytes}
-use Rattle.meaning.specs.Bay.{neighbours, bayOperators, bayTask}
 use Rattle.words.specs.Members.{membersIn}
 use Rattle.writer.specs.Answer.{refused-so}
 use Rattle.writer.specs.Front.{Front, frontBytes}
 use Rattle.writer.specs.Remains.{delivered-small, parts-delivered}
-use Rattle.building.specs.Answers.{bayWith}
-use Rattle.building.specs.Files.{front-written, task-split, task-length, task-few}
-use Rattle.building.proofs.write_task.Statement.{statement}
-use Rattle.building.proofs.write_task.Tie as tie
+use Rattle.sliding.specs.Parts.{operatorsIn, taskIn}
+use Rattle.sliding.specs.Whole.{front-written, task-split, task-length, task-few}
+use Rattle.sliding.proofs.write_task.Statement.{statement}
+use Rattle.sliding.proofs.write_task.Tie as tie
 
 -- The whole file, and its two parts.
 abbrev file : tie.Start → List ℕ
-file s = taskBytes (bayTask (bayWith (s .args .rows) (s .args .columns) (s .args .start .now) (s .args .goal .now)))
+file s = taskBytes (taskIn (s .args .near .now) (s .args .start .now) (s .args .goal .now))
 
 abbrev front : tie.Start → List ℕ
 front s = frontBytes (s .args .sizes .now) (s .args .start .now) (s .args .goal .now) (membersIn (s .args .pairs .now))
 
 abbrev last : tie.Start → List ℕ
-last s = counted operatorBytes (bayOperators (s .args .rows * s .args .columns) (neighbours (s .args .columns)))
+last s = counted operatorBytes (operatorsIn (s .args .near .now) (s .args .start .now))
 
 can-write : (s : tie.Start) → Front (s .args .sizes .now) (s .args .start .now) (s .args .goal .now) (s .args .pairs .now)
 can-write s = front-written (s .pre)
 
 -- Where the call began, seen from both widths, which make up the whole.
 abbrev start : tie.After-operators-width → tie.Start
-start c = c .before .before .before .before .before .before .before
+start c = c .before .before .before .before .before .before .before .before
 
 whole : (c : tie.After-operators-width) → length (file (start c)) ≡ c .before .front-width .result + c .operators-width .result
 whole c =
     omega (arith, task-length (start c .pre), c .before .front-width .ensures, c .operators-width .ensures)
 
 front-width-requires : tie.Need-front-width-requires
-front-width-requires c κs = can-write (c .before .before .before .before .before)
+front-width-requires c κs = can-write (c .before .before .before .before .before .before)
 
 operators-width-requires : tie.Need-operators-width-requires
 operators-width-requires c κs = search needs

@@ -25,11 +25,6 @@ eqb-mirror a b = tells-agree (tells-eq a b) (tells-map sym sym (tells-eq b a))
 
 -- ---- how often a label stands in a list
 
-pub occurrences-most : (label : ℕ) (l : List ℕ) → occurrences label l ≤ length l
-unfolding occurrences
-occurrences-most label [] = omega arith
-occurrences-most label (x ∷ xs) = elim (test (eqb x label)) [ on e ↦ rw e (omega (arith, occurrences-most label xs)) | off e ↦ rw e (omega (arith, occurrences-most label xs)) ]
-
 -- The places in which a label stands.
 pub occurrences-count : (label : ℕ) (l : List ℕ) → occurrences label l ≡ count (length l) (λ i. eqb (value l i) label)
 unfolding occurrences count

@@ -1,12 +1,10 @@
--- What the answers of the code say in the words of the meaning, and what comes of what was read.
+-- What the functions are asked about: sides, what stands behind them, and labels that are judged.
 use Prim.Native.Nat.{ℕ, _*_, _≤_}
-use mathlib.Core.Bool.{_&&_, cond}
 use mathlib.Core.List.{List}
 use Rattle.meaning.specs.Limits.{leastSide, mostSide, leastSlots, mostSlots}
-use Rattle.meaning.specs.Number.{Mislabelled, Read, got, fault}
-use Rattle.meaning.specs.File.{Parser, give, then, valuesOf, ended, taskBytes}
-use Rattle.meaning.specs.Bay.{Bay, slotCount, baySizes, eachOnce, bayTask}
-use Rattle.meaning.specs.Answer as meaning
+use Rattle.meaning.specs.Number.{Read, got, onRead}
+use Rattle.meaning.specs.File.{Parser, give, then, valuesOf, ended}
+use Rattle.meaning.specs.Bay.{Bay, slotCount, baySizes, judgedLots}
 
 -- The sides of a bay that were read and judged.
 abbrev pub Sides : ℕ → ℕ → Type 0
@@ -27,10 +25,6 @@ labelled rows columns =
     then (valuesOf (baySizes (rows * columns)))
     (λ start. then (valuesOf (baySizes (rows * columns))) (λ goal. then ended (λ _. give (bayWith rows columns start goal))))
 
--- What comes of a bay that was read: labels are judged, then the room.
-abbrev pub madeOf : Read Bay → List ℕ → meaning.Outcome ℕ
-madeOf (got b next) room =
-    cond (eachOnce (slotCount b) (b .start) && eachOnce (slotCount b) (b .goal))
-    (meaning.delivered (taskBytes (bayTask b)) room)
-    (meaning.refuses Mislabelled room)
-madeOf (fault reason place) room = meaning.refuses reason room
+-- The same with its labels judged.
+abbrev pub judged : Read Bay → Read Bay
+judged read = onRead read (λ b next. judgedLots (slotCount b) (b .start) (b .goal) (got b next))

@@ -1,7 +1,4 @@
 pub mod Answers
-pub mod Parts
-pub mod Turns
 pub mod Labels
 pub mod Sides
-pub mod Files
 pub mod Outcomes

@@ -1,33 +1,31 @@
 -- What comes of a bay file, in the steps of the code: what is read or judged decides, or what is read next.
 use Prim.Native.Nat.{ℕ, suc, _*_, _<_, _≤_}
 use mathlib.Core.Path.{_≡_, refl, sym, subst}
-use mathlib.Core.Bool.{true, false, _&&_, cond}
 use mathlib.Core.List.{List}
 use native.Mathlib.Omega.{arith}
 use native.Mathlib.Nat.{mul-le-mul}
 use lib.ListN.{length}
 use borrow.Author.Tests.{lt-leb, le-leb, lt-ltb, le-ltb}
 use Rattle.meaning.specs.Limits.{leastSide, mostSide, leastSlots, mostSlots}
-use Rattle.meaning.specs.Number.{Reason, Limit, LeftOver, Mislabelled, Read, got, fault, onRead, numbersOn}
-use Rattle.meaning.specs.File.{inside, judge, limited, ended, valuesOf, taskBytes}
-use Rattle.meaning.specs.Answer.{Outcome, refuses, delivered, byRead}
-use Rattle.meaning.specs.Bay.{Bay, slotCount, baySizes, side, sidesOf, bayOf, eachOnce, judgedBay, bayTask, Builds}
+use Rattle.meaning.specs.Task.{State}
+use Rattle.meaning.specs.Number.{Reason, Limit, LeftOver, Read, got, fault, numbersOn}
+use Rattle.meaning.specs.File.{inside, judge, limited, ended, valuesOf}
+use Rattle.meaning.specs.Answer.{Outcome}
+use Rattle.meaning.specs.Bay.{baySizes, side, sidesOf, bayOf, judgedBay, neighbours, bayTask, Builds}
 use Rattle.theory.specs.Reading.{item-read}
 use Rattle.theory.specs.Parts.{item-said}
-use Rattle.theory.specs.Truth.{on, off, test}
-use Rattle.building.specs.Answers.{Sides, bayWith, labelled, madeOf}
+use Rattle.theory.specs.BayMoves.{bay-length}
+use Rattle.sliding.specs.Parts.{builtIn}
+use Rattle.sliding.specs.Readers.{nearTable, task-table, madeOf, made-so, built-made}
+use Rattle.building.specs.Answers.{Sides, bayWith, labelled, judged}
 
 -- ---- labels are judged
 
-module _ (b : Bay) (next : ℕ) (room : List ℕ) where
-  pub made-start : eachOnce (slotCount b) (b .start) ≡ false → madeOf (got b next) room ≡ refuses Mislabelled room
-  made-start e = rw e refl
-
-  pub made-goal : eachOnce (slotCount b) (b .start) ≡ true → eachOnce (slotCount b) (b .goal) ≡ false → madeOf (got b next) room ≡ refuses Mislabelled room
-  made-goal e q = rw (e, q) refl
-
-  pub made-both : eachOnce (slotCount b) (b .start) ≡ true → eachOnce (slotCount b) (b .goal) ≡ true → madeOf (got b next) room ≡ delivered (taskBytes (bayTask b)) room
-  made-both e q = rw (e, q) refl
+module _ (rows columns : ℕ) (start goal : List ℕ) (state : State (baySizes (rows * columns)) start) where
+  pub built-judged : (near room : List ℕ) (next : ℕ) → near ≡ nearTable (rows * columns * (rows * columns)) (rows * columns) (neighbours columns)
+      → builtIn near start goal room ≡ madeOf bayTask (judged (got (bayWith rows columns start goal) next)) room
+  built-judged near room next e = let long = bay-length (rows * columns) start state in
+      built-made bayTask near start goal room (rows * columns) (bayWith rows columns start goal) next long (rw e (task-table (rows * columns) (neighbours columns) start goal long))
 
 -- ---- what stands behind the sides
 
@@ -98,13 +96,6 @@ module _ (bytes : List ℕ) where
 
 -- ---- the call
 
-made : (room : List ℕ) (r : Read Bay)
-    → byRead (onRead r (λ b next. cond (eachOnce (slotCount b) (b .start) && eachOnce (slotCount b) (b .goal)) (got b next) (fault Mislabelled 0)))
-    (λ b. madeOf r room ≡ delivered (taskBytes (bayTask b)) room)
-    (λ reason. madeOf r room ≡ refuses reason room)
-made room (fault reason place) = refl
-made room (got b next) = elim (test (eachOnce (slotCount b) (b .start) && eachOnce (slotCount b) (b .goal))) [ on e ↦ rw e refl | off e ↦ rw e refl ]
-
-pub builds-made : (bytes room : List ℕ) (outcome : Outcome ℕ) → outcome ≡ madeOf (bayOf bytes 0) room → Builds bytes room outcome
+pub builds-made : (bytes room : List ℕ) (outcome : Outcome ℕ) → outcome ≡ madeOf bayTask (judged (bayOf bytes 0)) room → Builds bytes room outcome
 unfolding judgedBay
-builds-made bytes room outcome e = subst (Builds bytes room) (sym e) (made room (bayOf bytes 0))
+builds-made bytes room outcome e = subst (Builds bytes room) (sym e) (made-so bayTask room (judged (bayOf bytes 0)))

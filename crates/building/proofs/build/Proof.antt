@@ -3,10 +3,13 @@ use mathlib.Core.Path.{_≡_, sym, ap, _∙_}
 use native.Mathlib.Omega.{arith}
 use lib.Seq.{length-take-le}
 use borrow.Author.Needs.{needs}
+use Rattle.meaning.specs.Limits.{mostSlots}
 use Rattle.meaning.specs.Number.{Limit, got}
+use Rattle.meaning.specs.Bay.{bayTask}
 use Rattle.theory.specs.Flat.{take-replicate}
 use Rattle.number.specs.Answers.{reasonOf, numberOf}
-use Rattle.building.specs.Answers.{madeOf}
+use Rattle.sliding.specs.Readers.{madeOf}
+use Rattle.building.specs.Answers.{judged}
 use Rattle.writer.specs.Answer.{refused-so}
 use Rattle.building.specs.Outcomes.{sideAt, rows-fault, columns-fault, slots-product, sides-limit, few-slots, many-slots, sides-read, builds-made}
 use Rattle.building.proofs.build.Statement.{statement}
@@ -48,7 +51,7 @@ returns c =
     let a = c .before .before .before .before .before .before .before .before .before .before .before .before .args in
     let room = a .room .now in
     let found = few-slots (a .bay .now) _ _ (rows-read (c .before .before .before .before .before .before .before)) _ _ (columns-read (c .before .before .before)) (c .before .if1 .taken) in
-    builds-made (a .bay .now) room _ (refused-so (c .refuse .result) Limit room (c .refuse .ensures) ∙ ap (λ r. madeOf r room) (sym found))
+    builds-made (a .bay .now) room _ (refused-so (c .refuse .result) Limit room (c .refuse .ensures) ∙ ap (λ r. madeOf bayTask (judged r) room) (sym found))
 
 refuse-requires-2 : tie.Need-refuse-requires-2
 refuse-requires-2 c κs = search needs
@@ -58,7 +61,7 @@ returns-2 c =
     let a = c .before .before .before .before .before .before .before .before .before .before .before .before .before .args in
     let room = a .room .now in
     let found = many-slots (a .bay .now) _ _ (rows-read (c .before .before .before .before .before .before .before .before)) _ _ (columns-read (c .before .before .before .before)) (c .before .before .if1 .left) (c .before .if2 .taken) in
-    builds-made (a .bay .now) room _ (refused-so (c .refuse2 .result) Limit room (c .refuse2 .ensures) ∙ ap (λ r. madeOf r room) (sym found))
+    builds-made (a .bay .now) room _ (refused-so (c .refuse2 .result) Limit room (c .refuse2 .ensures) ∙ ap (λ r. madeOf bayTask (judged r) room) (sym found))
 
 array-borrow-prefix-start : tie.Need-array-borrow-prefix-start
 array-borrow-prefix-start c = search needs
@@ -73,7 +76,7 @@ slice-aggregate-build-labelled-2 : tie.Need-slice-aggregate-build-labelled-2
 slice-aggregate-build-labelled-2 c = sym (length-take-le _ _ (c .before .before .if2 .left))
 
 build-labelled-requires : tie.Need-build-labelled-requires
-build-labelled-requires c κs = (sides-limit (c .before .before .before .before .before .before .before .before .before .before .before .before .before .before .before .args .bay .now) _ _ (rows-read (c .before .before .before .before .before .before .before .before .before .before)) _ _ (columns-read (c .before .before .before .before .before .before)) (c .before .before .before .before .if1 .left) (c .before .before .before .if2 .left), take-replicate _ 9 _ (c .before .before .before .if2 .left), take-replicate _ 9 _ (c .before .before .before .if2 .left))
+build-labelled-requires c κs = (sides-limit (c .before .before .before .before .before .before .before .before .before .before .before .before .before .before .before .args .bay .now) _ _ (rows-read (c .before .before .before .before .before .before .before .before .before .before)) _ _ (columns-read (c .before .before .before .before .before .before)) (c .before .before .before .before .if1 .left) (c .before .before .before .if2 .left), take-replicate _ mostSlots _ (c .before .before .before .if2 .left), take-replicate _ mostSlots _ (c .before .before .before .if2 .left))
 
 enum-known-reason : tie.Need-enum-known-reason
 enum-known-reason c = search needs
@@ -95,7 +98,7 @@ returns-3 c =
     let a = c .before .before .before .before .before .before .before .before .before .before .before .before .before .before .before .before .before .before .before .before .args in
     let room = a .room .now in
     let found = sides-read (a .bay .now) _ _ (rows-read (c .before .before .before .before .before .before .before .before .before .before .before .before .before .before .before)) _ _ (columns-read (c .before .before .before .before .before .before .before .before .before .before .before)) (c .before .before .before .before .before .before .before .before .before .if1 .left) (c .before .before .before .before .before .before .before .before .if2 .left) in
-    builds-made (a .bay .now) room _ (c .before .before .before .before .build-labelled .ensures ∙ ap (λ r. madeOf r room) (sym found))
+    builds-made (a .bay .now) room _ (c .before .before .before .before .build-labelled .ensures ∙ ap (λ r. madeOf bayTask (judged r) room) (sym found))
 
 returns-4 : tie.Need-returns-4
 returns-4 c =
@@ -104,7 +107,7 @@ returns-4 c =
     let reason = c .before .before .reason .given .0 .0 in
     let e = sym (c .before .before .before .before .item-at2 .ensures) ∙ ap numberOf (c .before .before .reason .given .1) in
     builds-made (a .bay .now) room _ (refused-so (c .refuse3 .result) (reasonOf reason) room (c .refuse3 .ensures)
-    ∙ ap (λ r. madeOf r room) (sym (columns-fault (a .bay .now) _ _ (rows-read (c .before .before .before .before .before .before)) (reasonOf reason) _ e)))
+    ∙ ap (λ r. madeOf bayTask (judged r) room) (sym (columns-fault (a .bay .now) _ _ (rows-read (c .before .before .before .before .before .before)) (reasonOf reason) _ e)))
 
 returns-5 : tie.Need-returns-5
 returns-5 c =
@@ -113,7 +116,7 @@ returns-5 c =
     let reason = c .before .before .reason2 .given .0 .0 in
     let e = sym (c .before .before .before .before .item-at .ensures) ∙ ap numberOf (c .before .before .reason2 .given .1) in
     builds-made (a .bay .now) room _ (refused-so (c .refuse4 .result) (reasonOf reason) room (c .refuse4 .ensures)
-    ∙ ap (λ r. madeOf r room) (sym (rows-fault (a .bay .now) (reasonOf reason) _ e)))
+    ∙ ap (λ r. madeOf bayTask (judged r) room) (sym (rows-fault (a .bay .now) (reasonOf reason) _ e)))
 
 pub build-spec : {M : Type 1} → statement M
 build-spec =

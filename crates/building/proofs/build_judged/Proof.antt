@@ -1,85 +1,85 @@
--- `build_judged` refuses by the first list that is not each once, and otherwise delivers.
-use Prim.Native.Nat.{_*_}
-use mathlib.Core.Path.{_≡_, sym, ap, _∙_}
-use borrow.Author.Tests.{not-true, not-false}
+-- `build_judged` lends the core the prefix of an array that holds the table.
+use Prim.Native.Nat.{ℕ, _*_, _≤_}
+use mathlib.Core.Path.{_≡_, sym, _∙_}
+use mathlib.Core.List.{List, _++_}
+use native.Mathlib.Omega.{arith}
+use lib.ListN.{take, drop, replicate}
+use lib.Seq.{length-take-le}
 use borrow.Author.Needs.{needs}
-use Rattle.meaning.specs.Number.{Mislabelled}
-use Rattle.meaning.specs.Bay.{eachOnce}
-use Rattle.theory.specs.BayMoves.{bay-length}
-use Rattle.building.specs.Answers.{bayWith}
-use Rattle.writer.specs.Answer.{refused-so}
-use Rattle.building.specs.Outcomes.{made-start, made-goal, made-both}
+use Rattle.meaning.specs.Limits.{mostSlots}
+use Rattle.meaning.specs.Bay.{neighbours}
+use Rattle.sliding.specs.Readers.{nearTable, few-places, front-long, front-table, table-ready}
+use Rattle.building.specs.Outcomes.{built-judged}
 use Rattle.building.proofs.build_judged.Statement.{statement}
 use Rattle.building.proofs.build_judged.Tie as tie
 
--- Where the call began, seen from the test of the start; and that test, seen from the test of the goal.
-abbrev begin : tie.After-each-once → tie.Start
-begin c = c .before .before .before .before
+-- Where the call began, seen from the table that was written.
+abbrev begin : tie.After-near2 → tie.Start
+begin c = c .before .before .before .before .before .before
 
-abbrev first : tie.After-each-once2 → tie.After-each-once
-first c = c .before .before
+abbrev slots : tie.Start → ℕ
+slots c = c .args .rows * c .args .columns
 
--- What was asked of the start, and of the goal.
-once : (c : tie.After-each-once) → let a = begin c .args in eachOnce (a .rows * a .columns) (a .start .now) ≡ c .each-once .result
-once c =
-    let start = begin c in
-    ap (λ n. eachOnce n (start .args .start .now)) (sym (bay-length _ _ (start .pre .1))) ∙ sym (c .each-once .ensures)
+-- The places of the table are places of the array.
+few : (c : tie.Start) → slots c * slots c ≤ mostSlots * mostSlots
+few c = few-places (slots c) (c .pre .0 .5)
 
-once-goal : (c : tie.After-each-once2) → let a = begin (first c) .args in eachOnce (a .rows * a .columns) (a .goal .now) ≡ c .each-once2 .result
-once-goal c =
-    let start = begin (first c) in
-    ap (λ n. eachOnce n (start .args .goal .now)) (sym (bay-length _ _ (start .pre .2))) ∙ sym (c .each-once2 .ensures)
+-- The array as it was made.
+abbrev zeros : List ℕ
+zeros = replicate (mostSlots * mostSlots) 0
 
-each-once-requires : tie.Need-each-once-requires
-each-once-requires c κs = search needs
+-- The table that the core is lent.
+lent : (c : tie.After-near2) → let n = slots (begin c) in
+    take (n * n) (c .before .mark-neighbours .last .0 ++ drop (n * n) zeros) ≡ nearTable (n * n) n (neighbours (begin c .args .columns))
+lent c = front-table (slots (begin c)) (neighbours (begin c .args .columns)) zeros _ (few (begin c)) (c .before .mark-neighbours .ensures)
 
-refuse-requires : tie.Need-refuse-requires
-refuse-requires c κs = search needs
+mul-n : tie.Need-mul-n
+mul-n c = search needs
 
-returns : tie.Need-returns
-returns c =
-    let a = begin (c .before .before) .args in
-    let start = once (c .before .before) ∙ not-true _ (c .before .if1 .taken) in
-    refused-so (c .refuse .result) Mislabelled (a .room .now) (c .refuse .ensures) ∙ sym (made-start (bayWith (a .rows) (a .columns) (a .start .now) (a .goal .now)) 0 (a .room .now) start)
+mul-places : tie.Need-mul-places
+mul-places c = omega (arith, few (c .before .before .before))
 
-each-once-requires-2 : tie.Need-each-once-requires-2
-each-once-requires-2 c κs = search needs
+array-borrow-prefix-near : tie.Need-array-borrow-prefix-near
+array-borrow-prefix-near c = few (c .before .before .before)
 
-refuse-requires-2 : tie.Need-refuse-requires-2
-refuse-requires-2 c κs = search needs
+slice-aggregate-mark-neighbours : tie.Need-slice-aggregate-mark-neighbours
+slice-aggregate-mark-neighbours c = sym (length-take-le _ _ (few (c .before .before .before .before)))
 
-returns-2 : tie.Need-returns-2
-returns-2 c =
-    let asked = c .before .before in
-    let a = begin (first asked) .args in
-    let start = once (first asked) ∙ not-false _ (c .before .before .before .if1 .left) in
-    let goal = once-goal asked ∙ not-true _ (c .before .if2 .taken) in
-    refused-so (c .refuse2 .result) Mislabelled (a .room .now) (c .refuse2 .ensures) ∙ sym (made-goal (bayWith (a .rows) (a .columns) (a .start .now) (a .goal .now)) 0 (a .room .now) start goal)
+mark-neighbours-requires : tie.Need-mark-neighbours-requires
+mark-neighbours-requires c κs = search needs
 
-deliver-requires : tie.Need-deliver-requires
-deliver-requires c κs = search needs
+array-share-prefix-near : tie.Need-array-share-prefix-near
+array-share-prefix-near c = front-long (slots (begin c)) (neighbours (begin c .args .columns)) zeros _ (few (begin c)) (c .before .mark-neighbours .ensures)
+
+slice-aggregate-build : tie.Need-slice-aggregate-build
+slice-aggregate-build c = sym (length-take-le _ _ (array-share-prefix-near (c .before)))
+
+build-requires : tie.Need-build-requires
+build-requires c κs =
+    let table = c .before .before in
+    let (sides, start, goal) = begin table .pre in
+    table-ready (slots (begin table)) (neighbours (begin table .args .columns)) _ _ _ (sides .4) (sides .5) start goal (lent table)
 
 same-length : tie.Need-same-length
 same-length c = search needs
 
-returns-3 : tie.Need-returns-3
-returns-3 c =
-    let asked = c .before .before .before .before .before in
-    let a = begin (first asked) .args in
-    let start = once (first asked) ∙ not-false _ (c .before .before .before .before .before .before .if1 .left) in
-    let goal = once-goal asked ∙ not-false _ (c .before .before .before .before .if2 .left) in
-    c .before .before .deliver .ensures ∙ sym (made-both (bayWith (a .rows) (a .columns) (a .start .now) (a .goal .now)) 0 (a .room .now) start goal)
+returns : tie.Need-returns
+returns c next =
+    let table = c .before .before .before .before .before in
+    let a = begin table .args in
+    c .before .before .build .ensures ∙ built-judged (a .rows) (a .columns) (a .start .now) (a .goal .now) (begin table .pre .1) _ (a .room .now) next (lent table)
 
 pub build-judged-spec : {M : Type 1} → statement M
 build-judged-spec =
     tie.close
     (tie.spec
-    each-once-requires
-    refuse-requires
-    returns
-    each-once-requires-2
-    refuse-requires-2
-    returns-2
-    deliver-requires
+    mul-n
+    mul-places
+    array-borrow-prefix-near
+    slice-aggregate-mark-neighbours
+    mark-neighbours-requires
+    array-share-prefix-near
+    slice-aggregate-build
+    build-requires
     same-length
-    returns-3)
+    returns)

@@ -6,12 +6,13 @@ use lib.ListN.{length}
 use borrow.Author.Needs.{needs}
 use Rattle.meaning.specs.Number.{LeftOver, got}
 use Rattle.meaning.specs.File.{valuesOf}
-use Rattle.meaning.specs.Bay.{baySizes}
+use Rattle.meaning.specs.Bay.{baySizes, bayTask}
 use Rattle.theory.specs.Parts.{values-said}
 use Rattle.number.specs.Answers.{reasonOf}
 use Rattle.reader.specs.Lists.{apart-same}
 use Rattle.writer.specs.Answer.{refused-so}
-use Rattle.building.specs.Answers.{madeOf}
+use Rattle.sliding.specs.Readers.{madeOf}
+use Rattle.building.specs.Answers.{judged}
 use Rattle.building.specs.Labels.{labels-read, labels-fault}
 use Rattle.building.specs.Outcomes.{start-fault, goal-fault, left-over, labelled-whole}
 use Rattle.building.proofs.build_labelled.Statement.{statement}
@@ -70,7 +71,7 @@ returns c =
     let a = begin (first read) .args in
     let room = a .room .now in
     refused-so (c .refuse .result) LeftOver room (c .refuse .ensures)
-    ∙ ap (λ r. madeOf r room) (sym (left-over (a .rows) (a .columns) (a .bay .now) (a .at) _ _ (start-read (first read)) _ _ (goal-read read) (c .before .if1 .taken)))
+    ∙ ap (λ r. madeOf bayTask (judged r) room) (sym (left-over (a .rows) (a .columns) (a .bay .now) (a .at) _ _ (start-read (first read)) _ _ (goal-read read) (c .before .if1 .taken)))
 
 build-judged-requires : tie.Need-build-judged-requires
 build-judged-requires c κs =
@@ -105,8 +106,8 @@ returns-2 c =
     let read = c .before .before .before .before .before .before .before .before in
     let a = begin (first read) .args in
     let room = a .room .now in
-    c .before .before .build-judged .ensures
-    ∙ ap (λ r. madeOf r room) (sym (labelled-whole (a .rows) (a .columns) (a .bay .now) (a .at) _ _ (start-read (first read)) _ _ (goal-read read) (c .before .before .before .before .before .before .if1 .left)))
+    c .before .before .build-judged .ensures (read .end .given .0 .0)
+    ∙ ap (λ r. madeOf bayTask (judged r) room) (sym (labelled-whole (a .rows) (a .columns) (a .bay .now) (a .at) _ _ (start-read (first read)) _ _ (goal-read read) (c .before .before .before .before .before .before .if1 .left)))
 
 same-length-6 : tie.Need-same-length-6
 same-length-6 c = search needs
@@ -123,7 +124,7 @@ returns-3 c =
     let place = c .before .before .reason .given .0 .1 .0 in
     let e = labels-fault (a .rows * a .columns) _ _ (a .goal .now) (length (a .start .now)) _ _ (begin before-goal .pre .2) (omega (arith, as-many (begin before-goal))) (c .before .before .before .before .before .before .items-at2 .ensures) _ _ (c .before .before .reason .given .1) in
     refused-so (c .refuse2 .result) (reasonOf reason) room (c .refuse2 .ensures)
-    ∙ ap (λ r. madeOf r room) (sym (goal-fault (a .rows) (a .columns) (a .bay .now) (a .at) _ _ (start-read before-goal) (reasonOf reason) place e))
+    ∙ ap (λ r. madeOf bayTask (judged r) room) (sym (goal-fault (a .rows) (a .columns) (a .bay .now) (a .at) _ _ (start-read before-goal) (reasonOf reason) place e))
 
 same-length-8 : tie.Need-same-length-8
 same-length-8 c = search needs
@@ -137,7 +138,7 @@ returns-4 c =
     let place = c .before .before .reason2 .given .0 .1 .0 in
     let e = labels-fault (a .rows * a .columns) _ _ (a .start .now) (length (a .start .now)) _ _ (start .pre .1) (omega arith) (c .before .before .before .before .before .before .items-at .ensures) _ _ (c .before .before .reason2 .given .1) in
     refused-so (c .refuse3 .result) (reasonOf reason) room (c .refuse3 .ensures)
-    ∙ ap (λ r. madeOf r room) (sym (start-fault (a .rows) (a .columns) (a .bay .now) (a .at) (reasonOf reason) place e))
+    ∙ ap (λ r. madeOf bayTask (judged r) room) (sym (start-fault (a .rows) (a .columns) (a .bay .now) (a .at) (reasonOf reason) place e))
 
 pub build-labelled-spec : {M : Type 1} → statement M
 build-labelled-spec =

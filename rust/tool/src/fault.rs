@@ -157,7 +157,8 @@ pub fn refusal_words(number: u32) -> String {
         7 => "the pairs are not closed under an operator",
         8 => "lent room is too small",
         9 => "a workspace is not well formed",
-        10 => "a bay list misses or repeats a label",
+        10 => "a bay has no gap or more than one",
+        11 => "start and goal do not hold each label equally often",
         _ => "a number that this tool has no words for",
     };
     format!("refused {number}: {meaning}")

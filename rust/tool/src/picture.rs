@@ -1,6 +1,6 @@
 //! Draws bays with plain characters.
 
-use crate::bay::{Bay, GAP};
+use crate::bay::Bay;
 
 const BEFORE: &str = "as it stands";
 const AFTER: &str = "as it is wanted";
@@ -10,8 +10,8 @@ const WIDEST: usize = 78;
 
 /// Both bays, side by side where they fit.
 pub fn both(bay: &Bay) -> String {
-    let start = drawing(BEFORE, &bay.stands(), bay.columns);
-    let goal = drawing(AFTER, &bay.goal, bay.columns);
+    let start = drawing(BEFORE, bay, &bay.stands());
+    let goal = drawing(AFTER, bay, &bay.goal);
     let width = widest(&start) + ARROW.len() + widest(&goal);
     if width > WIDEST {
         return lines(start.into_iter().chain(goal));
@@ -37,21 +37,18 @@ fn widest(rows: &[String]) -> usize {
     rows.iter().map(String::len).max().unwrap_or(0)
 }
 
-fn drawing(title: &str, labels: &[Option<usize>], columns: usize) -> Vec<String> {
-    let edge = format!("{}+", "+----".repeat(columns));
+fn drawing(title: &str, bay: &Bay, labels: &[Option<usize>]) -> Vec<String> {
+    let edge = format!("{}+", "+----".repeat(bay.columns));
     let mut rows = vec![title.to_string(), edge.clone()];
-    for row in labels.chunks(columns) {
-        let cells: String = row.iter().map(|&label| cell(label)).collect();
+    for row in labels.chunks(bay.columns) {
+        let cells: String = row.iter().map(|&label| cell(bay, label)).collect();
         rows.push(format!("{cells}|"));
         rows.push(edge.clone());
     }
     rows
 }
 
-fn cell(label: Option<usize>) -> String {
-    match label {
-        Some(GAP) => "|  . ".to_string(),
-        Some(label) => format!("| {label:>2} "),
-        None => "|  ? ".to_string(),
-    }
+fn cell(bay: &Bay, label: Option<usize>) -> String {
+    let shown = label.map_or("?".to_string(), |label| bay.name(label));
+    format!("| {shown:>2} ")
 }

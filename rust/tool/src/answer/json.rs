@@ -20,6 +20,7 @@ pub fn json(name: &str, answered: &Answered) -> Json {
         ("goal", grid(bay, &bay.goal)),
         ("named", Json::number(bay.slots() - silent.len())),
         ("silent", Json::numbers(&silent)),
+        ("labels", labels(bay)),
     ];
     fields.extend(outcome(answered.status(), answered.asked.proof.as_ref()));
     if !bay.is_full() {
@@ -33,6 +34,19 @@ fn grid(bay: &Bay, labels: &[Option<usize>]) -> Json {
     let label = |label: &Option<usize>| label.map_or(Json::Null, Json::Number);
     let row = |row: &[Option<usize>]| Json::List(row.iter().map(label).collect());
     Json::List(labels.chunks(bay.columns).map(row).collect())
+}
+
+// Each label that stands in the bay: its number in the grids and in the files, as it was typed, and
+// how often it stands there.
+fn labels(bay: &Bay) -> Json {
+    let label = |(number, count): (usize, usize)| {
+        Json::Object(vec![
+            ("number", Json::number(number)),
+            ("typed", Json::Text(bay.name(number))),
+            ("count", Json::number(count)),
+        ])
+    };
+    Json::List(bay.held().into_iter().map(label).collect())
 }
 
 type Fields = Vec<(&'static str, Json)>;

@@ -21,10 +21,11 @@ pub fn line(answered: &Answered) -> String {
 
 fn shape(answered: &Answered) -> String {
     let bay = &answered.bay;
-    match bay.is_full() {
-        true => bay.shape(),
-        false => format!("{}, {}", bay.shape(), bay.named()),
-    }
+    let named = (!bay.is_full()).then(|| bay.named());
+    let parts = [Some(bay.shape()), named, bay.alike()]
+        .into_iter()
+        .flatten();
+    parts.collect::<Vec<_>>().join(", ")
 }
 
 /// What proves a task impossible, in short.

@@ -3,7 +3,7 @@
 mod json;
 mod line;
 
-use crate::bay::{Bay, GAP};
+use crate::bay::Bay;
 use crate::picture;
 use crate::question::{Answered, Asked, Proof, Way, MOST_WAYS};
 use crate::words::{counted, parity};
@@ -12,6 +12,9 @@ pub use line::line;
 
 /// What has to stand wherever there is no proof.
 pub const NOT_DONE: &str = "This does not mean that the order can be done.";
+
+/// What a label means that stands more than once.
+pub const ALIKE: &str = "Pallets of one label are alike";
 
 /// Both bays and the answer, in full.
 pub fn full(name: &str, answered: &Answered) -> String {
@@ -23,7 +26,14 @@ pub fn full(name: &str, answered: &Answered) -> String {
         None if answered.is_impossible_each_way() => impossible_each_way(answered),
         None => no_proof(answered),
     };
-    format!("{name}: {described}\n\n{pictures}\n{words}")
+    let alike = alike(bay);
+    format!("{name}: {described}\n\n{pictures}\n{alike}{words}")
+}
+
+// Whoever sees a label twice has to know what that means.
+fn alike(bay: &Bay) -> String {
+    let alike = bay.alike();
+    alike.map_or(String::new(), |alike| format!("{ALIKE}: {alike}.\n"))
 }
 
 fn impossible(bay: &Bay, proof: &Proof) -> String {
@@ -86,11 +96,10 @@ fn ways(ways: &[Way]) -> String {
 
 // The goal of a full order in one line, as a person types its rows.
 fn typed(bay: &Bay) -> String {
-    let label = |label: &usize| match *label {
-        GAP => ".".to_string(),
-        number => number.to_string(),
+    let row = |row: &[usize]| {
+        let labels: Vec<String> = row.iter().map(|label| bay.name(*label)).collect();
+        labels.join(" ")
     };
-    let row = |row: &[usize]| row.iter().map(label).collect::<Vec<_>>().join(" ");
     let rows: Vec<String> = bay.wanted().chunks(bay.columns).map(row).collect();
     rows.join(" / ")
 }

@@ -1,5 +1,6 @@
 //! A bay: rows and columns of slots, as it stands and as it is wanted.
 
+mod lots;
 mod ways;
 
 use crate::numbers;
@@ -8,12 +9,15 @@ use std::ops::Range;
 /// The label of the gap.
 pub const GAP: usize = 0;
 
+#[derive(Clone)]
 pub struct Bay {
     pub rows: usize,
     pub columns: usize,
     pub start: Vec<usize>,
     /// None is a slot that the order does not name.
     pub goal: Vec<Option<usize>>,
+    /// The letters that were typed for the labels 1, 2 and so on; none if numbers were typed.
+    pub letters: Vec<char>,
 }
 
 impl Bay {
@@ -27,7 +31,7 @@ impl Bay {
     }
 
     /// The bay file that the library's builder reads; the labels that are left fill the silent
-    /// slots, in increasing order.
+    /// slots, in increasing order, the gap first.
     pub fn file(&self) -> Vec<u8> {
         let goal = self.filled(&self.left());
         let mut bytes = Vec::new();
@@ -122,6 +126,7 @@ mod tests {
             columns: 2,
             start: vec![1, 2, 3, 0],
             goal: goal.to_vec(),
+            letters: Vec::new(),
         }
     }
 

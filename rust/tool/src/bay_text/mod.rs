@@ -6,6 +6,7 @@
 
 mod comment;
 mod layout;
+mod letters;
 mod refusal;
 mod scan;
 #[cfg(test)]
@@ -15,15 +16,14 @@ mod text;
 use crate::bay::Bay;
 use crate::fault::Fault;
 use crate::words::counted;
-use scan::{Label, Row};
+use scan::{Label, Row, Value};
 use text::{quoted, Lines, Place};
 
 pub struct BayText {
     lines: Lines,
-    rows: usize,
-    columns: usize,
     start: Vec<Label>,
     goal: Vec<Label>,
+    bay: Bay,
 }
 
 impl BayText {
@@ -37,23 +37,27 @@ impl BayText {
         layout::judge(&lines, &first)?;
         layout::judge(&lines, &second)?;
         let flat = |block: Vec<Row>| block.into_iter().flat_map(|row| row.labels).collect();
-        Ok(BayText {
-            lines,
+        let (start, goal): (Vec<Label>, Vec<Label>) = (flat(first), flat(second));
+        let letters = letters::in_order(&lines, &start, &goal)?;
+        let number = |label: &Label| letters::number(label.value, &letters, rows * columns);
+        let bay = Bay {
             rows,
             columns,
-            start: flat(first),
-            goal: flat(second),
+            // No slot of the start is silent.
+            start: start.iter().filter_map(number).collect(),
+            goal: goal.iter().map(number).collect(),
+            letters,
+        };
+        Ok(BayText {
+            lines,
+            start,
+            goal,
+            bay,
         })
     }
 
     pub fn bay(&self) -> Bay {
-        Bay {
-            rows: self.rows,
-            columns: self.columns,
-            // No slot of the start is silent.
-            start: self.start.iter().filter_map(|label| label.value).collect(),
-            goal: self.goal.iter().map(|label| label.value).collect(),
-        }
+        self.bay.clone()
     }
 }
 
@@ -75,7 +79,7 @@ fn two_blocks(lines: &Lines) -> Result<(Vec<Row>, Vec<Row>), Fault> {
 // A bay as it stands has something in every slot, if only the gap.
 fn named_throughout(lines: &Lines, first: &[Row]) -> Result<(), Fault> {
     let mut labels = first.iter().flat_map(|row| &row.labels);
-    match labels.find(|label| label.value.is_none()) {
+    match labels.find(|label| label.value == Value::Silent) {
         Some(label) => {
             let expected = "a label in every slot of the bay as it stands";
             Err(label.place.fault(lines, expected, &quoted(&label.written)))

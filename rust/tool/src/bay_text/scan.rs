@@ -7,7 +7,7 @@ use crate::characters::is_blank;
 use crate::fault::Fault;
 
 const LABEL: &str =
-    "a label (a number, . for the gap, or ? for a slot that the order does not name)";
+    "a label (a number, a letter, . for the gap, or ? for a slot that the order does not name)";
 /// What stands in a slot that the order does not name.
 const SILENT: &str = "?";
 const NO_ZERO: &str = "a label without a zero before it, and blanks between labels";
@@ -17,10 +17,18 @@ const WORDS_BETWEEN: &str = "words in a comment between two rows, as this could 
 const NO_ROW: &str = "a comment in words, as this could be a row";
 
 pub struct Label {
-    /// None where the order does not name the slot.
-    pub value: Option<usize>,
+    pub value: Value,
     pub written: String,
     pub place: Place,
+}
+
+/// What a label says by itself.
+#[derive(Clone, Copy, PartialEq, Eq)]
+pub enum Value {
+    /// The order does not name the slot.
+    Silent,
+    Number(usize),
+    Letter(char),
 }
 
 /// The labels of one line.
@@ -32,6 +40,7 @@ pub struct Row {
 
 /// Rows that stand together; a blank line parts them, a line that is only a comment does not.
 pub fn blocks(lines: &Lines) -> Result<Vec<Vec<Row>>, Fault> {
+    let lettered = is_lettered(lines);
     let mut blocks: Vec<Vec<Row>> = Vec::new();
     let mut parted = true;
     // The last row's next comment line that is not in words.
@@ -41,9 +50,9 @@ pub fn blocks(lines: &Lines) -> Result<Vec<Vec<Row>>, Fault> {
             parted = true;
             continue;
         }
-        let row = row(lines, index)?;
+        let row = row(lines, index, lettered)?;
         if row.labels.is_empty() {
-            drawn = drawn.or(comment_line(lines, index)?);
+            drawn = drawn.or(comment_line(lines, index, lettered)?);
             continue;
         }
         match blocks.last_mut() {
@@ -61,12 +70,12 @@ pub fn blocks(lines: &Lines) -> Result<Vec<Vec<Row>>, Fault> {
 }
 
 // The index of a line that is only a comment, unless the comment is in words.
-fn comment_line(lines: &Lines, index: usize) -> Result<Option<usize>, Fault> {
+fn comment_line(lines: &Lines, index: usize, lettered: bool) -> Result<Option<usize>, Fault> {
     let comment = comment(&lines[index]).unwrap_or_default();
-    if comment::reads_as_row(comment) {
+    if comment::reads_as_row(comment, lettered) {
         return Err(comment_fault(lines, index, NO_ROW));
     }
-    Ok((!comment::is_in_words(comment)).then_some(index))
+    Ok((!comment::is_in_words(comment, lettered)).then_some(index))
 }
 
 fn comment_fault(lines: &Lines, index: usize, expected: &str) -> Fault {
@@ -76,7 +85,7 @@ fn comment_fault(lines: &Lines, index: usize, expected: &str) -> Fault {
     Place { line, column }.fault(lines, expected, &quoted(comment))
 }
 
-fn row(lines: &Lines, index: usize) -> Result<Row, Fault> {
+fn row(lines: &Lines, index: usize, lettered: bool) -> Result<Row, Fault> {
     let line = index + 1;
     let mut labels = Vec::new();
     for (column, written) in words(&lines[index]) {
@@ -90,7 +99,7 @@ fn row(lines: &Lines, index: usize) -> Result<Row, Fault> {
         });
     }
     let behind = comment(&lines[index]).filter(|_| !labels.is_empty());
-    if behind.is_some_and(|comment| !comment::is_in_words(comment)) {
+    if behind.is_some_and(|comment| !comment::is_in_words(comment, lettered)) {
         return Err(comment_fault(lines, index, WORDS_BEHIND));
     }
     let column = end_column(&lines[index]);
@@ -126,20 +135,39 @@ fn words(line: &str) -> Vec<(usize, String)> {
     words
 }
 
-/// Whether a word is a label, in whatever range, or stands for any.
-pub fn is_label(word: &str) -> bool {
-    matches!(word, "." | SILENT) || word.bytes().all(|byte| byte.is_ascii_digit())
+/// Whether a word is a label, in whatever range, or stands for any; a letter is one where the
+/// labels of the bay are letters.
+pub fn is_label(word: &str, lettered: bool) -> bool {
+    matches!(word, "." | SILENT)
+        || word.bytes().all(|byte| byte.is_ascii_digit())
+        || (lettered && letter(word).is_some())
 }
 
-// A label's value, or what was expected in its place.
-fn value(word: &str) -> Result<Option<usize>, &'static str> {
+// Whether letters are typed as labels.
+fn is_lettered(lines: &Lines) -> bool {
+    let mut words = lines.iter().flat_map(|line| words(line));
+    words.any(|(_, word)| letter(&word).is_some())
+}
+
+// The letter that a word consists of.
+fn letter(word: &str) -> Option<char> {
+    let mut characters = word.chars();
+    let first = characters.next().filter(char::is_ascii_alphabetic);
+    first.filter(|_| characters.next().is_none())
+}
+
+// What a label says, or what was expected in its place.
+fn value(word: &str) -> Result<Value, &'static str> {
     match word {
-        "." => Ok(Some(GAP)),
-        SILENT => Ok(None),
-        _ if !is_label(word) => Err(LABEL),
+        "." => Ok(Value::Number(GAP)),
+        SILENT => Ok(Value::Silent),
+        _ if !is_label(word, true) => Err(LABEL),
         // 01 could be 0 and 1 as well.
         _ if word.len() > 1 && word.starts_with('0') => Err(NO_ZERO),
-        // A number too long to count is out of every range, and the builder says so.
-        _ => Ok(Some(word.parse().unwrap_or(usize::MAX))),
+        _ => Ok(match letter(word) {
+            Some(letter) => Value::Letter(letter),
+            // A number too long to count is out of every range, and the builder says so.
+            None => Value::Number(word.parse().unwrap_or(usize::MAX)),
+        }),
     }
 }

@@ -44,7 +44,7 @@ fn a_comment_that_could_be_silent_slots_is_refused() {
 
 #[test]
 fn faults_name_line_and_column() {
-    assert!(fault("1 x\n").starts_with("line 1, column 3: expected a label"));
+    assert!(fault("1 xx\n").starts_with("line 1, column 3: expected a label"));
     assert!(fault("").starts_with("line 1, column 1: expected the bay as it stands"));
     assert!(fault("1 .\n\n").starts_with("line 1, column 4: expected a blank line"));
     assert!(fault("1 2\n.\n\n1 2\n. 3\n").starts_with("line 2, column 2: expected 2"));
@@ -66,7 +66,7 @@ fn only_space_and_tab_are_blanks() {
             );
         };
         let place =
-            "line 1, column 4: expected only digits, dots, question marks, spaces and tabs before a comment";
+            "line 1, column 4: expected only digits, letters from A to Z, dots, question marks, spaces and tabs before a comment";
         at(place, format!("1 2{other}3 .\n\n2 1 3 .\n"));
         let place = "line 1, column 12: expected only plain letters and signs in a comment";
         at(place, format!("1 2 # front{other}3 .\n"));
@@ -130,7 +130,10 @@ fn what_is_not_seen_as_it_is_read_is_refused() {
     );
     at("line 1, column 1: expected a label (", "1,2\n3,.\n");
     at("line 2, column 3: expected a label (", "1 2\n3 _\n");
-    at("line 2, column 3: expected a label (", "1 2\n3 O\n");
+    at(
+        "line 2, column 3: expected a number, as",
+        "1 2\n3 O\n\n2 1\n3 O\n",
+    );
 }
 
 #[test]
@@ -257,16 +260,112 @@ fn bytes_that_are_no_text_are_named() {
 
 #[test]
 fn refusals_find_their_place() {
-    let place = |text: &str, number| {
+    let place = |text: &str, number, due: &str| {
         let text = BayText::read(text.as_bytes()).unwrap();
-        text.place(Fault::Refused(number)).words()
+        let words = text.place(Fault::Refused(number)).words();
+        assert!(words.starts_with(due), "{words}");
     };
-    assert!(place("1 2\n. 4\n\n1 2\n. 3\n", 3).starts_with("line 2, column 3"));
-    assert!(place("1 2\n. 3\n\n1 2\n. 2\n", 10).starts_with("line 5, column 3"));
-    assert!(place("1\n\n1\n", 2).starts_with("line 1, column 1"));
-    assert!(place("1 2\n. 3\n\n? 4\n. ?\n", 3).starts_with("line 4, column 3"));
-    assert!(place("1 2\n. 3\n\n? 2\n? 2\n", 10).starts_with(
-        "line 5, column 3: expected each label at most once beside the silent slots, found 2 again"
-    ));
-    assert!(place("1 .\n\n. 1\n", 5).starts_with("refused 5"));
+    place("1 2\n. 4\n\n1 2\n. 3\n", 3, "line 2, column 3");
+    place("1\n\n1\n", 2, "line 1, column 1");
+    place("1 2\n. 3\n\n? 4\n. ?\n", 3, "line 4, column 3");
+    place("1 .\n\n. 1\n", 5, "refused 5");
+    // The gaps of the start come first.
+    let another = "line 2, column 3: expected one gap (0 or .) in the bay as it stands, \
+                   found another (the first stands in line 1, column 3)";
+    place("1 .\n2 0\n\n1 2\n3 1\n", 10, another);
+    let none = "line 2, column 1: expected one gap (0 or .) in the bay as it stands, found none";
+    place("# no gap\n1 1\n\n. .\n", 10, none);
+    let wanted = "line 3, column 1: expected one gap (0 or .) in the bay as it is wanted, found";
+    place("1 .\n\n1 1\n", 10, &format!("{wanted} none"));
+    let wanted = wanted.replace("column 1", "column 5");
+    place("A . A\n\n0 ? .\n", 10, &format!("{wanted} another"));
+    place("1 .\n\n? 1\n", 10, "refused 10");
+    // The first label of the order that is too many, though others may be missing.
+    let again =
+        "line 5, column 3: expected each label as often as in the bay as it stands, found 2 \
+                 too often: it stands 1 time in the bay and 2 times in the order (refused 11: ";
+    place("1 2\n. 3\n\n1 2\n. 2\n", 11, again);
+    place("1 2\n. 3\n\n? 2\n? 2\n", 11, again);
+    let three =
+        "line 3, column 7: expected each label as often as in the bay as it stands, found A \
+                 too often: it stands 2 times in the bay and 3 times in the order";
+    place("B A A . B\n\nA B A A ?\n", 11, three);
+    place("1 1 .\n\n? 1 1\n", 11, "refused 11");
+}
+
+#[test]
+fn letters_are_numbered_as_they_first_stand() {
+    let bay = |text: &str| BayText::read(text.as_bytes()).unwrap().bay();
+    let lots = bay("C A\nA 0\n\nA .\nC ?\n");
+    assert_eq!(lots.letters, ['C', 'A']);
+    assert_eq!(lots.start, [1, 2, 2, 0]);
+    assert_eq!(lots.goal, [Some(2), Some(0), Some(1), None]);
+    assert_eq!(lots.file(), bay("1 2\n2 0\n\n2 .\n1 ?\n").file());
+    assert_eq!(bay("1 1\n2 0\n\n1 1\n2 .\n").letters, []);
+    // Without a gap the last letter has no number left; the builder sees that there is no gap.
+    assert_eq!(bay("a b\nc d\n\na b\nc d\n").start, [1, 2, 3, 3]);
+}
+
+#[test]
+fn letters_that_could_be_read_in_two_ways_are_refused() {
+    let at = |due: &str, text: &str| {
+        let words = fault(text);
+        assert!(words.starts_with(due), "{text:?}: {words}");
+    };
+    let number = "expected a number, as labels are all numbers or all letters, found \"B\"";
+    at(&format!("line 1, column 3: {number}"), "1 B .\n\n. 1 B\n");
+    at(&format!("line 3, column 5: {number}"), "1 2 .\n\n1 ? B\n");
+    let letter = "expected a letter, as labels are all letters or all numbers, found \"1\"";
+    at(&format!("line 3, column 3: {letter}"), "A B .\n\nA 1 .\n");
+    at(&format!("line 1, column 5: {letter}"), "0 A 1\n\n0 A 1\n");
+    let alike = |text: &str, place: &str, one: &str, two: &str| {
+        let due = format!(
+            "{place}: expected labels that nobody takes for each other, found \"{two}\", which looks \
+             like \"{one}\" in line 1, column 1"
+        );
+        at(&due, text);
+    };
+    alike("A a .\n\nA a .\n", "line 1, column 3", "A", "a");
+    alike("b A .\n\n. A B\n", "line 3, column 5", "b", "B");
+    alike("I A l .\n\nA . I l\n", "line 1, column 5", "I", "l");
+    alike("0 A o\n\nA o 0\n", "line 1, column 5", "0", "o");
+    alike("O A .\n\nA O 0\n", "line 3, column 5", "O", "0");
+    assert_eq!(fault("I L o .\n\no . L I\n"), "no fault");
+    let stranger =
+        "line 4, column 3: expected each label as often as in the bay as it stands, found D \
+                    too often: it stands 0 times in the bay and 2 times in the order";
+    assert_eq!(fault("A B\nC .\n\nA D\n? D\n"), stranger);
+    for word in ["pear", "AB", "A1", "1A", "A.", "A?", "_", "A,"] {
+        let text = format!("A {word}\n. B\n\nA {word}\n. B\n");
+        at(
+            "line 1, column 3: expected a label (a number, a letter, ",
+            &text,
+        );
+    }
+    for word in ["\u{c4}", "\u{e9}", "\u{410}", "\u{3b1}", "\u{ff21}"] {
+        let text = format!("A {word}\n. B\n\nA {word}\n. B\n");
+        at(
+            "line 1, column 3: expected only digits, letters from A to Z, ",
+            &text,
+        );
+    }
+}
+
+#[test]
+fn comments_beside_letters_begin_with_a_word() {
+    let texts = [
+        "# A apples, B pears\nA B # front\n# the back\nB .\n\n# wanted\nB A\nB .\n",
+        "# a bay\nA B\nB .\n\nB A\nB .\n",
+    ];
+    for text in texts {
+        assert_eq!(fault(text), "no fault", "{text:?}");
+    }
+    let behind = "line 1, column 5: expected a comment that begins with a word";
+    assert!(fault("A B # C\nB . # A\n\nB A\nB .\n").starts_with(behind));
+    assert!(fault("A B # a wide one\nB .\n\nB A\nB .\n").starts_with(behind));
+    assert_eq!(fault("1 2 # a wide one\n3 .\n\n2 1\n3 .\n"), "no fault");
+    let row = "line 2, column 1: expected a comment in words, as this could be a row";
+    assert!(fault("A B\n# C D\nB .\n\nB A\nB .\n").starts_with(row));
+    let between = "line 2, column 1: expected words in a comment between two rows";
+    assert!(fault("A B\n# a wall\nB .\n\nB A\nB .\n").starts_with(between));
 }

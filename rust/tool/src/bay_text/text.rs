@@ -3,7 +3,8 @@
 use crate::characters::{is_blank, is_plain, named};
 use crate::fault::{Fault, TextFault};
 
-const IN_ROWS: &str = "only digits, dots, question marks, spaces and tabs before a comment";
+const IN_ROWS: &str =
+    "only digits, letters from A to Z, dots, question marks, spaces and tabs before a comment";
 const IN_COMMENTS: &str = "only plain letters and signs in a comment";
 
 /// The mark with which some editors begin a text.

@@ -20,51 +20,70 @@ fn reached(bay: &Bay) -> HashSet<Vec<usize>> {
     reached
 }
 
-/// Every wanted bay of four slots, silent slots included.
-fn orders() -> Vec<Vec<&'static str>> {
+/// Every wanted bay of four slots, silent slots included, that names nothing too often.
+fn orders(start: &[&'static str]) -> Vec<Vec<&'static str>> {
+    let often = |labels: &[&str], label| labels.iter().filter(|other| **other == label).count();
+    let mut labels = start.to_vec();
+    labels.sort_unstable();
+    labels.dedup();
+    let longer = |order: &[&'static str], label: &'static str| {
+        let fits = often(order, label) < often(start, label);
+        fits.then(|| [order, &[label]].concat())
+    };
     let mut orders = vec![Vec::new()];
     for _ in 0..4 {
-        let longer = |order: &Vec<&'static str>, label: &&'static str| {
-            let taken = *label != "?" && order.contains(label);
-            (!taken).then(|| [order.as_slice(), &[*label]].concat())
+        let each = |order: &Vec<&'static str>| {
+            let named = labels.iter().filter_map(|label| longer(order, label));
+            named.chain([[order.as_slice(), &["?"]].concat()]).collect()
         };
-        let labels = ["?", "0", "1", "2", "3"];
-        let each = |order| labels.iter().filter_map(move |label| longer(order, label));
-        orders = orders.iter().flat_map(each).collect();
+        orders = orders.iter().flat_map::<Vec<_>, _>(each).collect();
     }
     orders
 }
 
-fn text_of(columns: usize, order: &[&str]) -> BayText {
+fn text_of(columns: usize, start: &[&str], order: &[&str]) -> BayText {
     let rows = |labels: &[&str]| -> String {
         let rows = labels.chunks(columns);
         rows.map(|row| row.join(" ") + "\n").collect()
     };
-    let text = format!("{}\n{}", rows(&["1", "2", "3", "0"]), rows(order));
+    let text = format!("{}\n{}", rows(start), rows(order));
     BayText::read(text.as_bytes()).unwrap()
 }
 
+// The count of orders: for each choice of how often each label is named, the arrangements of those
+// and of the silent slots.
 #[test]
 fn impossible_orders_are_those_that_no_moves_meet() {
-    for columns in [2, 4] {
-        let reached = reached(&text_of(columns, &["?"; 4]).bay());
-        let orders = orders();
-        assert_eq!(orders.len(), 209);
+    let starts = [
+        (["1", "2", "3", "0"], 209),
+        (["A", "A", "B", "."], 115),
+        (["B", "A", "B", "."], 115),
+        (["1", "3", "3", "0"], 115),
+        (["2", ".", "2", "2"], 47),
+    ];
+    for (columns, (start, count)) in [2, 4].into_iter().flat_map(|c| starts.map(|s| (c, s))) {
+        let orders = orders(&start);
+        assert_eq!(orders.len(), count);
+        let reached = reached(&text_of(columns, &start, &["?"; 4]).bay());
         for order in orders {
-            let answered = ask_text(&text_of(columns, &order)).unwrap();
+            let answered = ask_text(&text_of(columns, &start, &order)).unwrap();
             let met = reached.iter().any(|state| {
                 let mut both = answered.bay.goal.iter().zip(state);
                 both.all(|(wanted, label)| wanted.is_none_or(|wanted| wanted == *label))
             });
             // In bays as small as these whatever is not met has a proof as well.
-            assert_eq!(answered.status() == Status::Yes, !met, "{order:?}");
+            assert_eq!(
+                answered.status() == Status::Yes,
+                !met,
+                "{start:?} {order:?}"
+            );
         }
     }
 }
 
 #[test]
 fn ways_are_asked_where_one_proof_is_not_enough() {
-    let answered = |order: [&str; 4]| ask_text(&text_of(2, &order)).unwrap();
+    let answered = |order: [&str; 4]| ask_text(&text_of(2, &["1", "2", "3", "0"], &order)).unwrap();
     let one = answered(["2", "1", "3", "?"]);
     assert!(one.asked.proof.is_some() && one.ways.is_empty());
     let two = answered(["2", "1", "?", "?"]);

@@ -33,10 +33,12 @@ impl Change {
         pairs.filter(|pair| listed.has(*pair)).count()
     }
 
-    /// What can stand elsewhere while the step is made.
+    /// What can stand elsewhere while the step is made: what the bay holds beside the step.
     pub fn elsewhere(&self, bay: &Bay) -> Vec<usize> {
-        let taken = |label: usize| self.before.iter().any(|atom| atom.value == label);
-        bay.labels().filter(|label| !taken(*label)).collect()
+        let here = |label| self.before.iter().filter(move |atom| atom.value == label);
+        let others = |label| bay.often(label) > here(label).count();
+        let free = |&label: &usize| label == bay.unknown() || others(label);
+        bay.labels().filter(free).collect()
     }
 }
 

@@ -22,13 +22,13 @@ pub fn section(bay: &Bay, listed: &Listed) -> String {
     ];
     format!(
         "<h3>One move, as an example</h3>\n{}\
-         <p>Pallet {} slides from {} to {}.</p>\n\
+         <p>Pallet {} slides from slot {} to slot {}.</p>\n\
          <div class=\"columns\">\n<div><h4>No longer true: {}</h4>{}</div>\n\
          <div><h4>Newly true: {}</h4>{}</div>\n</div>\n<p>{}</p>\n",
         pictures::two(bay, bays, &[step.gap, step.from]),
-        step.pallet,
-        slot(step.from),
-        slot(step.gap),
+        bay.name(step.pallet),
+        slot(bay, step.from),
+        slot(bay, step.gap),
         lost.len(),
         list(bay, &lost),
         gained.len(),

@@ -1,7 +1,7 @@
 //! The whole list of features as grids of squares, as SVG.
 
 use super::listed::Listed;
-use super::words::slot;
+use super::words::{label, slot};
 use crate::bay::{Bay, GAP};
 use crate::features::{Atom, Feature};
 
@@ -32,12 +32,14 @@ struct Square {
 pub fn singles(bay: &Bay, listed: &Listed) -> String {
     let sides = Sides {
         title: "One slot".to_string(),
-        left: (0..bay.slots()).map(|row| slot(row).to_string()).collect(),
+        left: (0..bay.slots())
+            .map(|row| slot(bay, row).to_string())
+            .collect(),
         top: labels(bay),
     };
     grid(&sides, |row, column| {
         let feature = Feature::Single(Atom::new(row, column));
-        square(bay, listed, feature, false)
+        square(bay, listed, feature)
     })
 }
 
@@ -54,32 +56,42 @@ pub fn pairs(bay: &Bay, listed: &Listed) -> String {
 
 fn pair(bay: &Bay, listed: &Listed, low: usize, high: usize) -> String {
     let sides = Sides {
-        title: format!("{} down, {} across", slot(low), slot(high)),
+        title: format!("{} down, {} across", slot(bay, low), slot(bay, high)),
         left: labels(bay),
         top: labels(bay),
     };
     grid(&sides, |row, column| {
         let feature = Feature::pair(Atom::new(low, row), Atom::new(high, column));
-        // One pallet cannot stand in two slots, but two slots can be unknown.
-        let never = row == column && row != bay.unknown();
-        square(bay, listed, feature, never)
+        square(bay, listed, feature)
     })
 }
 
-fn square(bay: &Bay, listed: &Listed, feature: Feature, never: bool) -> Square {
+fn square(bay: &Bay, listed: &Listed, feature: Feature) -> Square {
     Square {
         listed: listed.has(feature),
-        never,
+        never: is_never(bay, feature),
         start: feature.holds_in(&bay.start),
         goal: feature.holds_in(&bay.wanted()),
     }
 }
 
+// What no pallet has is nowhere, and what is there once is not in two slots; but two slots can be
+// unknown.
+fn is_never(bay: &Bay, feature: Feature) -> bool {
+    match feature {
+        Feature::Single(one) => bay.is_spare(one.value),
+        Feature::Pair(one, two) => {
+            let twice = one.value == two.value && bay.often(one.value) == 1;
+            twice || bay.is_spare(one.value) || bay.is_spare(two.value)
+        }
+    }
+}
+
 fn labels(bay: &Bay) -> Vec<String> {
-    let short = |label: usize| match label {
+    let short = |value: usize| match value {
         GAP => "•".to_string(),
         unknown if unknown == bay.unknown() => "?".to_string(),
-        number => number.to_string(),
+        _ => label(bay, value),
     };
     bay.labels().map(short).collect()
 }
@@ -171,7 +183,11 @@ fn marks(square: &Square, row: usize, column: usize) -> String {
 }
 
 /// What the marks in the grids mean.
-pub fn legend() -> String {
+pub fn legend(bay: &Bay) -> String {
+    let never = match bay.has_spare_labels() {
+        true => "never true: one pallet, or the gap, in two slots, or a label that no pallet has",
+        false => "never true: one pallet, or the gap, in two slots",
+    };
     let square = |listed, never, start, goal| Square {
         listed,
         never,
@@ -185,10 +201,7 @@ pub fn legend() -> String {
             square(false, false, false, true),
             "true as the bay is wanted",
         ),
-        (
-            square(false, true, false, false),
-            "never true: one pallet, or the gap, in two slots",
-        ),
+        (square(false, true, false, false), never),
     ];
     let shown = items.iter().map(|(square, words)| item(square, words));
     format!("<ul class=\"legend\">{}</ul>\n", shown.collect::<String>())

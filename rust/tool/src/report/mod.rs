@@ -14,7 +14,7 @@ mod silent;
 mod ways;
 mod words;
 
-use crate::answer::NOT_DONE;
+use crate::answer::{ALIKE, NOT_DONE};
 use crate::bay::{Bay, GAP};
 use crate::fault::Fault;
 use crate::features::{Atom, Feature};
@@ -76,13 +76,25 @@ fn verdict(name: &str, answered: &Answered) -> String {
 fn both(bay: &Bay) -> String {
     let wanted = bay.wanted();
     let bays = [("as it stands", &*bay.start), ("as it is wanted", &*wanted)];
+    let (slot, pallet) = match bay.letters.is_empty() {
+        true => ("letter", "number"),
+        false => ("number", "letter"),
+    };
     format!(
         "<section>\n<h2>The order</h2>\n{}\
-         <p>Each slot has a letter, each pallet a number. The dashed slot is the gap. A move slides a \
-         pallet from a slot beside the gap, in the same row or column, into the gap.</p>\n{}</section>\n",
+         <p>Each slot has a {slot}, each pallet a {pallet}. The dashed slot is the gap. A move slides a \
+         pallet from a slot beside the gap, in the same row or column, into the gap.</p>\n{}{}</section>\n",
         pictures::two(bay, bays, &[]),
+        alike(bay),
         silent::below_picture(bay)
     )
+}
+
+fn alike(bay: &Bay) -> String {
+    let alike = bay.alike();
+    alike.map_or(String::new(), |alike| {
+        format!("<p>{ALIKE}: {alike}. It does not matter which of them is where.</p>\n")
+    })
 }
 
 fn not_proved(answered: &Answered) -> String {
@@ -139,6 +151,7 @@ fn proved(bay: &Bay, proof: &Proof) -> Result<String, Fault> {
 fn idea(bay: &Bay, listed: &Listed) -> String {
     let start = listed.true_in(&bay.start).len();
     let goal = listed.true_in(&bay.wanted()).len();
+    let held = Atom::new(0, bay.pallets()[0]);
     let no_step = match bay.is_full() {
         true => "No move can change",
         false => "No move and no forgetting can change",
@@ -153,8 +166,8 @@ fn idea(bay: &Bay, listed: &Listed) -> String {
          one.</strong> So the count, which is {was} as the bay stands, stays {was} for ever. As \
          the bay is wanted it would have to be {wanted}, so that is never reached.</p>\n\
          </section>\n",
-        one = feature(bay, Feature::Single(Atom::new(0, 1))),
-        two = feature(bay, Feature::pair(Atom::new(0, 1), Atom::new(1, GAP))),
+        one = feature(bay, Feature::Single(held)),
+        two = feature(bay, Feature::pair(held, Atom::new(1, GAP))),
         features = counted(listed.len(), "feature"),
         counts = counts(bay, listed),
         was = parity(start),
@@ -242,15 +255,19 @@ fn whole_list(bay: &Bay, listed: &Listed, proof: &Proof) -> String {
     format!(
         "<section>\n<h2>The whole list: {}</h2>\n\
          <p>Each filled square is a feature on the list. In the first grid a row is a slot and a \
-         column is what it holds (&#8226; is the gap{unknown}). Each of the other grids is about two slots: \
+         column is what it holds (&#8226; is the gap{unknown}{spare}). Each of the other grids is about two slots: \
          the row is what the first holds, the column is what the second holds.</p>\n{}\
          <div class=\"grids\">\n{}{}</div>\n{}</section>\n",
         counted(listed.len(), "feature"),
-        grids::legend(),
+        grids::legend(bay),
         grids::singles(bay, listed),
         grids::pairs(bay, listed),
         listing::table(bay, listed, proof),
         unknown = if bay.is_full() { "" } else { ", ? is unknown" },
+        spare = match bay.has_spare_labels() {
+            true => ", a number in brackets is a label that no pallet has",
+            false => "",
+        },
     )
 }
 
@@ -258,26 +275,32 @@ fn by_hand(bay: &Bay, listed: &Listed) -> String {
     let start = listed.true_in(&bay.start).len();
     let goal = listed.true_in(&bay.wanted()).len();
     let (low, high) = bay.neighbours()[0];
-    let [low_gap, low_one] = [GAP, 1].map(|label| Atom::new(low, label));
-    let [high_gap, high_one] = [GAP, 1].map(|label| Atom::new(high, label));
+    let pallet = bay.pallets()[0];
+    let [low_gap, low_one] = [GAP, pallet].map(|label| Atom::new(low, label));
+    let [high_gap, high_one] = [GAP, pallet].map(|label| Atom::new(high, label));
+    let other = match bay.often(pallet) {
+        1 => format!("a pallet for it, any but pallet {}", bay.name(pallet)),
+        _ => "any pallet for it".to_string(),
+    };
     format!(
         "<section>\n<h2>Check it by hand</h2>\n<ol class=\"steps\">\n\
          <li>In the grids above, count the filled squares with a round mark: {start}, {was}. \
          Count the filled squares with a square mark: {goal}, {wanted}.</li>\n\
-         <li>Take any row of the table of moves, say pallet 1 between {low} and {high}. At one end \
+         <li>Take any row of the table of moves, say pallet {name} between {low} and {high}. At one end \
          of the move {first}, at the other {second}. These are four statements.</li>\n\
          <li>For the part of the two slots, look up the four statements in the first grid, and \
          <q>{first}</q> and <q>{second}</q> in the grid of {low} and {high}. Count the filled \
          squares.</li>\n\
-         <li>For the part of another slot, pick a pallet for it, any but pallet 1{unknown}. Look up the \
+         <li>For the part of another slot, pick {other}{unknown}. Look up the \
          four pairs that it makes with the four statements, and count the filled squares. Do so \
          for each pallet that can stand there.</li>\n\
          <li>Add up the parts. The sum is even, whatever you picked. So it is for every row, and \
          so no move changes odd to even or even to odd.</li>\n</ol>\n</section>\n",
         was = parity(start),
         wanted = parity(goal),
-        low = words::slot(low),
-        high = words::slot(high),
+        name = bay.name(pallet),
+        low = words::slot(bay, low),
+        high = words::slot(bay, high),
         first = feature(bay, Feature::pair(low_gap, high_one)),
         second = feature(bay, Feature::pair(low_one, high_gap)),
         unknown = if bay.is_full() { "" } else { ", or unknown" },

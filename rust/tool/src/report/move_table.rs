@@ -32,7 +32,8 @@ struct Part {
 /// A row for each move.
 pub fn of_moves(bay: &Bay, listed: &Listed) -> Result<String, Fault> {
     let row = |step: &moves::Move| {
-        let (pallet, low, high) = (step.pallet, slot(step.gap), slot(step.from));
+        let [low, high] = [step.gap, step.from].map(|index| slot(bay, index));
+        let pallet = bay.name(step.pallet);
         Row {
             cells: format!("<th>{pallet}</th><td>{low} and {high}</td>"),
             name: format!("when pallet {pallet} moves between slots {low} and {high}"),
@@ -47,7 +48,7 @@ pub fn of_moves(bay: &Bay, listed: &Listed) -> Result<String, Fault> {
 /// A row for each silent slot and each label that is forgotten there.
 pub fn of_forgetting(bay: &Bay, listed: &Listed) -> Result<String, Fault> {
     let row = |step: &forgetting::Forgetting| {
-        let (held, place) = (label(bay, step.label), slot(step.slot));
+        let (held, place) = (label(bay, step.label), slot(bay, step.slot));
         Row {
             cells: format!("<th>{place}</th><td>{held}</td>"),
             name: format!("when slot {place}, holding {held}, becomes unknown"),
@@ -62,7 +63,7 @@ pub fn of_forgetting(bay: &Bay, listed: &Listed) -> Result<String, Fault> {
 fn table(bay: &Bay, listed: &Listed, head: &str, rows: &[Row]) -> Result<String, Fault> {
     let mut head = head.to_string();
     for index in 0..bay.slots() {
-        head.push_str(&format!("<th>with {}</th>", slot(index)));
+        head.push_str(&format!("<th>with {}</th>", slot(bay, index)));
     }
     let mut lines = String::new();
     for row in rows {
@@ -84,7 +85,7 @@ fn framed(bay: &Bay, table: &str, rows: usize) -> String {
     }
     format!(
         "<p>The small numbers say how many listed features change. For another slot there is one \
-         for each pallet that can stand there, after the pallet's number{}.</p>\n{table}",
+         for each pallet that can stand there, after the pallet's label{}.</p>\n{table}",
         if bay.is_full() {
             ""
         } else {

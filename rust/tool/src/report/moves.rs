@@ -37,7 +37,8 @@ impl Move {
 pub fn all(bay: &Bay) -> Vec<Move> {
     let mut moves = Vec::new();
     for (gap, from) in bay.neighbours() {
-        moves.extend((1..bay.slots()).map(|pallet| Move { pallet, gap, from }));
+        let pallets = bay.pallets().into_iter();
+        moves.extend(pallets.map(|pallet| Move { pallet, gap, from }));
     }
     moves
 }

@@ -34,7 +34,8 @@ fn one(bay: &Bay, when: &str, labels: &[usize], moved: &[usize]) -> String {
         let top = MARGIN + index / columns * CELL;
         let (kind, shown) = content(bay, value);
         let mark = if moved.contains(&index) { " moved" } else { "" };
-        cells.push_str(&cell(index, &format!("{kind}{mark}"), &shown, left, top));
+        let name = slot(bay, index);
+        cells.push_str(&cell(name, &format!("{kind}{mark}"), &shown, left, top));
     }
     format!(
         "<svg class=\"bay\" role=\"img\" aria-label=\"{}\" width=\"{width}\" height=\"{height}\" \
@@ -48,11 +49,11 @@ fn content(bay: &Bay, value: usize) -> (&'static str, String) {
     match value {
         GAP => ("hole", String::new()),
         unknown if unknown == bay.unknown() => ("silent", "?".to_string()),
-        pallet => ("pallet", pallet.to_string()),
+        pallet => ("pallet", bay.name(pallet)),
     }
 }
 
-fn cell(index: usize, kind: &str, shown: &str, left: usize, top: usize) -> String {
+fn cell(name: char, kind: &str, shown: &str, left: usize, top: usize) -> String {
     let (inner_left, inner_top, inner) = (left + 4, top + 4, CELL - 8);
     let (middle, base) = (left + CELL / 2, top + CELL / 2 + 12);
     let (letter_left, letter_top) = (left + 10, top + 19);
@@ -64,8 +65,7 @@ fn cell(index: usize, kind: &str, shown: &str, left: usize, top: usize) -> Strin
         "<rect class=\"slot\" x=\"{left}\" y=\"{top}\" width=\"{CELL}\" height=\"{CELL}\"/>\
          <rect class=\"{kind}\" x=\"{inner_left}\" y=\"{inner_top}\" \
          width=\"{inner}\" height=\"{inner}\" rx=\"6\"/>{number}\
-         <text class=\"letter\" x=\"{letter_left}\" y=\"{letter_top}\">{}</text>\n",
-        slot(index)
+         <text class=\"letter\" x=\"{letter_left}\" y=\"{letter_top}\">{name}</text>\n"
     )
 }
 

@@ -28,12 +28,16 @@ pub fn section(bay: &Bay) -> String {
          <p>The proof does not go through the ways to fill {slots} one by one. It allows another \
          kind of step beside the moves: a slot that the order does not name may be \
          <em>forgotten</em>. From then on it is <q>unknown</q>, and no pallet leaves it or comes \
-         to it. Nothing is forgotten that the order names for another slot.</p>\n\
+         to it. Nothing is forgotten that the order names for another slot{but_alike}.</p>\n\
          <p>Suppose that moves led to a bay that has all that the order names. Then {slots} could \
          be forgotten, and we would have the bay as it is wanted above, with unknown for each \
          question mark. The proof shows that moves and forgetting together never lead there. So \
          no moves lead to such a bay, whatever {slots} would hold.</p>\n</section>\n",
-        slots = slots(&bay.silent())
+        slots = slots(bay, &bay.silent()),
+        but_alike = match bay.alike() {
+            Some(_) => ", unless more than one pallet has that label",
+            None => "",
+        }
     )
 }
 

@@ -3,28 +3,32 @@
 use crate::bay::{Bay, GAP};
 use crate::features::{Atom, Feature};
 
-/// Slots get letters, so that nobody takes a slot for a pallet.
-pub fn slot(index: usize) -> char {
-    char::from_u32('A' as u32 + index as u32).unwrap_or('?')
+/// Slots get letters, or numbers where pallets have letters, so that nobody takes a slot for a
+/// pallet.
+pub fn slot(bay: &Bay, index: usize) -> char {
+    let first = if bay.letters.is_empty() { 'A' } else { '1' };
+    char::from_u32(first as u32 + index as u32).unwrap_or('?')
 }
 
-/// Some slots, as in "A", "A and B" and "A, B and C".
-pub fn slots(indices: &[usize]) -> String {
-    let names: Vec<String> = indices
-        .iter()
-        .map(|&index| slot(index).to_string())
-        .collect();
+/// Some slots, as in "slot A", "slots A and B" and "slots A, B and C".
+pub fn slots(bay: &Bay, indices: &[usize]) -> String {
+    let name = |&index: &usize| slot(bay, index).to_string();
+    let names: Vec<String> = indices.iter().map(name).collect();
     match names.split_last() {
-        Some((last, others)) if !others.is_empty() => format!("{} and {last}", others.join(", ")),
-        _ => names.concat(),
+        Some((last, others)) if !others.is_empty() => {
+            format!("slots {} and {last}", others.join(", "))
+        }
+        _ => format!("slot {}", names.concat()),
     }
 }
 
+/// What a slot holds; a label that no pallet has stands in brackets.
 pub fn label(bay: &Bay, value: usize) -> String {
     match value {
         GAP => "gap".to_string(),
         _ if value == bay.unknown() => "unknown".to_string(),
-        _ => value.to_string(),
+        _ if bay.is_spare(value) => format!("({value})"),
+        _ => bay.name(value),
     }
 }
 
@@ -40,7 +44,7 @@ pub fn feature(bay: &Bay, feature: Feature) -> String {
 fn atom(bay: &Bay, atom: Atom) -> String {
     format!(
         "<span class=\"atom\">{} = {}</span>",
-        slot(atom.variable),
+        slot(bay, atom.variable),
         label(bay, atom.value)
     )
 }

@@ -20,6 +20,8 @@ struct Summary {
     no_proof: usize,
     refused: usize,
     others: usize,
+    /// Whether pallets of one of these bays are alike.
+    alike: bool,
     /// How many bays of each shape were answered; one that is read wrongly stands out.
     shapes: BTreeMap<String, usize>,
 }
@@ -110,6 +112,7 @@ impl Summary {
             Status::Yes => self.impossible += 1,
             _ => self.no_proof += 1,
         }
+        self.alike |= answered.bay.alike().is_some();
         *self.shapes.entry(answered.bay.shape()).or_default() += 1;
     }
 
@@ -127,6 +130,9 @@ impl Summary {
         );
         if self.no_proof > 0 {
             words.push_str("Without a parity proof does not mean that the order can be done.\n");
+        }
+        if self.alike {
+            words.push_str(&format!("{}.\n", answer::ALIKE));
         }
         if !self.shapes.is_empty() {
             let shapes = self

@@ -16,8 +16,9 @@ pub const COMMAND: Command = Command {
     summary: "build a task file from a bay file or a partial file",
     about: "\
 Reads a bay file (the binary one: rows, columns, start labels, goal labels) and
-builds its task; or, with --partial, a partial file. Without -o it only says how
-long the task file would be. For a bay as plain text use ask --task.",
+builds its task; or, with --partial, a partial file. Pallets of one label are
+alike. Without -o it only says how long the task file would be. For a bay as
+plain text use ask --task.",
     options: &[&OUTPUT, &PARTIAL, &LEAN, &JSON],
     statuses: &["built"],
     run,

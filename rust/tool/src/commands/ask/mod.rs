@@ -30,6 +30,15 @@ its line and column. A swapped pair of pallets, for example:
     2 1
     3 .
 
+Pallets of one label are alike: a label may stand more than once, equally often
+in both bays, and it does not matter which of these pallets is where. Labels may
+be letters as well, one letter each. In the files they are 1, 2 and so on, in the
+order in which they first stand in the bay. Apples and pears in one row:
+
+    A A P .
+
+    P A A .
+
 Draws both bays and says one of two things. IMPOSSIBLE: no sequence of moves
 leads from the one to the other, and a checker that is proved correct accepted
 the proof. NO PARITY PROOF: no such proof exists. This does not mean that the

@@ -64,22 +64,13 @@ fn all_of_one_kind(lines: &Lines, start: &[Label], goal: &[Label]) -> Result<(),
 }
 
 fn told_apart(lines: &Lines, start: &[Label], goal: &[Label]) -> Result<(), Fault> {
-    // The first label of each writing; there are only so many letters.
+    // A number other than 0 looks like no letter that may stand beside it.
+    let may_look_alike = |label: &&Label| letter(label).is_some() || label.written == "0";
+    // The first label of each writing.
     let mut seen: Vec<&Label> = Vec::new();
-    for label in start.iter().chain(goal) {
-        if let Some(other) = seen
-            .iter()
-            .find(|other| look_alike(&other.written, &label.written))
-        {
-            let found = format!(
-                "{}, which looks like {} in line {}, column {}",
-                quoted(&label.written),
-                quoted(&other.written),
-                other.place.line,
-                other.place.column
-            );
-            let expected = "labels that nobody takes for each other";
-            return Err(label.place.fault(lines, expected, &found));
+    for label in start.iter().chain(goal).filter(may_look_alike) {
+        if let Some(other) = seen.iter().find(|other| look_alike(other, label)) {
+            return Err(taken_for(lines, label, other));
         }
         if !seen.iter().any(|other| other.written == label.written) {
             seen.push(label);
@@ -89,9 +80,22 @@ fn told_apart(lines: &Lines, start: &[Label], goal: &[Label]) -> Result<(), Faul
 }
 
 // Whether two labels are written differently, but only a careful eye tells them apart.
-fn look_alike(one: &str, two: &str) -> bool {
-    let alike = |one, two| LOOK_ALIKE.contains(&(one, two));
-    one != two && (one.eq_ignore_ascii_case(two) || alike(one, two) || alike(two, one))
+fn look_alike(one: &Label, two: &Label) -> bool {
+    let (one, two) = (&*one.written, &*two.written);
+    let listed = |one, two| LOOK_ALIKE.contains(&(one, two));
+    one != two && (one.eq_ignore_ascii_case(two) || listed(one, two) || listed(two, one))
+}
+
+fn taken_for(lines: &Lines, label: &Label, other: &Label) -> Fault {
+    let found = format!(
+        "{}, which looks like {} in line {}, column {}",
+        quoted(&label.written),
+        quoted(&other.written),
+        other.place.line,
+        other.place.column
+    );
+    let expected = "labels that nobody takes for each other";
+    label.place.fault(lines, expected, &found)
 }
 
 // A letter that does not stand in the bay has no number, and no pallet comes.

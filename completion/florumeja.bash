@@ -7,7 +7,7 @@ _florumeja_files() {
 
 _florumeja() {
     local word=${COMP_WORDS[COMP_CWORD]} before=${COMP_WORDS[COMP_CWORD - 1]}
-    local commands='ask report find check build silence open' options
+    local commands='ask report find check build silence mend open' options
     COMPREPLY=()
 
     # The script of a checkout installs as well.
@@ -23,8 +23,8 @@ _florumeja() {
         _florumeja_files "$word"
         return
         ;;
-    # Nobody but the one who asks knows the marks.
-    --marks) return ;;
+    # Nobody but the one who asks knows the marks, or the shape.
+    --marks | --bay) return ;;
     esac
     case ${COMP_WORDS[1]} in
     ask) options='--weights --task --json --help' ;;
@@ -32,6 +32,7 @@ _florumeja() {
     find | build | open) options='--output --partial --lean --json --help' ;;
     check) options='--partial --lean --json --help' ;;
     silence) options='--marks --output --json --help' ;;
+    mend) options='--bay --output --json --help' ;;
     install)
         _florumeja_files "$word"
         return

@@ -22,12 +22,14 @@
  * Each call answers one number, case * 2^32 + value; take it apart by florumeja_case and florumeja_value:
  *
  *   case                      value                             given by
- *   0 FLORUMEJA_DONE          0                                 check, check_partial: accepted; find: separated; an edit: done
+ *   0 FLORUMEJA_DONE          0                                 check, check_partial: accepted; find: separated; an edit: done; pair_fault: good
  *                             words due                         open, open_partial
- *                             bytes written                     build, line, weight_file, check_line, build_partial, build_partial_lean, silence
+ *                             bytes written                     build, line, weight_file, check_line, build_partial, build_partial_lean, silence, mend, dropped
  *   1 FLORUMEJA_ENDS_ALIKE    0                                 check, check_partial: rejected, the parities of start and goal are equal
  *   1 FLORUMEJA_NONE          0                                 find: no weights separate; this is no refusal
+ *   1 FLORUMEJA_HELD_PAIR     0                                 pair_fault: the start holds a listed pair
  *   2 FLORUMEJA_OPERATOR      the operator's number, from 0     check, check_partial: rejected, this operator is the first that breaks parity
+ *   2 FLORUMEJA_UNCLOSED_PAIR 0                                 pair_fault: the pairs aren't closed under an operator
  *   3 FLORUMEJA_REFUSED       a refusal's number, see below     every call
  *
  * A refused call leaves all lent memory as it came. Otherwise what is due goes to the front of the lent memory and the rest stays.
@@ -49,7 +51,9 @@ enum {
     FLORUMEJA_DONE = 0,
     FLORUMEJA_ENDS_ALIKE = 1,
     FLORUMEJA_NONE = 1,
+    FLORUMEJA_HELD_PAIR = 1,
     FLORUMEJA_OPERATOR = 2,
+    FLORUMEJA_UNCLOSED_PAIR = 2,
     FLORUMEJA_REFUSED = 3
 };
 
@@ -88,6 +92,9 @@ static inline uint32_t florumeja_value(uint64_t answer) { return (uint32_t)(answ
  * value takes the place of each silent variable's mark. A partial file has a mark more for each variable. */
 #define FLORUMEJA_BUILT_MORE 624
 #define FLORUMEJA_SILENCED_MORE 64
+
+/* Room for a pair and for an operator's number. */
+#define FLORUMEJA_FAULT_WORDS 2
 
 /* Checks weights against a task: a task file and a weight file. */
 uint64_t florumeja_check(const uint8_t *task, size_t task_length, const uint8_t *weights, size_t weights_length);
@@ -149,6 +156,24 @@ uint64_t florumeja_build_partial_lean(const uint8_t *partial, size_t partial_len
 /* Writes the partial file of a task file and a mark for each variable, one byte each: the task with only the goal values whose mark is 1. The task is
  * judged wholly, then the marks (3: not as many as variables, or above 1), then the partial file's limits (2), then the room. */
 uint64_t florumeja_silence(const uint8_t *task, size_t task_length, const uint8_t *marks, size_t marks_length, uint8_t *room, size_t room_length);
+
+/* Pair lists made by hand. A list is good if the start holds none of its pairs and it is closed under every operator; other calls refuse a task with
+ * another list by 6 or 7. These three take every list: they judge 1 to 5 and then 8, and give neither 6 nor 7. Any list has a largest good part, which
+ * holds every other good part of it. */
+
+/* Writes a task file with only the largest good part of its pair list; all else is as it came. A good list comes back byte for byte, and a mended file
+ * is never longer than the task, so a room of the task's length is never too small. */
+uint64_t florumeja_mend(const uint8_t *task, size_t task_length, uint8_t *room, size_t room_length);
+
+/* Writes which pairs florumeja_mend drops: their count and their features, increasing, as a weight file has them. They are some of the task's, so here
+ * too a room of the task's length is never too small, and FLORUMEJA_WEIGHT_BYTES are always enough. */
+uint64_t florumeja_dropped(const uint8_t *task, size_t task_length, uint8_t *room, size_t room_length);
+
+/* Says why a task's pair list isn't good. FLORUMEJA_HELD_PAIR: the first word is the least listed pair that the start holds. FLORUMEJA_UNCLOSED_PAIR: the
+ * second word is the number, from 0, of the first operator under which the list isn't closed, and the first word is the least listed pair that is
+ * unclosed under it. FLORUMEJA_DONE: the list is good. Words that aren't named here stay. Less than two words are refused 8, whatever the list is. No
+ * good part of the list has the pair that is named. */
+uint64_t florumeja_pair_fault(const uint8_t *task, size_t task_length, uint64_t *room, size_t room_length);
 
 #ifdef __cplusplus
 }

@@ -25,12 +25,14 @@ static int refused(uint64_t answer, uint32_t number) { return is(answer, FLORUME
 #define SAME(a, b) (memcmp((a), (b), sizeof(b)) == 0)
 #define COUNT(a) (sizeof(a) / sizeof((a)[0]))
 
-/* Tasks of document 01: A, B, D, G, H. */
+/* Tasks of document 01: A, B, D, G, H, I, L. */
 static const uint8_t task_a[] = {2, 2, 2, 0, 0, 0, 1, 0, 0};
 static const uint8_t task_b[] = {2, 2, 2, 0, 0, 0, 1, 0, 4, 2, 0, 0, 1, 1, 0, 1, 2, 0, 0, 1, 1, 1, 0, 2, 0, 1, 0, 1, 1, 0, 2, 0, 1, 0, 1, 0, 1};
 static const uint8_t task_d[] = {2, 2, 2, 0, 0, 1, 0, 0, 1, 1, 0, 0, 1};
 static const uint8_t task_g[] = {2, 2, 2, 0, 0, 1, 0, 1, 7, 1, 1, 0, 0, 1};
 static const uint8_t task_h[] = {2, 2, 2, 1, 1, 0, 0, 1, 7, 0};
+static const uint8_t task_i[] = {2, 2, 2, 0, 0, 1, 1, 1, 7, 1, 2, 0, 0, 1, 1, 0, 0};
+static const uint8_t task_l[] = {2, 2, 2, 1, 0, 0, 0, 2, 4, 5, 1, 1, 0, 0, 1};
 
 /* B's workspace, with two words of room behind it that stay. */
 static const uint64_t words_b[] = {2, 2, 2, 0, 0, 0, 1, 0, 111, 0, 0, 0, 240, 0, 0, 0, 9, 9};
@@ -209,6 +211,71 @@ static void silences(void) {
     expect(refused(florumeja_open_partial(room, 20, words, 1), FLORUMEJA_UNCLOSED), "which is not idle in the built task: refused 7");
 }
 
+/* Pairs 5 and 7 are 01 and 11. Operator 0 takes variable 0 from 1 to 0, and spares 01 as long as 11 is listed; operator 1 needs 10 and leads to 11. So 7 goes
+ * because of operator 1, and then 5 because of operator 0. */
+static const uint8_t chain[] = {2, 2, 2, 0, 0, 0, 1, 2, 5, 7, 2, 1, 0, 1, 0, 2, 0, 1, 1, 1, 0, 1};
+static const uint8_t shorter[] = {2, 2, 2, 0, 0, 0, 1, 1, 5, 2, 1, 0, 1, 0, 2, 0, 1, 1, 1, 0, 1};
+static const uint8_t unpaired[] = {2, 2, 2, 0, 0, 0, 1, 0, 2, 1, 0, 1, 0, 2, 0, 1, 1, 1, 0, 1, 7};
+
+/* The start of `holding` is 00: it holds pair 4, and without that the operator, from 00 to 11, is no longer idle and breaks 7. Pair 6 is 10 and stays. */
+static const uint8_t holding[] = {2, 2, 2, 0, 0, 0, 1, 3, 4, 6, 7, 1, 2, 0, 0, 1, 1, 0, 1};
+static const uint8_t freed[] = {2, 2, 2, 0, 0, 0, 1, 1, 6, 1, 2, 0, 0, 1, 1, 0, 1, 7};
+
+static void mends(void) {
+    static const uint8_t mended_d[] = {2, 2, 2, 0, 0, 1, 0, 0, 1, 1, 0, 0, 1, 7}, mended_h[] = {2, 2, 2, 1, 1, 0, 0, 0, 0, 7};
+    const uint8_t sevens[] = {7, 7, 7, 7, 7, 7, 7, 7}, zero[] = {0}, sized[] = {1, 65}, twice[] = {2, 2, 2, 0, 0, 0, 1, 2, 5, 5, 0}, low[] = {2, 2, 2, 0, 0, 0, 1, 1, 3, 0};
+    uint8_t room[32];
+    memset(room, 7, sizeof room);
+    expect(refused(florumeja_mend(task_g, sizeof task_g, room, 12), FLORUMEJA_SMALL) && SAME(room, sevens), "12 bytes are too few for the mended G");
+    expect(is(florumeja_mend(task_g, sizeof task_g, room, sizeof room), FLORUMEJA_DONE, 13) && SAME(room, mended_d), "G mended is D");
+    memset(room, 7, sizeof room);
+    expect(is(florumeja_mend(task_h, sizeof task_h, room, 9), FLORUMEJA_DONE, 9) && SAME(room, mended_h), "H mended, in as many bytes as are due");
+    memset(room, 7, sizeof room);
+    expect(is(florumeja_mend(task_i, sizeof task_i, room, sizeof task_i), FLORUMEJA_DONE, 17) && SAME(room, task_i) && room[17] == 7, "I comes back");
+    expect(is(florumeja_mend(task_l, sizeof task_l, room, sizeof room), FLORUMEJA_DONE, 15) && SAME(room, task_l), "L comes back");
+    memset(room, 7, sizeof room);
+    expect(is(florumeja_mend(chain, sizeof chain, room, sizeof room), FLORUMEJA_DONE, 20) && SAME(room, unpaired), "a pair goes, and then another");
+    memset(room, 7, sizeof room);
+    expect(is(florumeja_mend(holding, sizeof holding, room, sizeof room), FLORUMEJA_DONE, 17) && SAME(room, freed), "an operator is idle no more");
+    memset(room, 7, sizeof room);
+    expect(refused(florumeja_mend(task_g, 0, room, sizeof room), FLORUMEJA_BAD_NUMBER), "no task to mend: refused 1");
+    expect(refused(florumeja_mend(sized, sizeof sized, room, sizeof room), FLORUMEJA_LIMIT), "a size of 65: refused 2");
+    expect(refused(florumeja_mend(low, sizeof low, room, sizeof room), FLORUMEJA_RANGE), "an atom in the pair list: refused 3");
+    expect(refused(florumeja_mend(twice, sizeof twice, room, 0), FLORUMEJA_UNORDERED), "a pair twice: refused 4 before 8");
+    expect(refused(florumeja_mend(mended_d, sizeof mended_d, room, sizeof room), FLORUMEJA_LEFT_OVER) && SAME(room, sevens), "a byte left over: refused 5");
+    expect(refused(florumeja_mend(zero, sizeof zero, room, 0), FLORUMEJA_LIMIT), "no variable and no room: refused 2 before 8");
+}
+
+static void drops(void) {
+    const uint8_t sevens[] = {7, 7, 7, 7}, seventh[] = {1, 7, 7}, none[] = {0, 7}, both[] = {2, 5, 7, 7}, apart[] = {2, 4, 7, 7};
+    uint8_t room[4];
+    memset(room, 7, sizeof room);
+    expect(refused(florumeja_dropped(task_g, sizeof task_g, room, 1), FLORUMEJA_SMALL) && SAME(room, sevens), "a byte is too few for what G drops");
+    expect(is(florumeja_dropped(task_g, sizeof task_g, room, 2), FLORUMEJA_DONE, 2) && SAME(room, seventh), "G drops 7");
+    expect(is(florumeja_dropped(chain, sizeof chain, room, sizeof room), FLORUMEJA_DONE, 3) && SAME(room, both), "5 and 7, increasing, though 7 goes first");
+    expect(is(florumeja_dropped(holding, sizeof holding, room, sizeof room), FLORUMEJA_DONE, 3) && SAME(room, apart), "4 and 7, and 6 stays");
+    memset(room, 7, sizeof room);
+    expect(is(florumeja_dropped(task_i, sizeof task_i, room, 1), FLORUMEJA_DONE, 1) && SAME(room, none), "I drops nothing");
+    expect(refused(florumeja_dropped(task_i, sizeof task_i, room, 0), FLORUMEJA_SMALL), "nothing takes a byte too");
+    expect(refused(florumeja_dropped(task_g, sizeof task_g - 1, room, 0), FLORUMEJA_BAD_NUMBER) && SAME(room, none), "a byte short: refused 1 before 8");
+}
+
+static void pair_faults(void) {
+    uint64_t room[3] = {9, 9, 9};
+    const uint64_t nines[] = {9, 9, 9}, held_h[] = {7, 9, 9}, unclosed_g[] = {7, 0, 9}, first[] = {7, 1, 9}, second[] = {5, 0, 9}, least[] = {4, 0, 9};
+    expect(is(florumeja_pair_fault(task_i, sizeof task_i, room, FLORUMEJA_FAULT_WORDS), FLORUMEJA_DONE, 0) && SAME(room, nines), "I's list is good");
+    expect(is(florumeja_pair_fault(task_l, sizeof task_l, room, 3), FLORUMEJA_DONE, 0) && SAME(room, nines), "L's list is good, as lift is idle");
+    expect(refused(florumeja_pair_fault(task_g, sizeof task_g, room, 1), FLORUMEJA_SMALL) && SAME(room, nines), "a word is too few");
+    expect(refused(florumeja_pair_fault(task_i, sizeof task_i, room, 0), FLORUMEJA_SMALL) && SAME(room, nines), "even for a good list");
+    expect(refused(florumeja_pair_fault(task_g, sizeof task_g - 1, room, 0), FLORUMEJA_BAD_NUMBER) && SAME(room, nines), "a byte short: refused 1, not 8");
+    expect(is(florumeja_pair_fault(task_h, sizeof task_h, room, 3), FLORUMEJA_HELD_PAIR, 0) && SAME(room, held_h), "H: the start holds 7, and the second word stays");
+    expect(is(florumeja_pair_fault(task_g, sizeof task_g, room, 3), FLORUMEJA_UNCLOSED_PAIR, 0) && SAME(room, unclosed_g), "G: 7 and operator 0");
+    expect(is(florumeja_pair_fault(chain, sizeof chain, room, 2), FLORUMEJA_UNCLOSED_PAIR, 0) && SAME(room, first), "7 and operator 1");
+    expect(is(florumeja_pair_fault(shorter, sizeof shorter, room, 2), FLORUMEJA_UNCLOSED_PAIR, 0) && SAME(room, second), "without 7, 5 and operator 0");
+    expect(is(florumeja_pair_fault(holding, sizeof holding, room, 3), FLORUMEJA_HELD_PAIR, 0) && SAME(room, least), "the start holds 4");
+    expect(is(florumeja_pair_fault(unpaired, sizeof unpaired - 1, room, 3), FLORUMEJA_DONE, 0) && SAME(room, least), "what is mended is good");
+}
+
 /* As many operators as a file can count, 16,383: the last one alone, lift, breaks {0}, and its line is the longest. The others set variable 1 from
  * 0 to 0. */
 static void longest_check_line(void) {
@@ -235,6 +302,9 @@ int main(void) {
     partial_workspaces();
     partial_checks();
     silences();
+    mends();
+    drops();
+    pair_faults();
     printf("%d passed, %d failed\n", passed, failed);
     return failed != 0;
 }

@@ -36,6 +36,18 @@ extern "C" {
         room: *mut u64,
         room_length: usize,
     ) -> u64;
+    fn florumeja_mend(
+        task: *const u8,
+        task_length: usize,
+        room: *mut u8,
+        room_length: usize,
+    ) -> u64;
+    fn florumeja_pair_fault(
+        task: *const u8,
+        task_length: usize,
+        room: *mut u64,
+        room_length: usize,
+    ) -> u64;
 }
 
 pub fn open(task: &[u8], room: &mut [u64]) -> u64 {
@@ -96,4 +108,14 @@ pub fn open_partial(partial: &[u8], room: &mut [u64]) -> u64 {
             room.len(),
         )
     }
+}
+
+pub fn mend(task: &[u8], room: &mut [u8]) -> u64 {
+    // SAFETY: both slices are alive and apart; only the room is lent for writing.
+    unsafe { florumeja_mend(task.as_ptr(), task.len(), room.as_mut_ptr(), room.len()) }
+}
+
+pub fn pair_fault(task: &[u8], room: &mut [u64]) -> u64 {
+    // SAFETY: both slices are alive and apart; only the room is lent for writing.
+    unsafe { florumeja_pair_fault(task.as_ptr(), task.len(), room.as_mut_ptr(), room.len()) }
 }

@@ -1,4 +1,5 @@
-//! Measures opening and finding: the proved library beside plain Rust of the same algorithm in two variants, and libm4ri on the same rows.
+//! Measures opening and finding: the proved library beside plain Rust of the same algorithm in two variants, and libm4ri on the same rows. Below that
+//! opening an order that names some slots, and mending pair lists.
 
 mod answer;
 mod calls;
@@ -8,6 +9,7 @@ mod library;
 #[cfg_attr(not(feature = "m4ri"), path = "no_m4ri.rs")]
 mod m4ri;
 mod measure;
+mod mending;
 mod orders;
 mod plain;
 mod table;
@@ -100,9 +102,11 @@ fn run(wanted: &str) -> Result<(), String> {
         }
     }
     let order = orders::measure(wanted)?;
+    let mended = mending::measure(wanted)?;
     table::print(&lines);
     if let Some(order) = &order {
         orders::print(order);
     }
+    mending::print(&mended);
     Ok(())
 }

@@ -61,6 +61,13 @@ pub fn timed<A>(repeats: u32, mut call: impl FnMut() -> A) -> Duration {
     clock::now() - begun
 }
 
+/// What a call answers and how many seconds it takes, for one that takes so long that once is enough.
+pub fn once<A>(call: impl FnOnce() -> A) -> (A, f64) {
+    let begun = clock::now();
+    let answer = call();
+    (answer, (clock::now() - begun).as_secs_f64())
+}
+
 /// How long so many calls take after one that is not counted, so that each turn finds its own words in the caches.
 pub fn timed_warm<A>(repeats: u32, mut call: impl FnMut() -> A) -> Duration {
     call();

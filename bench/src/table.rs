@@ -84,8 +84,10 @@ fn size(checked: &Checked) -> String {
 pub fn shown(seconds: f64) -> String {
     if seconds < 1e-3 {
         format!("{:.1} µs", seconds * 1e6)
-    } else {
+    } else if seconds < 1.0 {
         format!("{:.2} ms", seconds * 1e3)
+    } else {
+        format!("{seconds:.2} s")
     }
 }
 

@@ -1,5 +1,13 @@
-//! For tests/tool: a library whose finder finds what its own checker rejects. The tool must not
-//! say IMPOSSIBLE over it.
+//! For tests/tool: a library whose finder finds what its own checker rejects, and whose calls on pair
+//! lists do not fit together. The tool must not say IMPOSSIBLE over it, nor that a list is mended.
+
+mod lying_pairs;
+
+use lying_pairs::{lie, NO_LIE};
+
+const REFUSED: u64 = 3 << 32;
+/// An answer outside the table of answers.
+const UNKNOWN: u64 = 9 << 32;
 
 /// A workspace of two variables with two values each, from 01 to 10.
 const WORKSPACE: [u64; 16] = [2, 2, 2, 0, 1, 1, 0, 0, 0, 0, 0, 0, 0, 0, 0, 0];
@@ -13,17 +21,23 @@ pub extern "C" fn florumeja_check(_: *const u8, _: usize, _: *const u8, _: usize
 /// The same with a goal that is its start.
 const ALIKE: [u64; 16] = [2, 2, 2, 0, 1, 0, 1, 0, 0, 0, 0, 0, 0, 0, 0, 0];
 
-/// Opens every task of no bytes as one workspace, and all others as another.
+/// Opens every task of no bytes as one workspace, and all others as another; a task that asks for a
+/// lie about its pairs is refused 7, and 6 where there is no lie.
 ///
 /// # Safety
-/// The room has to be writable, for as many words as its length says.
+/// The task has to be readable and the room writable, for as many elements as their lengths say.
 #[no_mangle]
 pub unsafe extern "C" fn florumeja_open(
-    _: *const u8,
+    task: *const u8,
     task_length: usize,
     room: *mut u64,
     length: usize,
 ) -> u64 {
+    match lie(task, task_length) {
+        Some(NO_LIE) => return REFUSED | 6,
+        Some(_) => return REFUSED | 7,
+        None => {}
+    }
     let words = match task_length {
         0 => WORKSPACE,
         _ => ALIKE,
@@ -101,7 +115,7 @@ pub unsafe extern "C" fn florumeja_build(
     _: usize,
 ) -> u64 {
     match length > 0 && bay.read() == 3 {
-        true => 9 << 32,
+        true => UNKNOWN,
         false => 0,
     }
 }
@@ -121,7 +135,7 @@ pub unsafe extern "C" fn florumeja_silence(
 ) -> u64 {
     let marks = std::slice::from_raw_parts(marks, count);
     match marks.first() {
-        Some(0) => 3 << 32 | 2,
+        Some(0) => REFUSED | 2,
         _ => write(marks, room, length),
     }
 }
@@ -139,7 +153,7 @@ pub unsafe extern "C" fn florumeja_build_partial_lean(
     length: usize,
 ) -> u64 {
     match std::slice::from_raw_parts(partial, count) {
-        [_, 0, ..] => 3 << 32 | 7,
+        [_, 0, ..] => REFUSED | 7,
         [_, _, 0, ..] => 0,
         _ => write(b"\0", room, length),
     }
@@ -148,17 +162,17 @@ pub unsafe extern "C" fn florumeja_build_partial_lean(
 /// An answer outside the table of answers.
 #[no_mangle]
 pub extern "C" fn florumeja_build_partial(_: *const u8, _: usize, _: *mut u8, _: usize) -> u64 {
-    9 << 32
+    UNKNOWN
 }
 
 /// The same.
 #[no_mangle]
 pub extern "C" fn florumeja_open_partial(_: *const u8, _: usize, _: *mut u64, _: usize) -> u64 {
-    9 << 32
+    UNKNOWN
 }
 
 /// The same.
 #[no_mangle]
 pub extern "C" fn florumeja_check_partial(_: *const u8, _: usize, _: *const u8, _: usize) -> u64 {
-    9 << 32
+    UNKNOWN
 }

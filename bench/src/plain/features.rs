@@ -33,6 +33,16 @@ pub struct Block {
     pub end: usize,
 }
 
+impl Block {
+    /// Stands before all blocks and is empty.
+    pub const BEFORE_ALL: Block = Block {
+        low: 0,
+        high: 0,
+        start: 0,
+        end: 0,
+    };
+}
+
 /// The sizes of the variables, with a way to the numbers of their features.
 pub struct Features<N> {
     sizes: Vec<usize>,

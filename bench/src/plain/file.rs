@@ -1,4 +1,4 @@
-//! The numbers of a file, read from the first byte on, and the reasons for a refusal.
+//! The numbers of a file, read from the first byte on or written one after the other, and the reasons for a refusal.
 
 use std::ops::Range;
 
@@ -18,13 +18,19 @@ pub enum Refusal {
 
 const GROUP: usize = 128;
 
+#[derive(Clone, Copy)]
 pub struct Reader<'a> {
     bytes: &'a [u8],
 }
 
-impl Reader<'_> {
-    pub fn new(bytes: &[u8]) -> Reader<'_> {
+impl<'a> Reader<'a> {
+    pub fn new(bytes: &'a [u8]) -> Reader<'a> {
         Reader { bytes }
+    }
+
+    /// What is not read yet.
+    pub fn rest(&self) -> &'a [u8] {
+        self.bytes
     }
 
     fn byte(&mut self) -> Result<usize, Refusal> {
@@ -71,5 +77,27 @@ impl Reader<'_> {
         } else {
             Err(Refusal::LeftOver)
         }
+    }
+}
+
+/// Writes a list: its count and its numbers.
+pub fn write_list(file: &mut Vec<u8>, numbers: &[usize]) {
+    write_number(file, numbers.len());
+    write_numbers(file, numbers);
+}
+
+pub fn write_numbers(file: &mut Vec<u8>, numbers: &[usize]) {
+    for &number in numbers {
+        write_number(file, number);
+    }
+}
+
+pub fn write_number(file: &mut Vec<u8>, number: usize) {
+    assert!(number < GROUP * GROUP, "{number} has more than two groups");
+    if number < GROUP {
+        file.push(number as u8);
+    } else {
+        file.push((GROUP + number % GROUP) as u8);
+        file.push((number / GROUP) as u8);
     }
 }

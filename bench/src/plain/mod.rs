@@ -2,6 +2,7 @@
 
 mod features;
 mod file;
+mod mending;
 mod numbering;
 mod pairs;
 mod rows;
@@ -10,7 +11,8 @@ mod slots;
 mod task;
 mod workspace;
 
-pub use file::Refusal;
+pub use file::{write_list, write_number, write_numbers, Refusal};
+pub use mending::{mend, Mended};
 pub use numbering::{Anew, Numbering, Tables};
 pub use set::WORD_BITS;
 pub use task::Task;

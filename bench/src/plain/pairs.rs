@@ -5,6 +5,12 @@ use super::numbering::Numbering;
 use super::set;
 use super::task::{Entry, Operator};
 
+/// A listed pair with its atoms.
+pub struct Pair {
+    pub feature: usize,
+    pub atoms: [Atom; 2],
+}
+
 pub struct Pairs<'a, N> {
     features: &'a Features<N>,
     listed: &'a [u64],
@@ -70,37 +76,43 @@ impl<'a, N: Numbering> Pairs<'a, N> {
         }
     }
 
-    fn is_unclosed(
+    /// A listed pair of a block, if it is unclosed under an operator that is not idle.
+    fn unclosed_in(
         &self,
         operator: &Operator,
         possible: &[u64],
         block: &Block,
-        pair: usize,
-    ) -> bool {
-        (operator.names(block.low) || operator.names(block.high))
-            && self
-                .features
-                .atoms_in(block, pair)
-                .into_iter()
-                .all(|atom| self.is_left(operator, possible, atom))
+        feature: usize,
+    ) -> Option<Pair> {
+        if !operator.names(block.low) && !operator.names(block.high) {
+            return None;
+        }
+        let atoms = self.features.atoms_in(block, feature);
+        let is_unclosed = atoms
+            .into_iter()
+            .all(|atom| self.is_left(operator, possible, atom));
+        is_unclosed.then_some(Pair { feature, atoms })
     }
 
-    /// A walk over the listed pairs, to the first that is unclosed.
-    pub fn are_closed_under(&self, operator: &Operator) -> bool {
-        let possible = self.possible(operator);
-        if self.is_idle(operator, &possible) {
-            return true;
-        }
+    /// A walk over the listed pairs, for those that are unclosed under an operator that is not idle.
+    pub fn unclosed<'b>(
+        &'b self,
+        operator: &'b Operator,
+        possible: &'b [u64],
+    ) -> impl Iterator<Item = Pair> + 'b {
         let mut blocks = self.features.blocks();
-        let Some(mut block) = blocks.next() else {
-            return true;
-        };
-        set::members(self.listed).all(|pair| {
-            while block.end <= pair {
+        let mut block = Block::BEFORE_ALL;
+        set::members(self.listed).filter_map(move |feature| {
+            while block.end <= feature {
                 block = blocks.next().expect("each pair stands in a block");
             }
-            !self.is_unclosed(operator, &possible, &block, pair)
+            self.unclosed_in(operator, possible, &block, feature)
         })
+    }
+
+    pub fn are_closed_under(&self, operator: &Operator) -> bool {
+        let possible = self.possible(operator);
+        self.is_idle(operator, &possible) || self.unclosed(operator, &possible).next().is_none()
     }
 
     pub fn are_held_by(&self, state: &[usize]) -> bool {

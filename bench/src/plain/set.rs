@@ -10,6 +10,10 @@ pub fn toggle(words: &mut [u64], feature: usize) {
     words[feature / WORD_BITS] ^= 1 << (feature % WORD_BITS);
 }
 
+pub fn include(words: &mut [u64], feature: usize) {
+    words[feature / WORD_BITS] |= 1 << (feature % WORD_BITS);
+}
+
 /// Adds a set to another: what exactly one of the two has.
 pub fn add(into: &mut [u64], from: &[u64]) {
     for (word, other) in into.iter_mut().zip(from) {

@@ -54,14 +54,39 @@ pub struct Task<N> {
     pub operators: Vec<Operator>,
 }
 
+/// What stands before the operators of a task file.
+pub struct Front<N> {
+    pub features: Features<N>,
+    pub start: Vec<usize>,
+    pub goal: Vec<usize>,
+    pub listed: Vec<u64>,
+}
+
+impl<N: Numbering> Front<N> {
+    pub fn read(reader: &mut Reader) -> Result<Front<N>, Refusal> {
+        let features = read_features(reader)?;
+        let start = read_state(reader, &features)?;
+        let goal = read_state(reader, &features)?;
+        let listed = read_listed(reader, &features)?;
+        Ok(Front {
+            features,
+            start,
+            goal,
+            listed,
+        })
+    }
+}
+
 impl<N: Numbering> Task<N> {
     /// Reads a task file and judges it: refusals 1 to 7.
     pub fn read(bytes: &[u8]) -> Result<Task<N>, Refusal> {
         let mut reader = Reader::new(bytes);
-        let features = read_features(&mut reader)?;
-        let start = read_state(&mut reader, &features)?;
-        let goal = read_state(&mut reader, &features)?;
-        let listed = read_listed(&mut reader, &features)?;
+        let Front {
+            features,
+            start,
+            goal,
+            listed,
+        } = Front::read(&mut reader)?;
         let operators = read_operators(&mut reader, &features)?;
         reader.end()?;
         let task = Task {
@@ -80,18 +105,21 @@ impl<N: Numbering> Task<N> {
     }
 
     fn judge(&self) -> Result<(), Refusal> {
-        let pairs = self.pairs();
-        if pairs.are_held_by(&self.start) {
+        if self.pairs().are_held_by(&self.start) {
             return Err(Refusal::Held);
         }
-        if !self
-            .operators
-            .iter()
-            .all(|operator| pairs.are_closed_under(operator))
-        {
+        if !self.is_closed() {
             return Err(Refusal::Unclosed);
         }
         Ok(())
+    }
+
+    /// Whether the pairs are closed under every operator: one pass of judging 7.
+    pub fn is_closed(&self) -> bool {
+        let pairs = self.pairs();
+        self.operators
+            .iter()
+            .all(|operator| pairs.are_closed_under(operator))
     }
 }
 
@@ -142,7 +170,7 @@ fn read_operators<N: Numbering>(
         .collect()
 }
 
-fn read_operator<N: Numbering>(
+pub fn read_operator<N: Numbering>(
     reader: &mut Reader,
     features: &Features<N>,
 ) -> Result<Operator, Refusal> {

@@ -1,6 +1,7 @@
 //! The task files that are measured.
 
 pub mod bays;
+pub mod chains;
 mod dense;
 mod random;
 mod write;

@@ -1,6 +1,6 @@
 //! Writes a task file from its parts.
 
-const GROUP: usize = 128;
+use crate::plain::{write_list, write_number, write_numbers};
 
 /// An entry: variable, before, after.
 pub type Entry = (usize, usize, usize);
@@ -32,26 +32,5 @@ fn write_operator(file: &mut Vec<u8>, entries: &[Entry]) {
     write_number(file, entries.len());
     for &(variable, before, after) in entries {
         write_numbers(file, &[variable, before, after]);
-    }
-}
-
-fn write_list(file: &mut Vec<u8>, numbers: &[usize]) {
-    write_number(file, numbers.len());
-    write_numbers(file, numbers);
-}
-
-fn write_numbers(file: &mut Vec<u8>, numbers: &[usize]) {
-    for &number in numbers {
-        write_number(file, number);
-    }
-}
-
-fn write_number(file: &mut Vec<u8>, number: usize) {
-    assert!(number < GROUP * GROUP, "{number} has more than two groups");
-    if number < GROUP {
-        file.push(number as u8);
-    } else {
-        file.push((GROUP + number % GROUP) as u8);
-        file.push((number / GROUP) as u8);
     }
 }

@@ -5,8 +5,9 @@ use mathlib.Core.Bool.{false, cond}
 use native.Mathlib.Omega.{arith}
 use lib.Dec.{eqb}
 use Rattle.meaning.specs.Answer.{Answer, done, refused, Outcome, Verdict, accepted, endsAlike, breaks, none, separated}
+use Rattle.meaning.specs.Mend.{PairFault, noFault, startHolds, operatorBreaks}
 use Rattle.theory.specs.Determined.{AtMostOne}
-use Rattle.codes.specs.Code.{valueEnd, Code, code, numberOf, refusedCase, answerCode, verdictCode, lengthCode, findingCode, editCode, Coded, Left, Leaves, Fits, FitsIn}
+use Rattle.codes.specs.Code.{valueEnd, Code, code, numberOf, refusedCase, answerCode, verdictCode, lengthCode, findingCode, editCode, faultCode, Coded, Left, Leaves, Fits, FitsIn}
 
 -- ---- a number and its code
 
@@ -80,6 +81,18 @@ finding-table = record {
 
 pub edit-table : Table editCode
 edit-table = record { result = λ c. tt; result-back = λ u. refl; no-refusal = λ u. refl }
+
+pub fault-table : Table faultCode
+fault-table = record {
+  result = λ c. faultAt (c .case);
+  result-back = λ f. elim f [ noFault ↦ refl | startHolds ↦ refl | operatorBreaks ↦ refl ];
+  no-refusal = λ f. elim f [ noFault ↦ refl | startHolds ↦ refl | operatorBreaks ↦ refl ];
+}
+  where
+    faultAt : ℕ → PairFault
+    faultAt zero = noFault
+    faultAt (suc zero) = startHolds
+    faultAt (suc (suc k)) = operatorBreaks
 
 -- ---- one number and one memory
 

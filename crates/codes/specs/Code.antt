@@ -3,6 +3,7 @@ use Prim.Native.Nat.{ℕ, _+_, _*_, _^_, _<_}
 use mathlib.Core.Path.{_≡_}
 use mathlib.Core.List.{List}
 use Rattle.meaning.specs.Answer.{Answer, done, refused, Outcome, Verdict, accepted, endsAlike, breaks, Finding, none, separated}
+use Rattle.meaning.specs.Mend.{PairFault, noFault, startHolds, operatorBreaks}
 
 -- Every value is below this number.
 abbrev pub valueEnd : ℕ
@@ -43,6 +44,12 @@ findingCode none = code 1 0
 
 abbrev pub editCode : Unit {0} → Code
 editCode u = code 0 0
+
+-- The pair and the operator's number are in the lent words.
+abbrev pub faultCode : PairFault → Code
+faultCode noFault = code 0 0
+faultCode startHolds = code 1 0
+faultCode operatorBreaks = code 2 0
 
 -- ---- what a call of the face says
 

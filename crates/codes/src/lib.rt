@@ -5,11 +5,13 @@ ghost use Rattle.checking.specs.Answer.{verdictOf};
 ghost use Rattle.opening.specs.Answer.{openedOf};
 ghost use Rattle.finding.specs.Found.{foundOf};
 ghost use Rattle.editing.specs.Answers.{editedOf};
+ghost use Rattle.mending.specs.Answer.{faultOf};
 ghost use Rattle.writer.specs.Answer.{writtenOf};
-ghost use Rattle.codes.specs.Code.{valueEnd, code, numberOf, answerCode, verdictCode, lengthCode, findingCode, editCode, Fits};
+ghost use Rattle.codes.specs.Code.{valueEnd, code, numberOf, answerCode, verdictCode, lengthCode, findingCode, editCode, faultCode, Fits};
 use checking::Verdict;
 use editing::Edited;
 use finding::Found;
+use mending::PairFault;
 use opening::Opened;
 use writer::Written;
 
@@ -68,6 +70,18 @@ pub fn edited_number(edited: Edited) -> u64
     match edited {
         Edited::Done => coded(0, 0),
         Edited::Refused(n) => coded(REFUSED, n),
+    }
+}
+
+pub fn fault_number(fault: PairFault) -> u64
+    requires { ⌜ Fits faultCode (faultOf fault) ⌝ }
+    ensures { λ r. ⌜ r ≡ numberOf (answerCode faultCode (faultOf fault)) ⌝ }
+{
+    match fault {
+        PairFault::Good => coded(0, 0),
+        PairFault::Held => coded(1, 0),
+        PairFault::Unclosed => coded(2, 0),
+        PairFault::Refused(n) => coded(REFUSED, n),
     }
 }
 

@@ -6,14 +6,15 @@ use Rattle.meaning.specs.File.{judgedTask}
 use Rattle.meaning.specs.Answer.{Checks, Opens, Finds, Edit, Edits}
 use Rattle.meaning.specs.Bay.{Builds}
 use Rattle.meaning.specs.Partial.{Partial, judgedPartial, leftOut, OpensPartial, ChecksPartial, BuildsBy, Silences}
-use Rattle.theory.specs.Determined.{AtMostOne, is-only, checks-only, opens-only, finds-only, edits-only, builds-only, builds-by-only, silences-only}
+use Rattle.meaning.specs.Mend.{Mends, Drops, FaultsPairs}
+use Rattle.theory.specs.Determined.{AtMostOne, is-only, checks-only, opens-only, finds-only, edits-only, builds-only, builds-by-only, silences-only, mends-only, drops-only, faults-only}
 use Rattle.line.specs.Answer.{Lines, lines-only}
 use Rattle.words.specs.Members.{membersIn}
 use Rattle.writer.specs.Weights.{weightsWritten, Writes}
 use Rattle.verdicts.specs.Answer.{VerdictLines, verdict-lines-only}
-use Rattle.codes.specs.Code.{verdictCode, lengthCode, findingCode, editCode, Coded, Left, Leaves}
-use Rattle.codes.specs.Back.{answerIn, read-allowed, outcomeIn, outcome-allowed, verdict-table, length-table, finding-table, edit-table, coded-only, leaves-only}
-use Rattle.florumeja.specs.Fits.{checks-fit, checks-partial-fit, opens-fit, opens-partial-fit, finds-fit, edits-fit, builds-fit, builds-partial-fit, silences-fit, lines-fit, verdict-lines-fit, writes-fit}
+use Rattle.codes.specs.Code.{verdictCode, lengthCode, findingCode, editCode, faultCode, Coded, Left, Leaves}
+use Rattle.codes.specs.Back.{answerIn, read-allowed, outcomeIn, outcome-allowed, verdict-table, length-table, finding-table, edit-table, fault-table, coded-only, leaves-only}
+use Rattle.florumeja.specs.Fits.{checks-fit, checks-partial-fit, opens-fit, opens-partial-fit, finds-fit, edits-fit, builds-fit, builds-partial-fit, silences-fit, mends-fit, drops-fit, faults-fit, lines-fit, verdict-lines-fit, writes-fit}
 
 -- ---- the answer that is read in a call's number is the call's answer
 
@@ -45,6 +46,15 @@ build-partial-read out file room = outcome-allowed length-table (BuildsBy out fi
 
 pub silence-read : (task marks room : List ℕ) (left : Left) → Leaves lengthCode (Silences task marks room) left → Silences task marks room (outcomeIn length-table left)
 silence-read task marks room = outcome-allowed length-table (Silences task marks room) (silences-fit task marks room)
+
+pub mend-read : (task room : List ℕ) (left : Left) → Leaves lengthCode (Mends task room) left → Mends task room (outcomeIn length-table left)
+mend-read task room = outcome-allowed length-table (Mends task room) (mends-fit task room)
+
+pub dropped-read : (task room : List ℕ) (left : Left) → Leaves lengthCode (Drops task room) left → Drops task room (outcomeIn length-table left)
+dropped-read task room = outcome-allowed length-table (Drops task room) (drops-fit task room)
+
+pub pair-fault-read : (task room : List ℕ) (left : Left) → Leaves faultCode (FaultsPairs task room) left → FaultsPairs task room (outcomeIn fault-table left)
+pair-fault-read task room = outcome-allowed fault-table (FaultsPairs task room) (faults-fit task room)
 
 pub line-read : (input room : List ℕ) (left : Left) → Leaves lengthCode (Lines input room) left → Lines input room (outcomeIn length-table left)
 line-read input room = outcome-allowed length-table (Lines input room) (lines-fit input room)
@@ -85,6 +95,15 @@ build-partial-only out file room = leaves-only lengthCode (BuildsBy out file roo
 
 pub silence-only : (task marks room : List ℕ) → AtMostOne (Leaves lengthCode (Silences task marks room))
 silence-only task marks room = leaves-only lengthCode (Silences task marks room) (silences-only task marks room)
+
+pub mend-only : (task room : List ℕ) → AtMostOne (Leaves lengthCode (Mends task room))
+mend-only task room = leaves-only lengthCode (Mends task room) (mends-only task room)
+
+pub dropped-only : (task room : List ℕ) → AtMostOne (Leaves lengthCode (Drops task room))
+dropped-only task room = leaves-only lengthCode (Drops task room) (drops-only task room)
+
+pub pair-fault-only : (task room : List ℕ) → AtMostOne (Leaves faultCode (FaultsPairs task room))
+pair-fault-only task room = leaves-only faultCode (FaultsPairs task room) (faults-only task room)
 
 pub line-only : (input room : List ℕ) → AtMostOne (Leaves lengthCode (Lines input room))
 line-only input room = leaves-only lengthCode (Lines input room) (lines-only input room)

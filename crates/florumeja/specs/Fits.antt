@@ -3,23 +3,26 @@ use Prim.Native.Nat.{ℕ, _*_, _<_, _≤_}
 use mathlib.Core.Path.{_≡_, refl}
 use mathlib.Core.Logic.{_⊎_, inl, inr}
 use mathlib.Core.Bool.{Bool}
-use mathlib.Core.List.{List, []}
+use mathlib.Core.List.{List, [], _∷_}
 use native.Mathlib.Omega.{arith}
 use native.Mathlib.Nat.{mul-le-mul}
 use lib.Dec.{ltb}
 use lib.ListN.{length}
-use Rattle.meaning.specs.Limits.{mostFeatures}
+use Rattle.meaning.specs.Limits.{mostFeatures, faultWords}
 use Rattle.meaning.specs.Task.{Task}
-use Rattle.meaning.specs.Feature.{features}
+use Rattle.meaning.specs.Feature.{atoms, features}
 use Rattle.meaning.specs.Number.{Reason, Small, Malformed, refusal, Read, got}
-use Rattle.meaning.specs.File.{judgedTask, taskBytes, weightBytes, InLimits, Writable}
+use Rattle.meaning.specs.File.{taskOf, judgedTask, taskBytes, weightBytes, InLimits, Writable}
 use Rattle.meaning.specs.Workspace.{packed, wordsFor, wordsDue, Content, wordsOf, WellFormed}
 use Rattle.meaning.specs.Answer.{Answer, done, refused, Outcome, refuses, writes, delivered, byRead, Verdict, accepted, endsAlike, breaks, ChecksAs, Checks, OpensAs, Opens}
 use Rattle.meaning.specs.Answer.{Finding, none, separated, FindsIn, FindsBy, Finds, Edit, Judged, fine, faulty, editJudged, EditsIn, Edits}
 use Rattle.meaning.specs.Bay.{judgedBay, bayTask, Builds}
 use Rattle.meaning.specs.Partial.{Partial, judgedPartial, leftOut, partialBytes, OpensPartial, ChecksPartial, BuildsBy, silenced, marksJudged, silencesBy, Silences}
+use Rattle.meaning.specs.Mend.{mended, PairFault, noFault, startHolds, operatorBreaks, FindsFault, FaultsPairs, Mends, Drops}
 use Rattle.meaning.specs.Line.{line, verdictLine}
-use Rattle.theory.specs.Accepted.{accepted as task-accepted}
+use Rattle.theory.specs.Run.{run-length}
+use Rattle.theory.specs.Accepted.{accepted as task-accepted, read-known}
+use Rattle.theory.specs.Mending.{mended-writable}
 use Rattle.theory.specs.BayTask.{bay-accepted}
 use Rattle.theory.specs.PartialFile.{accepted-partial}
 use Rattle.theory.specs.Silence.{marks-ordered}
@@ -31,9 +34,10 @@ use Rattle.text.specs.Parts.{refusal-short}
 use Rattle.verdicts.specs.Answer.{VerdictLines}
 use Rattle.verdicts.specs.Fits.{Short, checks-as-short, checks-short, verdict-few}
 use Rattle.writer.specs.Weights.{weightsJudged, weightsWritten, Writes}
+use Rattle.writer.specs.Widths.{list-few}
 use Rattle.writer.specs.Longest.{task-few, partial-few}
 use Rattle.writer.specs.Judging.{fine-few, weights-refused, weights-delivered}
-use Rattle.codes.specs.Code.{valueEnd, verdictCode, lengthCode, findingCode, editCode, Fits, FitsIn}
+use Rattle.codes.specs.Code.{valueEnd, verdictCode, lengthCode, findingCode, editCode, faultCode, Fits, FitsIn}
 
 refusal-fits : (reason : Reason) → refusal reason < valueEnd
 refusal-fits reason = omega (arith, refusal-short reason)
@@ -145,6 +149,34 @@ silences-fit task marks room =
     by : (T : Task) → Writable T → (judged : Judged) → marksJudged T marks ≡ judged → FitsIn lengthCode (silencesBy judged (silenced T marks) room)
     by T ok (faulty reason) e = refusal-fits reason
     by T ok fine e = delivered-fits (partialBytes (silenced T marks)) room (omega (arith, partial-few (silenced T marks) (marks-ordered T marks (ok .acceptable) e) (ok .countable)))
+
+-- ---- mending: the mended task can be written, and what is dropped is a weight list
+
+pub mends-fit : (task room : List ℕ) (outcome : Outcome ℕ) → Mends task room outcome → FitsIn lengthCode outcome
+mends-fit task room =
+    read-good (FitsIn lengthCode) (taskOf task 0) _ (λ reason. refuses reason room)
+    (λ T next e o h. let writable = mended-writable T (read-known task T next e .1) (h .0) (h .1) in
+    is-good (FitsIn lengthCode) _ (delivered-fits (taskBytes (mended T (h .0))) room (omega (arith, task-few (mended T (h .0)) writable))) o (h .2))
+    refusal-fits
+
+pub drops-fit : (task room : List ℕ) (outcome : Outcome ℕ) → Drops task room outcome → FitsIn lengthCode outcome
+unfolding weightBytes
+drops-fit task room =
+    read-good (FitsIn lengthCode) (taskOf task 0) _ (λ reason. refuses reason room)
+    (λ T next e o h. let few = run-length (atoms (T .sizes)) (features (T .sizes)) (h .1) (h .3 .sublist .increasing) in
+    is-good (FitsIn lengthCode) _ (delivered-fits (weightBytes (h .1)) room (omega (arith, list-few (h .1), few, read-known task T next e .1 .limits .total))) o (h .4))
+    refusal-fits
+
+fault-fits : (T : Task) (room : List ℕ) (outcome : Outcome PairFault) → FindsFault T room outcome → FitsIn faultCode outcome
+fault-fits T room o (inl h) = is-good (FitsIn faultCode) (writes noFault [] room) (omega arith) o (h .1)
+fault-fits T room o (inr (inl h)) = is-good (FitsIn faultCode) (writes startHolds (h .0 ∷ []) room) (omega arith) o (h .2)
+fault-fits T room o (inr (inr h)) = is-good (FitsIn faultCode) (writes operatorBreaks (h .0 ∷ h .1 ∷ []) room) (omega arith) o (h .3)
+
+pub faults-fit : (task room : List ℕ) (outcome : Outcome PairFault) → FaultsPairs task room outcome → FitsIn faultCode outcome
+faults-fit task room =
+    read-good (FitsIn faultCode) (taskOf task 0) _ (λ reason. refuses reason room)
+    (λ T next e. if-good (FitsIn faultCode) (ltb (length room) faultWords) _ _ (is-good (FitsIn faultCode) (refuses Small room) (refusal-fits Small)) (fault-fits T room))
+    refusal-fits
 
 -- ---- the lines: they are short
 

@@ -5,11 +5,12 @@ ghost use Rattle.meaning.specs.Limits.{mostVariables};
 ghost use Rattle.meaning.specs.Answer.{Checks, Opens, Finds, Edits, addOperator, replaceStart, replaceGoal};
 ghost use Rattle.meaning.specs.Bay.{Builds};
 ghost use Rattle.meaning.specs.Partial.{OpensPartial, ChecksPartial, BuildsPartial, BuildsPartialLean, Silences};
+ghost use Rattle.meaning.specs.Mend.{Mends, Drops, FaultsPairs};
 ghost use Rattle.line.specs.Answer.{Lines};
 ghost use Rattle.verdicts.specs.Answer.{VerdictLines};
 ghost use Rattle.words.specs.Members.{membersIn};
 ghost use Rattle.writer.specs.Weights.{Writes};
-ghost use Rattle.codes.specs.Code.{verdictCode, lengthCode, findingCode, editCode, Coded, Leaves};
+ghost use Rattle.codes.specs.Code.{verdictCode, lengthCode, findingCode, editCode, faultCode, Coded, Leaves};
 ghost use Rattle.florumeja.specs.Places.{handed, SamePlaces};
 use limits::MOST_ENTRIES;
 use operator::Operator;
@@ -169,4 +170,28 @@ pub extern "C" fn florumeja_silence(task: &[u8], marks: &[u8], room: &mut [u8]) 
     ensures { λ r. ⌜ Leaves lengthCode (Silences (now (task .entry)) (now (marks .entry)) (now (room .entry))) (record { number = r; lent = now (room .exit) }) ⌝ }
 {
     codes::written_number(silencing::silence(task, marks, room))
+}
+
+// The file of a task with the largest good sublist of its listed pairs.
+#[no_mangle]
+pub extern "C" fn florumeja_mend(task: &[u8], room: &mut [u8]) -> u64
+    ensures { λ r. ⌜ Leaves lengthCode (Mends (now (task .entry)) (now (room .entry))) (record { number = r; lent = now (room .exit) }) ⌝ }
+{
+    codes::written_number(mending::mend(task, room))
+}
+
+// The listed pairs that are dropped for it, with their count.
+#[no_mangle]
+pub extern "C" fn florumeja_dropped(task: &[u8], room: &mut [u8]) -> u64
+    ensures { λ r. ⌜ Leaves lengthCode (Drops (now (task .entry)) (now (room .entry))) (record { number = r; lent = now (room .exit) }) ⌝ }
+{
+    codes::written_number(mending::dropped(task, room))
+}
+
+// The pair behind a refusal 6 or 7, and the operator.
+#[no_mangle]
+pub extern "C" fn florumeja_pair_fault(task: &[u8], room: &mut [u64]) -> u64
+    ensures { λ r. ⌜ Leaves faultCode (FaultsPairs (now (task .entry)) (now (room .entry))) (record { number = r; lent = now (room .exit) }) ⌝ }
+{
+    codes::fault_number(mending::pair_fault(task, room))
 }

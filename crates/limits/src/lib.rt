@@ -37,3 +37,6 @@ pub const SIZES_AT: usize = 1;
 
 // Room for the largest of these headers.
 pub const HEADER_WORDS: usize = SIZES_AT + 3 * MOST_VARIABLES + MOST_WORDS;
+
+// pair_fault: room for a pair and an operator's number, a word each.
+pub const FAULT_WORDS: usize = 2;

@@ -12,9 +12,11 @@ pub mod Workspace
 pub mod Answer
 pub mod Bay
 pub mod Partial
+pub mod Mend
 pub mod Line
 pub mod History
 pub mod Facts
 pub mod FactsOfA
 pub mod LotFacts
 pub mod PartialFacts
+pub mod MendFacts

@@ -69,3 +69,7 @@ mostProgramFeatures = 640
 -- The checker program: a task file of more bytes gives 8.
 abbrev pub mostTask : ℕ
 mostTask = 1048576
+
+-- pair_fault: room for a pair and an operator's number, a word each.
+abbrev pub faultWords : ℕ
+faultWords = 2

@@ -65,3 +65,7 @@ module _ (sizes : List ℕ) (pairs : Set) where
   -- A state holds a listed pair.
   unfoldable pub holds : List ℕ → Bool
   holds state = some (length sizes) (λ j. some j (λ i. paired i (value state i) j (value state j)))
+
+-- A pair is held by a state: it is the feature of two of its atoms.
+unfoldable pub heldPair : List ℕ → List ℕ → ℕ → Bool
+heldPair sizes state f = some (length sizes) (λ j. some j (λ i. eqb f (both sizes i (value state i) j (value state j))))

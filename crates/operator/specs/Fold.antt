@@ -27,7 +27,7 @@ walked step sizes (suc k) bytes at s = changed s (operatorOf sizes bytes at) (λ
 -- ---- all of them, where they were read
 
 module _ (sizes bytes : List ℕ) where
-  operators-apart : (k at : ℕ) (os : List Operator) (next : ℕ) → operatorsOf sizes (suc k) bytes at ≡ got os next
+  pub operators-apart : (k at : ℕ) (os : List Operator) (next : ℕ) → operatorsOf sizes (suc k) bytes at ≡ got os next
       → (o : Operator) × (others : List Operator) × (middle : ℕ) × (os ≡ o ∷ others) × (operatorOf sizes bytes at ≡ got o middle) × (operatorsOf sizes k bytes middle ≡ got others next)
   unfolding operatorsOf
   operators-apart k at os next e =

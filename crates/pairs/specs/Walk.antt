@@ -4,23 +4,23 @@ use mathlib.Core.Path.{_≡_, refl, sym, ap, _∙_}
 use mathlib.Core.Bool.{true, false, not, _&&_, _||_}
 use mathlib.Core.List.{List, List·Memᴰ as In}
 use native.Mathlib.Omega.{arith}
-use lib.Dec.{eqb}
+use lib.Dec.{eqb, leb, ltb}
 use lib.ListN.{length, getD}
+use borrow.Author.Tests.{leb-true, leb-false, ltb-true, ltb-false}
 use Rattle.meaning.specs.Limits.{wordBits}
-use Rattle.meaning.specs.Sets.{some}
 use Rattle.meaning.specs.Task.{Operator, Entries, names, size}
 use Rattle.meaning.specs.Feature.{atoms, features, single}
 use Rattle.meaning.specs.Workspace.{has}
 use Rattle.meaning.specs.Answer.{operatorIn}
 use Rattle.meaning.specs.Pair.{idle, closed, unclosedPair}
-use Rattle.theory.specs.Truth.{less, same, more, order}
-use Rattle.theory.specs.Search.{and-both, and-none-left, and-none-right, or-right, or-neither, some-at, some-not, some-none}
+use Rattle.theory.specs.Truth.{on, off, test, less, same, more, order}
+use Rattle.theory.specs.Search.{and-both, and-none-left, and-none-right, or-right, or-neither, some-at, some-not}
 use Rattle.theory.specs.Flat.{table-in}
 use Rattle.theory.specs.Operators.{names-in, field-at}
 use Rattle.theory.specs.Closed.{listedUnclosed, leaves, unclosed-above, closed-by-pairs, unclosed-at}
 use Rattle.theory.specs.Slices.{entriesIn, entryIn}
 use Rattle.numbering.specs.Order.{Contains, Joins}
-use Rattle.words.specs.Next.{Next}
+use Rattle.words.specs.Next.{Next, Clear}
 use Rattle.pairs.specs.declared.PairAt.{PairAt}
 use Rattle.pairs.specs.Ready.{Listed, Ready, Apart, HoldsPossible, apart-names}
 use Rattle.pairs.specs.Judge.{possible-word}
@@ -32,47 +32,70 @@ pub record Found (sizes words : List ℕ) (start : ℕ) (pair : PairAt) : Type 0
   pub next : Next (has words) (wordBits * length words) start (pair .feature)
   pub holds : pair .feature < features sizes → Contains sizes (pair .block) (pair .feature)
 
--- A walk has come to a pair: none of the listed pairs before it is unclosed, and it is listed itself, if it is not past all features.
-pub record Reached (sizes words : List ℕ) (o : Operator) (pair : PairAt) : Type 0 where
-  pub none : some (pair .feature) (listedUnclosed sizes (has words) o) ≡ false
+-- A walk from a feature on has come to a pair: none of the listed pairs that it has passed is unclosed, and the pair is listed itself, if it is not past all features.
+pub record Reached (sizes words : List ℕ) (o : Operator) (start : ℕ) (pair : PairAt) : Type 0 where
+  pub above : start ≤ pair .feature
+  pub none : Clear (listedUnclosed sizes (has words) o) start (pair .feature)
   pub listed : pair .feature < features sizes → has words (pair .feature) ≡ true
   pub holds : pair .feature < features sizes → Contains sizes (pair .block) (pair .feature)
 
-module _ (sizes words : List ℕ) (o : Operator) (listed : Listed sizes words) where
-  -- From a feature before which nothing is unclosed to the next listed pair.
-  reached-from : (start : ℕ) (pair : PairAt) → ((f : ℕ) → f < start → listedUnclosed sizes (has words) o f ≡ false) → Found sizes words start pair
-      → Reached sizes words o pair
-  reached-from start pair before found = record {
-    none = some-not (pair .feature) _ (λ f l. elim (order f start) [
-      | less k ↦ before f k
-      | same k ↦ and-none-left (has words f) _ (found .next .clear f (omega arith) l)
-      | more k ↦ and-none-left (has words f) _ (found .next .clear f (omega arith) l)
-    ]);
+module _ (sizes words : List ℕ) (o : Operator) where
+  -- It begins at the next listed pair.
+  pub reached-first : Listed sizes words → (start : ℕ) (pair : PairAt) → Found sizes words start pair → Reached sizes words o start pair
+  reached-first listed start pair found = record {
+    above = found .next .above;
+    none = λ f l k. and-none-left (has words f) _ (found .next .clear f l k);
     listed = λ l. found .next .member (omega (arith, listed .due));
     holds = found .holds;
   }
 
-  pub reached-first : (pair : PairAt) → Found sizes words (atoms sizes) pair → Reached sizes words o pair
-  reached-first pair found = reached-from (atoms sizes) pair (λ f l. and-none-right (has words f) _ (unclosed-above sizes (has words) o f l)) found
+  -- Where it stands another may begin, and go on from there.
+  pub reached-here : (start : ℕ) (pair : PairAt) → Reached sizes words o start pair → Reached sizes words o (pair .feature) pair
+  reached-here start pair reached = record { above = omega arith; none = λ f l k. absurd (omega arith); listed = reached .listed; holds = reached .holds }
 
-  pub reached-next : (pair next : PairAt) → Reached sizes words o pair → unclosedPair sizes (has words) o (pair .feature) ≡ false → Found sizes words (pair .feature + 1) next
-      → Reached sizes words o next
-  reached-next pair next reached fine found = reached-from (pair .feature + 1) next (λ f l. elim (order f (pair .feature)) [
-    | less k ↦ some-none (pair .feature) _ (reached .none) f k
-    | same k ↦ ap (listedUnclosed sizes (has words) o) k ∙ and-none-right (has words (pair .feature)) _ fine
-    | more k ↦ absurd (omega arith)
-  ]) found
+  pub reached-on : (start : ℕ) (pair next : PairAt) → Reached sizes words o start pair → Reached sizes words o (pair .feature) next → Reached sizes words o start next
+  reached-on start pair next first then = record {
+    above = omega (arith, first .above, then .above);
+    none = λ f l k. elim (order f (pair .feature)) [ less m ↦ first .none f l m | same m ↦ then .none f (omega arith) k | more m ↦ then .none f (omega arith) k ];
+    listed = then .listed;
+    holds = then .holds;
+  }
 
-module _ (sizes words : List ℕ) (o : Operator) (fine : Entries sizes 0 o) (pair : PairAt) (reached : Reached sizes words o pair) where
-  -- A walk that has come past all features.
+  -- From a pair that is not unclosed to the next one; from any pair, if none is missed.
+  pub reached-next : Listed sizes words → (start : ℕ) (pair next : PairAt) → Reached sizes words o start pair → unclosedPair sizes (has words) o (pair .feature) ≡ false
+      → Found sizes words (pair .feature + 1) next → Reached sizes words o start next
+  reached-next listed start pair next reached fine found = let further = reached-first listed (pair .feature + 1) next found in record {
+    above = omega (arith, reached .above, further .above);
+    none = λ f l k. elim (order f (pair .feature)) [
+      | less m ↦ reached .none f l m
+      | same m ↦ ap (listedUnclosed sizes (has words) o) m ∙ and-none-right (has words (pair .feature)) _ fine
+      | more m ↦ further .none f (omega arith) k
+    ];
+    listed = further .listed;
+    holds = further .holds;
+  }
+
+module _ (sizes words : List ℕ) (o : Operator) (fine : Entries sizes 0 o) (pair : PairAt) (reached : Reached sizes words o (atoms sizes) pair) where
+  -- A walk over all pairs that has come past all features.
   pub closed-past : features sizes ≤ pair .feature → closed sizes (has words) o ≡ true
   closed-past l = closed-by-pairs sizes (has words) o fine
-      ∙ or-right (idle sizes (has words) o) _ (ap not (some-not (features sizes) _ (λ f k. some-none (pair .feature) _ (reached .none) f (omega arith))))
+      ∙ or-right (idle sizes (has words) o) _ (ap not (some-not (features sizes) _ (λ f k. elim (test (ltb f (atoms sizes))) [
+        | on e ↦ and-none-right (has words f) _ (unclosed-above sizes (has words) o f (ltb-true f (atoms sizes) e))
+        | off e ↦ reached .none f (ltb-false f (atoms sizes) e) (omega arith)
+      ])))
 
   -- A walk that has come to an unclosed pair.
   pub closed-broken : idle sizes (has words) o ≡ false → pair .feature < features sizes → unclosedPair sizes (has words) o (pair .feature) ≡ true → closed sizes (has words) o ≡ false
   closed-broken busy l e = closed-by-pairs sizes (has words) o fine
       ∙ or-neither _ _ busy (ap not (some-at (features sizes) _ (pair .feature) l (and-both _ _ (reached .listed l) e)))
+
+  -- The first unclosed pair, or a number past all features, decides.
+  pub closed-found : idle sizes (has words) o ≡ false → (end : ℕ) → end ≡ features sizes → (pair .feature < end → unclosedPair sizes (has words) o (pair .feature) ≡ true)
+      → leb end (pair .feature) ≡ closed sizes (has words) o
+  closed-found busy end all told = elim (test (leb end (pair .feature))) [
+    | on e ↦ e ∙ sym (closed-past (omega (arith, leb-true end (pair .feature) e)))
+    | off e ↦ let l : pair .feature < end = leb-false end (pair .feature) e in e ∙ sym (closed-broken busy (omega arith) (told l))
+  ]
 
 -- ---- a pair by its atoms
 

@@ -1,8 +1,8 @@
-// Listed pairs: whether atoms are paired, which atoms an operator leaves possible, whether it is idle, a walk over the listed pairs that finds whether the list
-// is closed under it, whether a state holds a pair.
+// Listed pairs: whether atoms are paired, which atoms an operator leaves possible, whether it is idle, a walk over the listed pairs that finds
+// those that are unclosed under it, whether a state holds a pair.
 ghost use mathlib.Core.Path.{_≡_};
 ghost use mathlib.Core.Logic.{_≢_};
-ghost use mathlib.Core.Bool.{not, _&&_};
+ghost use mathlib.Core.Bool.{true, not, _&&_};
 ghost use mathlib.Core.List.{List};
 ghost use Prim.Native.Nat.{ℕ, _+_, _*_, _<_, _≤_};
 ghost use lib.ListN.{length};
@@ -20,7 +20,7 @@ ghost use Rattle.pairs.specs.Ready.{Listed, Atoms, Ready, Apart, Place, 
 ghost use Rattle.pairs.specs.Judge.{pairedWithin, clashingIn, valued};
 ghost use Rattle.pairs.specs.None.{Suffices};
 ghost use Rattle.pairs.specs.Fill.{freeAtoms, Added, Lacks};
-ghost use Rattle.pairs.specs.Walk.{Found};
+ghost use Rattle.pairs.specs.Walk.{Found, Reached};
 use numbering::Block;
 
 // A listed pair with its block; past the last one, a number that is no feature's.
@@ -315,7 +315,64 @@ pub fn is_unclosed(
         && leaves(sizes, pairs, variables, befores, afters, possible, j, y)
 }
 
-// Whether the list is closed under the operator: a walk over the listed pairs, to the first that is unclosed.
+// The next listed pair that is unclosed under the operator, from a listed one on; past the last one, a number that is no feature's.
+pub fn unclosed_from(
+    sizes: &[u64],
+    pairs: &[u64],
+    variables: &[usize],
+    befores: &[usize],
+    afters: &[usize],
+    possible: &[u64],
+    end: usize,
+    pair: PairAt,
+) -> PairAt
+    requires { ⌜ Ready (now sizes) (now pairs) (now variables) (now befores) (now afters)
+        × HoldsPossible (now sizes) (has (now pairs)) (entriesIn (now variables) (now befores) (now afters)) (now possible)
+        × (end ≡ features (now sizes)) × Reached (now sizes) (now pairs) (entriesIn (now variables) (now befores) (now afters)) (pair .feature) pair ⌝ }
+    ensures { λ r. ⌜ Reached (now (sizes .entry)) (now (pairs .entry)) (entriesIn (now (variables .entry)) (now (befores .entry)) (now (afters .entry))) (pair .feature) r
+        × (r .feature < end → unclosedPair (now (sizes .entry)) (has (now (pairs .entry)))
+        (entriesIn (now (variables .entry)) (now (befores .entry)) (now (afters .entry))) (r .feature) ≡ true) ⌝ }
+{
+    let mut next = pair;
+    while next.feature < end {
+        if is_unclosed(sizes, pairs, variables, befores, afters, possible, next) {
+            return next;
+        }
+        next = next_pair(sizes, pairs, end, next);
+    }
+    next
+}
+
+// The first listed pair that is unclosed under the operator.
+pub fn first_unclosed(
+    sizes: &[u64],
+    pairs: &[u64],
+    variables: &[usize],
+    befores: &[usize],
+    afters: &[usize],
+    possible: &[u64],
+    end: usize,
+) -> PairAt
+    requires { ⌜ Ready (now sizes) (now pairs) (now variables) (now befores) (now afters)
+        × HoldsPossible (now sizes) (has (now pairs)) (entriesIn (now variables) (now befores) (now afters)) (now possible) × (end ≡ features (now sizes)) ⌝ }
+    ensures { λ r. ⌜ Reached (now (sizes .entry)) (now (pairs .entry)) (entriesIn (now (variables .entry)) (now (befores .entry)) (now (afters .entry))) (atoms (now (sizes .entry))) r
+        × (r .feature < end → unclosedPair (now (sizes .entry)) (has (now (pairs .entry)))
+        (entriesIn (now (variables .entry)) (now (befores .entry)) (now (afters .entry))) (r .feature) ≡ true) ⌝ }
+{
+    let first = first_pair(sizes, pairs, end);
+    unclosed_from(
+        sizes,
+        pairs,
+        variables,
+        befores,
+        afters,
+        possible,
+        end,
+        first,
+    )
+}
+
+// Whether the list is closed under the operator.
 pub fn is_closed(
     sizes: &[u64],
     pairs: &[u64],
@@ -332,14 +389,8 @@ pub fn is_closed(
         return true;
     }
     let end = numbering::features(sizes);
-    let mut pair = first_pair(sizes, pairs, end);
-    while pair.feature < end {
-        if is_unclosed(sizes, pairs, variables, befores, afters, possible, pair) {
-            return false;
-        }
-        pair = next_pair(sizes, pairs, end, pair);
-    }
-    true
+    let first = first_unclosed(sizes, pairs, variables, befores, afters, possible, end);
+    end <= first.feature
 }
 
 // Whether the value of variable j is paired with that of an earlier variable.

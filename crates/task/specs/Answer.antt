@@ -1,6 +1,7 @@
 -- What the judge's answer and the words that it leaves say of a task file; what an answer tells, and what makes one.
 use Prim.Native.Nat.{ℕ}
 use mathlib.Core.Path.{_≡_, refl, sym, ap, _∙_}
+use mathlib.Core.Bool.{Bool}
 use mathlib.Core.List.{List, []}
 use native.Mathlib.Omega.{arith}
 use lib.ListN.{length, take}
@@ -8,10 +9,11 @@ use Rattle.meaning.specs.Sets.{listed}
 use Rattle.meaning.specs.Task.{Operator, Task, State}
 use Rattle.meaning.specs.Feature.{features}
 use Rattle.meaning.specs.Number.{Read, got, fault}
-use Rattle.meaning.specs.File.{operatorsOf, judgedFrom, judgedTask, Writable}
+use Rattle.meaning.specs.File.{operatorsOf, taskOf, judgedTask, Writable}
 use Rattle.meaning.specs.Workspace.{slotsAt, has}
 use Rattle.theory.specs.Parts.{operators-said}
-use Rattle.theory.specs.Accepted.{accepted}
+use Rattle.theory.specs.Accepted.{Readable, writable-readable, read-known, accepted}
+use Rattle.theory.specs.Mending.{ReadAs}
 use Rattle.number.specs.Answers.{reasonOf, declaredOf, declared-reason, placeOf, place-next, place-faulted}
 use Rattle.number.specs.declared.Reason.{Reason}
 use Rattle.number.specs.declared.Step.{Step}
@@ -26,8 +28,8 @@ use Rattle.reader.specs.Front.{Front, frontOf, frontWords, HeaderInto, taskWith
 use Rattle.pairs.specs.Ready.{Listed}
 use Rattle.task.specs.declared.Judged.{Judged}
 use Rattle.task.specs.declared.Judged.the-variants.{Accepted, Refused}
-use Rattle.task.specs.Header.{headerWords, Headed, front-header, front-headed, header-front, header-room, header-parts, header-ready, header-has}
-use Rattle.task.specs.Rest.{restOf, behind, front-unread, judged-behind, rest-operators}
+use Rattle.task.specs.Header.{headerWords, Headed, readable-headed, front-header, front-headed, header-front, header-room, header-parts, header-ready, header-has}
+use Rattle.task.specs.Rest.{judgedBy, restOf, behind, front-unread, judged-behind, rest-operators}
 
 -- An accepted task: the answer has its counts and the place after its front, where its operators are read, and the words left begin with its header.
 pub record AcceptedInto (bytes words : List ℕ) (T : Task) (next : ℕ) (answer : Judged) (left : List ℕ) : Type 0 where
@@ -42,6 +44,26 @@ JudgedInto (got T next) bytes words answer left = AcceptedInto bytes words T nex
 JudgedInto (fault reason place) bytes words answer left = answer ≡ Refused (declaredOf reason) place
 
 -- ---- what an answer tells
+
+-- Words that are left with the header of a task, by its counts.
+pub record HeaderLeft (T : Task) (words left : List ℕ) (v n : ℕ) : Type 0 where
+  pub headed : Headed T
+  pub variables : v ≡ length (T .sizes)
+  pub total : n ≡ features (T .sizes)
+  pub header : left ≡ begun words (headerWords T)
+
+module _ {T : Task} {words left : List ℕ} {v n : ℕ} (h : HeaderLeft T words left v n) where
+  -- All before the slots is there.
+  pub left-room : layout.Headed v n left
+  left-room = header-room T (h .headed) words left (h .header) v n (h .variables) (h .total)
+
+  -- The parts of the words that are left, as they are lent: sizes, start, goal and pairs.
+  pub left-parts : (sizesPart v left ≡ T .sizes) × (startPart v left ≡ T .start) × (goalPart v left ≡ T .goal) × (has (pairsPart v n left) ≡ listed (T .pairs))
+  left-parts = let (sizes, start, goal, pairs) = header-parts T (h .headed) words left (h .header) v n (h .variables) (h .total) in
+      (sizes, start, goal, header-has T (h .headed) words left (h .header) v n (h .variables) (h .total))
+
+  pub left-ready : Listed (sizesPart v left) (pairsPart v n left) × State (sizesPart v left) (startPart v left) × State (sizesPart v left) (goalPart v left)
+  left-ready = header-ready T (h .headed) words left (h .header) v n (h .variables) (h .total)
 
 -- What is known of a task that was accepted, by the counts of the answer: its header is left in the words.
 pub record KnownAs (judging : Read Task) (words left : List ℕ) (v n : ℕ) : Type 0 where
@@ -61,46 +83,51 @@ pub record Known (bytes words left : List ℕ) (v n count at : ℕ) : Type 0 whe
 
 module _ {judging : Read Task} {words left : List ℕ} {v n : ℕ} (known : KnownAs judging words left v n) where
   pub known-headed : Headed (known .task)
-  known-headed = let a = known .writable .acceptable in record { limits = a .limits; start = a .start; even = refl; goal = a .goal; pairs = a .pairs }
+  known-headed = readable-headed (known .task) (writable-readable (known .task) (known .writable) .0)
 
-  -- The front of the words that are left is the header, and all before the slots is there.
+  known-left : HeaderLeft (known .task) words left v n
+  known-left = record { headed = known-headed; variables = known .variables; total = known .total; header = known .header }
+
+  -- The front of the words that are left is the header.
   pub known-header : take (slotsAt v n) left ≡ headerWords (known .task)
   known-header = header-front (known .task) known-headed words left (known .header) v n (known .variables) (known .total)
 
   pub known-room : layout.Headed v n left
-  known-room = header-room (known .task) known-headed words left (known .header) v n (known .variables) (known .total)
+  known-room = left-room known-left
 
-  -- The parts of the words that are left, as they are lent: sizes, start, goal and pairs.
   pub known-parts : (sizesPart v left ≡ known .task .sizes) × (startPart v left ≡ known .task .start) × (goalPart v left ≡ known .task .goal) × (has (pairsPart v n left) ≡ listed (known .task .pairs))
-  known-parts = let (sizes, start, goal, pairs) = header-parts (known .task) known-headed words left (known .header) v n (known .variables) (known .total) in
-      (sizes, start, goal, header-has (known .task) known-headed words left (known .header) v n (known .variables) (known .total))
+  known-parts = left-parts known-left
 
   pub known-ready : Listed (sizesPart v left) (pairsPart v n left) × State (sizesPart v left) (startPart v left) × State (sizesPart v left) (goalPart v left)
-  known-ready = header-ready (known .task) known-headed words left (known .header) v n (known .variables) (known .total)
+  known-ready = left-ready known-left
 
-module _ (bytes words : List ℕ) (answer : Judged) (left : List ℕ) where
-  pub judged-accepted : (v n count at : ℕ) → JudgedInto (judgedTask bytes) bytes words answer left → answer ≡ Accepted v n count at → Known bytes words left v n count at
+-- What an answer that accepts says of whatever was judged: the task, its counts, where its operators are read, and its header in the words.
+pub record AcceptedAs (judging : Read Task) (bytes words left : List ℕ) (v n count at : ℕ) : Type 0 where
+  pub task : Task
+  pub next : ℕ
+  pub judged : judging ≡ got task next
+  pub variables : v ≡ length (task .sizes)
+  pub total : n ≡ features (task .sizes)
+  pub many : count ≡ length (task .operators)
+  pub operators : operatorsOf (task .sizes) count bytes at ≡ got (task .operators) next
+  pub header : left ≡ begun words (headerWords task)
+
+module _ {judging : Read Task} (bytes words : List ℕ) (answer : Judged) (left : List ℕ) where
+  pub judged-told : (v n count at : ℕ) → JudgedInto judging bytes words answer left → answer ≡ Accepted v n count at → AcceptedAs judging bytes words left v n count at
   unfolding JudgedInto
-  judged-accepted v n count at h e = by (judgedTask bytes) refl h
+  judged-told v n count at h e = by judging refl h
     where
-      by : (read : Read Task) → judgedTask bytes ≡ read → JudgedInto read bytes words answer left → Known bytes words left v n count at
+      by : (read : Read Task) → judging ≡ read → JudgedInto read bytes words answer left → AcceptedAs judging bytes words left v n count at
       by (got T next) q k =
           let same : Accepted (length (T .sizes)) (features (T .sizes)) (length (T .operators)) (k .at) ≡ Accepted v n count at = sym (k .counts) ∙ e in
-          let first : v ≡ length (T .sizes) = cc in
-          let second : n ≡ features (T .sizes) = cc in
           let third : count ≡ length (T .operators) = cc in
           let fourth : k .at ≡ at = cc in
-          record {
-            accepted = record { task = T; next = next; judged = q; writable = accepted bytes T next q; variables = first; total = second; header = k .header };
-            many = third;
-            operators = rw (third, ← fourth) (k .operators);
-          }
+          record { task = T; next = next; judged = q; variables = cc; total = cc; many = third; operators = rw (third, ← fourth) (k .operators); header = k .header }
       by (fault reason place) q k = absurd (let same : Refused (declaredOf reason) place ≡ Accepted v n count at = sym k ∙ e in let z : _≡_ {A = ℕ} 0 1 = cc in omega arith)
 
-  pub judged-refused : (reason : Reason) (place : ℕ) → JudgedInto (judgedTask bytes) bytes words answer left → answer ≡ Refused reason place
-      → judgedTask bytes ≡ fault (reasonOf reason) place
+  pub judged-refused : (reason : Reason) (place : ℕ) → JudgedInto judging bytes words answer left → answer ≡ Refused reason place → judging ≡ fault (reasonOf reason) place
   unfolding JudgedInto
-  judged-refused reason place h e = by (judgedTask bytes) h
+  judged-refused reason place h e = by judging h
     where
       by : (read : Read Task) → JudgedInto read bytes words answer left → read ≡ fault (reasonOf reason) place
       by (got T next) k = absurd (let same : Accepted (length (T .sizes)) (features (T .sizes)) (length (T .operators)) (k .at) ≡ Refused reason place = sym (k .counts) ∙ e in
@@ -109,6 +136,49 @@ module _ (bytes words : List ℕ) (answer : Judged) (left : List ℕ) where
           let same : Refused (declaredOf other) there ≡ Refused reason place = sym k ∙ e in
           let found : step.Fault (declaredOf other) there ≡ step.Fault reason place = cc in
           place-faulted (fault other there) reason place found
+
+-- A task file that was judged wholly.
+pub judged-accepted : (bytes words : List ℕ) (answer : Judged) (left : List ℕ) (v n count at : ℕ) → JudgedInto (judgedTask bytes) bytes words answer left → answer ≡ Accepted v n count at
+    → Known bytes words left v n count at
+judged-accepted bytes words answer left v n count at h e = let told = judged-told bytes words answer left v n count at h e in record {
+  accepted = record {
+    task = told .task;
+    next = told .next;
+    judged = told .judged;
+    writable = accepted bytes (told .task) (told .next) (told .judged);
+    variables = told .variables;
+    total = told .total;
+    header = told .header;
+  };
+  many = told .many;
+  operators = told .operators;
+}
+
+-- A task file that was judged up to 5.
+abbrev pub ReadInto : List ℕ → List ℕ → List ℕ → ℕ → ℕ → ℕ → ℕ → Type 0
+ReadInto bytes = AcceptedAs (taskOf bytes 0) bytes
+
+module _ {bytes words left : List ℕ} {v n count at : ℕ} (known : ReadInto bytes words left v n count at) where
+  -- No byte is left over, and every rule but those for the listed pairs is kept.
+  pub read-end : known .next ≡ length bytes
+  read-end = read-known bytes (known .task) (known .next) (known .judged) .0
+
+  pub read-readable : Readable (known .task)
+  read-readable = read-known bytes (known .task) (known .next) (known .judged) .1
+
+  pub read-left : HeaderLeft (known .task) words left v n
+  read-left = record { headed = readable-headed (known .task) read-readable; variables = known .variables; total = known .total; header = known .header }
+
+  -- The task by its sizes, start and pairs, as they are lent.
+  pub read-as : (sizes start pairs : List ℕ) → sizes ≡ sizesPart v left → start ≡ startPart v left → pairs ≡ pairsPart v n left
+      → ReadAs (known .task) bytes at count (known .next) sizes start (has pairs)
+  read-as sizes start pairs sizes-are start-is pairs-are = let parts = left-parts read-left in record {
+    known = read-readable;
+    sizes-are = sizes-are ∙ parts .0;
+    start-is = start-is ∙ parts .1;
+    pairs-are = ap has pairs-are ∙ parts .3;
+    operators = known .operators;
+  }
 
 -- ---- what makes an answer
 
@@ -152,59 +222,63 @@ module _ (reading : Read Front) (words : List ℕ) (answer : Header) (left : Lis
           place-faulted (fault other there) reason place found
 
 module _ (bytes : List ℕ) (from : ℕ) (words left : List ℕ) where
-  pub answer-refused : (reason : Reason) (place : ℕ) → judgedFrom bytes from ≡ fault (reasonOf reason) place → JudgedInto (judgedFrom bytes from) bytes words (Refused reason place) left
+  answer-refused : (wholly : Bool) (reason : Reason) (place : ℕ) → judgedBy wholly bytes from ≡ fault (reasonOf reason) place
+      → JudgedInto (judgedBy wholly bytes from) bytes words (Refused reason place) left
   unfolding JudgedInto
-  answer-refused reason place e = rw e (ap (λ r. Refused r place) (sym (declared-reason reason)))
+  answer-refused wholly reason place e = rw e (ap (λ r. Refused r place) (sym (declared-reason reason)))
 
-  pub front-refused : (reason : Reason) (place : ℕ) → frontOf bytes from ≡ fault (reasonOf reason) place → JudgedInto (judgedFrom bytes from) bytes words (Refused reason place) left
-  front-refused reason place e = answer-refused reason place (front-unread bytes from (reasonOf reason) place e)
+  pub front-refused : (wholly : Bool) (reason : Reason) (place : ℕ) → frontOf bytes from ≡ fault (reasonOf reason) place → JudgedInto (judgedBy wholly bytes from) bytes words (Refused reason place) left
+  front-refused wholly reason place e = answer-refused wholly reason place (front-unread bytes from wholly (reasonOf reason) place e)
 
   module _ (v n count at : ℕ) (known : Fronted bytes from words left v n count at) where
     -- A task with this front, and its header.
     abbrev begins : List Operator → Task
     begins operators = taskWith (known .front) operators
 
-    headed : (operators : List Operator) → Headed (begins operators)
-    headed operators = front-headed bytes from (known .front) at operators (known .read)
-
     header-words : (operators : List Operator) → left ≡ begun words (headerWords (begins operators))
     header-words operators = known .words-are ∙ ap (begun words) (front-header (known .front) operators)
 
+    fronted-left : HeaderLeft (begins []) words left v n
+    fronted-left = record { headed = front-headed bytes from (known .front) at [] (known .read); variables = known .variables; total = known .total; header = header-words [] }
+
     pub fronted-room : layout.Headed v n left
-    fronted-room = header-room (begins []) (headed []) words left (header-words []) v n (known .variables) (known .total)
+    fronted-room = left-room fronted-left
 
     -- Its sizes, start and pairs, as they are lent.
     module _ (sizes start pairs : List ℕ) (sizes-are : sizes ≡ sizesPart v left) (start-is : start ≡ startPart v left) (pairs-are : pairs ≡ pairsPart v n left) where
       pub lent-ready : Listed sizes pairs × State sizes start
-      lent-ready = let ready = header-ready (begins []) (headed []) words left (header-words []) v n (known .variables) (known .total) in
-          rw (sizes-are, start-is, pairs-are) (ready .0, ready .1)
+      lent-ready = let ready = left-ready fronted-left in rw (sizes-are, start-is, pairs-are) (ready .0, ready .1)
 
-      lent-behind : restOf sizes (has pairs) start count bytes at ≡ behind bytes (known .front) at
-      lent-behind = let parts = header-parts (begins []) (headed []) words left (header-words []) v n (known .variables) (known .total) in
-          rw (sizes-are ∙ parts .0, start-is ∙ parts .1, ap has pairs-are ∙ header-has (begins []) (headed []) words left (header-words []) v n (known .variables) (known .total), known .many)
+      module _ (wholly : Bool) where
+        -- What is judged behind them.
+        abbrev rest : Read (List Operator)
+        rest = restOf wholly sizes (has pairs) start count bytes at
 
-      module _ (answer : Step) (told : answer ≡ placeOf (restOf sizes (has pairs) start count bytes at)) where
-        pub rest-refused : (reason : Reason) (place : ℕ) → answer ≡ step.Fault reason place → JudgedInto (judgedFrom bytes from) bytes words (Refused reason place) left
-        rest-refused reason place e =
-            let found : behind bytes (known .front) at ≡ fault (reasonOf reason) place
-            = sym lent-behind ∙ place-faulted (restOf sizes (has pairs) start count bytes at) reason place (sym told ∙ e) in
-            answer-refused reason place (judged-behind bytes (known .front) from at (known .read) ∙ rw found)
+        lent-behind : rest ≡ behind bytes from (known .front) at wholly
+        lent-behind = let parts = left-parts fronted-left in rw (sizes-are ∙ parts .0, start-is ∙ parts .1, ap has pairs-are ∙ parts .3, known .many)
 
-        pub rest-accepted : (next : ℕ) → answer ≡ Next next → JudgedInto (judgedFrom bytes from) bytes words (Accepted v n count at) left
-        unfolding JudgedInto
-        rest-accepted next e = let (operators, read) = place-next (restOf sizes (has pairs) start count bytes at) next (sym told ∙ e) in passed operators (sym lent-behind ∙ read)
-          where
-            made : (operators : List Operator) → operatorsOf (known .front .states .sizes) (known .front .count) bytes at ≡ got operators next → length operators ≡ known .front .count
-                → AcceptedInto bytes words (begins operators) next (Accepted v n count at) left
-            made operators read long = record {
-              at = at;
-              counts = rw (known .variables, known .total, known .many, long) refl;
-              operators = rw long read;
-              header = header-words operators;
-            }
+        module _ (answer : Step) (told : answer ≡ placeOf rest) where
+          pub rest-refused : (reason : Reason) (place : ℕ) → answer ≡ step.Fault reason place → JudgedInto (judgedBy wholly bytes from) bytes words (Refused reason place) left
+          rest-refused reason place e =
+              let found : behind bytes from (known .front) at wholly ≡ fault (reasonOf reason) place = sym lent-behind ∙ place-faulted rest reason place (sym told ∙ e) in
+              answer-refused wholly reason place (judged-behind bytes from (known .front) at wholly (known .read) ∙ rw found)
 
-            passed : (operators : List Operator) → behind bytes (known .front) at ≡ got operators next → JudgedInto (judgedFrom bytes from) bytes words (Accepted v n count at) left
-            passed operators found =
-                let whole : judgedFrom bytes from ≡ got (begins operators) next = judged-behind bytes (known .front) from at (known .read) ∙ rw found in
-                let read = rest-operators (known .front .states .sizes) (listed (known .front .pairs)) (known .front .states .start) (known .front .count) bytes at operators next found in
-                rw whole (made operators read (operators-said bytes (known .front .states .sizes) (known .front .count) .gives at operators next read .known .0))
+          pub rest-accepted : (next : ℕ) → answer ≡ Next next → JudgedInto (judgedBy wholly bytes from) bytes words (Accepted v n count at) left
+          unfolding JudgedInto
+          rest-accepted next e = let (operators, read) = place-next rest next (sym told ∙ e) in passed operators (sym lent-behind ∙ read)
+            where
+              made : (operators : List Operator) → operatorsOf (known .front .states .sizes) (known .front .count) bytes at ≡ got operators next → length operators ≡ known .front .count
+                  → AcceptedInto bytes words (begins operators) next (Accepted v n count at) left
+              made operators read long = record {
+                at = at;
+                counts = rw (known .variables, known .total, known .many, long) refl;
+                operators = rw long read;
+                header = header-words operators;
+              }
+
+              passed : (operators : List Operator) → behind bytes from (known .front) at wholly ≡ got operators next
+                  → JudgedInto (judgedBy wholly bytes from) bytes words (Accepted v n count at) left
+              passed operators found =
+                  let all : judgedBy wholly bytes from ≡ got (begins operators) next = judged-behind bytes from (known .front) at wholly (known .read) ∙ rw found in
+                  let read = rest-operators wholly (known .front .states .sizes) (listed (known .front .pairs)) (known .front .states .start) (known .front .count) bytes at operators next found in
+                  rw all (made operators read (operators-said bytes (known .front .states .sizes) (known .front .count) .gives at operators next read .known .0))

@@ -17,6 +17,7 @@ use Rattle.theory.specs.Run.{run-in}
 use Rattle.theory.specs.Truth.{on, off, test}
 use Rattle.theory.specs.Words.{length-packed, packed-holds}
 use Rattle.theory.specs.Spent.{Gives, gives-then}
+use Rattle.theory.specs.Accepted.{Readable}
 use Rattle.layout.specs.Parts as layout
 use Rattle.layout.specs.Parts.{sizesPart, startPart, goalPart, pairsPart}
 use Rattle.reader.specs.Answer.{begun, featureWords}
@@ -51,6 +52,9 @@ pub record HeadedFor (above : List ℕ) (T : Task) : Type 0 where
 
 abbrev pub Headed : Task → Type 0
 Headed T = HeadedFor (T .sizes) T
+
+pub readable-headed : (T : Task) → Readable T → Headed T
+readable-headed T known = record { limits = known .limits; start = known .start; even = refl; goal = known .goal; pairs = known .pairs }
 
 -- The words of its pairs.
 abbrev pairWords : Task → List ℕ

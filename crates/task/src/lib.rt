@@ -1,15 +1,15 @@
-// Judges a task file: its first fault in the order of the paper, or that it is accepted.
+// Judges a task file, wholly or up to 5: its first fault in the order of the paper, or that it is accepted.
 ghost use mathlib.Core.Path.{_≡_};
 ghost use Prim.Native.Nat.{_≤_};
 ghost use lib.ListN.{length, replicate};
 ghost use Rattle.meaning.specs.Limits.{mostVariables, mostFeatures};
 ghost use Rattle.meaning.specs.Task.{State};
-ghost use Rattle.meaning.specs.File.{operatorsOf, judgedTask};
+ghost use Rattle.meaning.specs.File.{operatorsOf, taskOf, judgedTask};
 ghost use Rattle.meaning.specs.Workspace.{slotsAt, has};
 ghost use Rattle.number.specs.Answers.{placeOf};
 ghost use Rattle.pairs.specs.Ready.{Listed};
 ghost use Rattle.task.specs.Walk.{closedFrom};
-ghost use Rattle.task.specs.Rest.{restOf};
+ghost use Rattle.task.specs.Rest.{judgedBy, restOf};
 ghost use Rattle.task.specs.Answer.{JudgedInto};
 use limits::ATOM_WORDS;
 use number::Reason;
@@ -92,7 +92,7 @@ pub fn are_closed(bytes: &[u8], at: usize, count: usize, sizes: &[u64], pairs: &
     closed
 }
 
-// Judges what stands behind the header: the operators, that nothing follows, the start, and last whether the list is closed.
+// Judges what stands behind the header: the operators, that nothing follows, and, if the file is judged wholly, the start and last whether the list is closed.
 fn judge_rest(
     bytes: &[u8],
     at: usize,
@@ -100,14 +100,18 @@ fn judge_rest(
     sizes: &[u64],
     start: &[u64],
     pairs: &[u64],
+    wholly: bool,
 ) -> Step
     requires { ⌜ Listed (now sizes) (now pairs) × State (now sizes) (now start) ⌝ }
-    ensures { λ r. ⌜ r ≡ placeOf (restOf (now (sizes .entry)) (has (now (pairs .entry))) (now (start .entry)) count (now (bytes .entry)) at) ⌝ }
+    ensures { λ r. ⌜ r ≡ placeOf (restOf wholly (now (sizes .entry)) (has (now (pairs .entry))) (now (start .entry)) count (now (bytes .entry)) at) ⌝ }
 {
     match operators_at(bytes, at, count, sizes) {
         Step::Next(next) => {
             if next < bytes.len() {
                 return Step::Fault(Reason::LeftOver, next);
+            }
+            if !wholly {
+                return Step::Next(next);
             }
             if pairs::holds(sizes, pairs, start) {
                 return Step::Fault(Reason::Held, 0);
@@ -121,10 +125,10 @@ fn judge_rest(
     }
 }
 
-// Judges a task file, and leaves the header of an accepted one in words that are all 0.
-pub fn judge(bytes: &[u8], header: &mut [u64]) -> Judged
+// Judges a task file, wholly or up to 5, and leaves the header of an accepted one in words that are all 0.
+fn judge_by(bytes: &[u8], wholly: bool, header: &mut [u64]) -> Judged
     requires { ⌜ (slotsAt mostVariables mostFeatures ≤ length (now header)) × (now header ≡ replicate (length (now header)) 0) ⌝ }
-    ensures { λ r. ⌜ JudgedInto (judgedTask (now (bytes .entry))) (now (bytes .entry)) (now (header .entry)) r (now (header .exit)) ⌝ }
+    ensures { λ r. ⌜ JudgedInto (judgedBy wholly (now (bytes .entry)) 0) (now (bytes .entry)) (now (header .entry)) r (now (header .exit)) ⌝ }
 {
     match reader::read_header(bytes, 0, &mut *header) {
         Header::Got {
@@ -141,6 +145,7 @@ pub fn judge(bytes: &[u8], header: &mut [u64]) -> Judged
                 layout::sizes(words, variables),
                 layout::start(words, variables, features),
                 layout::pairs(words, variables, features),
+                wholly,
             ) {
                 Step::Next(_) => Judged::Accepted {
                     variables: variables,
@@ -153,4 +158,20 @@ pub fn judge(bytes: &[u8], header: &mut [u64]) -> Judged
         }
         Header::Fault(reason, place) => Judged::Refused(reason, place),
     }
+}
+
+// Judges a task file wholly, and leaves the header of an accepted one in words that are all 0.
+pub fn judge(bytes: &[u8], header: &mut [u64]) -> Judged
+    requires { ⌜ (slotsAt mostVariables mostFeatures ≤ length (now header)) × (now header ≡ replicate (length (now header)) 0) ⌝ }
+    ensures { λ r. ⌜ JudgedInto (judgedTask (now (bytes .entry))) (now (bytes .entry)) (now (header .entry)) r (now (header .exit)) ⌝ }
+{
+    judge_by(bytes, true, header)
+}
+
+// Judges a task file up to 5 and no further, so that its listed pairs may be any, and leaves the header of an accepted one in words that are all 0.
+pub fn read(bytes: &[u8], header: &mut [u64]) -> Judged
+    requires { ⌜ (slotsAt mostVariables mostFeatures ≤ length (now header)) × (now header ≡ replicate (length (now header)) 0) ⌝ }
+    ensures { λ r. ⌜ JudgedInto (taskOf (now (bytes .entry)) 0) (now (bytes .entry)) (now (header .entry)) r (now (header .exit)) ⌝ }
+{
+    judge_by(bytes, false, header)
 }

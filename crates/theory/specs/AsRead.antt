@@ -1,20 +1,38 @@
 -- What a reader faults with is what is judged as numbers are read, or 5: never a reason that is judged after these.
-use Prim.Native.Nat.{ℕ, zero, suc, _+_}
+use Prim.Native.Nat.{ℕ, zero, suc, _+_, _≤_}
 use mathlib.Core.Path.{_≡_, refl, sym}
-use mathlib.Core.Bool.{Bool, true, false, _||_, cond}
+use mathlib.Core.Bool.{Bool, true, false, _||_, true≢false, cond}
 use mathlib.Core.List.{List, [], _∷_}
+use native.Mathlib.Omega.{arith}
 use lib.Dec.{eqb, leb, ltb}
 use lib.ListN.{length, getD, replicate}
-use Rattle.meaning.specs.Limits.{leastPartialSize, mostPartialSize, group, mostGroups}
+use Rattle.meaning.specs.Limits.{leastSize, mostSize, leastPartialSize, mostPartialSize, group, mostGroups}
 use Rattle.meaning.specs.Feature.{atoms, features}
-use Rattle.meaning.specs.Number.{Reason, Ends, Padded, Endless, Limit, Range, Unordered, LeftOver, refusal, hasPlace, Read, got, fault, onRead, groups, number}
-use Rattle.meaning.specs.File.{Parser, give, then, inside, item, judge, limited, rising, ended, itemsOf, sizeList, featuresOf, featureList, entriesOf, operatorOf, operatorsOf}
+use Rattle.meaning.specs.Number.{Reason, Ends, Padded, Endless, Limit, Range, Unordered, LeftOver, Outgrown, Held, Unclosed, Small, Malformed, Gaps, Unequal, refusal, hasPlace, Read, got, fault, onRead, groups, number}
+use Rattle.meaning.specs.File.{Parser, give, then, inside, item, judge, limited, rising, ended, itemsOf, sizeList, header, featuresOf, featureList, entriesOf, operatorOf, operatorsOf, taskOf}
 use Rattle.meaning.specs.Partial.{partialHeader, goalOf, partialOf}
 use Rattle.theory.specs.Reading.{not-got}
 
 -- A reason that has a place, or 5.
 abbrev pub asRead : Reason → Bool
 asRead reason = hasPlace reason || eqb (refusal reason) (refusal LeftOver)
+
+-- Its number is one from 1 to 5.
+pub as-read-number : (reason : Reason) → asRead reason ≡ true → (1 ≤ refusal reason) × (refusal reason ≤ refusal LeftOver)
+as-read-number Ends e = (omega arith, omega arith)
+as-read-number Padded e = (omega arith, omega arith)
+as-read-number Endless e = (omega arith, omega arith)
+as-read-number Limit e = (omega arith, omega arith)
+as-read-number Range e = (omega arith, omega arith)
+as-read-number Unordered e = (omega arith, omega arith)
+as-read-number LeftOver e = (omega arith, omega arith)
+as-read-number Outgrown e = absurd (true≢false (sym e))
+as-read-number Held e = absurd (true≢false (sym e))
+as-read-number Unclosed e = absurd (true≢false (sym e))
+as-read-number Small e = absurd (true≢false (sym e))
+as-read-number Malformed e = absurd (true≢false (sym e))
+as-read-number Gaps e = absurd (true≢false (sym e))
+as-read-number Unequal e = absurd (true≢false (sym e))
 
 -- A fault, if there is one, has such a reason.
 pub record AsRead {A : Type 0} (r : Read A) : Type 0 where
@@ -115,6 +133,19 @@ module _ {bytes : List ℕ} where
       by : (b : Bool) (place : ℕ) → AsRead (judge b LeftOver bytes place)
       by true place = got-as-read tt place
       by false place = fault-as-read LeftOver place refl
+
+  -- ---- a task file
+
+  pub plain-task : Plain bytes taskOf
+  unfolding taskOf header
+  plain-task =
+      plain-then _ (plain-limited _ _ _ (plain-sizes leastSize mostSize)) (λ sizes.
+      plain-then _ (plain-items 0 Range refl sizes) (λ start.
+      plain-then _ (plain-items 0 Range refl sizes) (λ goal.
+      plain-then _ (plain-feature-list (atoms sizes) (features sizes)) (λ pairs.
+      plain-then _ plain-number (λ k.
+      plain-then _ (plain-operators sizes k) (λ operators.
+      plain-then _ plain-ended (λ _. plain-give _)))))))
 
   -- ---- a partial file
 

@@ -43,6 +43,21 @@ unclosed-above sizes pairs o f l = or-neither (joinsAfters sizes pairs o f) (joi
     apart i x j y = ne-eqb f (both sizes i x j y) (λ q. omega (arith, both-above sizes i x j y))
 
 module _ (sizes : List ℕ) (pairs : Set) (o : Operator) (fine : Entries sizes 0 o) where
+  -- ---- no number past all features is
+
+  pub unclosed-below : (f : ℕ) → unclosedPair sizes pairs o f ≡ true → f < features sizes
+  unfolding unclosedPair joinsAfters joinsPossible
+  unclosed-below f t = elim (or-either (joinsAfters sizes pairs o f) (joinsPossible sizes pairs o f) t) [
+    | inl q ↦ let (e, e', r, z) = two-get _ o q in
+        rw (eqb-true f _ z) (both-below sizes _ _ _ _ (ne-of-lt (entries-rise sizes 0 o e e' fine r)) (in-fine sizes 0 o e (earlier-left r) fine .3) (in-fine sizes 0 o e' (earlier-right r) fine .3))
+    | inr q ↦ let (e, m, a) = any-get _ o q in
+        let (u, k, b) = some-get (length sizes) _ a in
+        let free = and-left (not (names o u)) (some (size sizes u) (λ y. eqb f (both sizes (e .variable) (e .after) u y) && possible sizes pairs o u y)) b in
+        let (y, j, c) = some-get (size sizes u) _ (and-right (not (names o u)) _ b) in
+        rw (eqb-true f _ (and-left (eqb f (both sizes (e .variable) (e .after) u y)) (possible sizes pairs o u y) c))
+        (both-below sizes _ _ _ _ (unnamed-apart o e u m (not-true _ free)) (in-fine sizes 0 o e m fine .3) j)
+  ]
+
   -- ---- closed by pairs
 
   -- Two after atoms are paired if a listed pair joins two.

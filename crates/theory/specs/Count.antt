@@ -7,8 +7,10 @@ use native.Mathlib.Omega.{arith}
 use native.Mathlib.Nat.{add-mul, suc-mul}
 use native.Mathlib.Numerals.{add-one}
 use lib.ListN.{length, length-append}
-use Rattle.meaning.specs.Sets.{flat, count}
-use Rattle.theory.specs.Truth.{on, off, test}
+use Rattle.meaning.specs.Sets.{listed, flat, count}
+use Rattle.meaning.specs.Task.{Run}
+use Rattle.theory.specs.Truth.{on, off, test, less, same, more, order}
+use Rattle.theory.specs.Run.{members, members-listed}
 
 pub count-most : (n : ℕ) (p : ℕ → Bool) → count n p ≤ n
 unfolding count
@@ -19,6 +21,28 @@ pub count-cong : (n : ℕ) (p q : ℕ → Bool) → ((i : ℕ) → i < n → p i
 unfolding count
 count-cong zero p q h = refl
 count-cong (suc n) p q h = ap₂ (λ a b. a + cond b 1 0) (count-cong n p q (λ i l. h i (omega arith))) (h n (omega arith))
+
+-- What is within another set has no more members,
+pub count-within : (n : ℕ) (p q : ℕ → Bool) → ((i : ℕ) → p i ≡ true → q i ≡ true) → count n p ≤ count n q
+unfolding count
+count-within zero p q h = omega arith
+count-within (suc n) p q h = elim (test (p n)) [
+  | on e ↦ rw (e, h n e) (omega (arith, count-within n p q h))
+  | off e ↦ rw e (omega (arith, count-within n p q h))
+]
+
+-- and fewer where it lacks one.
+pub count-less : (n : ℕ) (p q : ℕ → Bool) → ((i : ℕ) → p i ≡ true → q i ≡ true) → (k : ℕ) → k < n → p k ≡ false → q k ≡ true → count n p < count n q
+unfolding count
+count-less zero p q h k l e t = absurd (omega arith)
+count-less (suc n) p q h k l e t = elim (order k n) [
+  | less m ↦ elim (test (p n)) [
+    | on z ↦ rw (z, h n z) (omega (arith, count-less n p q h k m e t))
+    | off z ↦ rw z (omega (arith, count-less n p q h k m e t))
+  ]
+  | same z ↦ rw (← z, e, t) (omega (arith, rw (← z) at (count-within n p q h)))
+  | more m ↦ absurd (omega arith)
+]
 
 -- The first, and those after it.
 pub count-front : (n : ℕ) (p : ℕ → Bool) → count (suc n) p ≡ cond (p 0) 1 0 + count n (λ k. p (suc k))
@@ -101,3 +125,8 @@ module _ {A : Type 0} where
   length-total zero c f g h = omega arith
   length-total (suc n) c f g h =
       length-append (flat n g) (g n) ∙ ap₂ _+_ (length-total n c f g (λ i l. h i (omega arith))) (h n (omega arith)) ∙ sym (add-mul (total n f) (f n) c)
+
+-- A run is as long as the number of its members.
+pub run-count : (lo n : ℕ) (l : List ℕ) → Run lo l n → length l ≡ count n (listed l)
+unfolding members
+run-count lo n l r = ap length (sym (members-listed lo n l r)) ∙ length-some n (listed l) (λ f. f)

@@ -1,11 +1,12 @@
 -- What a call that writes a file leaves where it does not refuse: the bytes of the file, with their number as its answer, and the others as they were.
-use Prim.Native.Nat.{ℕ}
-use mathlib.Core.Path.{_≡_, ap, _∙_}
+use Prim.Native.Nat.{ℕ, _≤_}
+use mathlib.Core.Path.{_≡_, refl, ap, _∙_}
 use mathlib.Core.List.{List, _++_}
 use native.Mathlib.Omega.{arith}
 use lib.Dec.{ltb}
 use lib.ListN.{length, take, drop}
 use lib.Seq.{take-at, drop-at}
+use borrow.Author.Tests.{le-ltb}
 use Rattle.meaning.specs.Number.{Reason, Small, refusal, Read, got}
 use Rattle.meaning.specs.Answer.{done, refused, Outcome, refuses, writes, delivered, byRead}
 use Rattle.theory.specs.Truth.{on, off, test}
@@ -15,6 +16,10 @@ pub record Leaves (file room lent : List ℕ) (k : ℕ) : Type 0 where
   pub width : length file ≡ k
   pub front : take k lent ≡ file
   pub others : drop k lent ≡ drop k room
+
+-- Where the room has k bytes, a file of k bytes is written.
+pub delivered-written : (file room : List ℕ) (k : ℕ) → length file ≡ k → k ≤ length room → delivered file room ≡ writes k file room
+delivered-written file room k e h = rw (e, le-ltb (length room) k h) refl
 
 module _ (room lent : List ℕ) (k : ℕ) where
   -- A result is no refusal.

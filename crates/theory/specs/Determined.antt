@@ -1,6 +1,6 @@
 -- Each call of the library and the program has one outcome: two that its relation allows for the same input are equal.
 use Prim.Native.Nat.{ℕ, _<_}
-use mathlib.Core.Path.{_≡_, refl, ap, sym, _∙_, subst}
+use mathlib.Core.Path.{_≡_, refl, ap, ap₂, sym, _∙_, subst}
 use mathlib.Core.Logic.{_⊎_, inl, inr, Iff·rfl}
 use mathlib.Core.Bool.{Bool, true, false, _||_, cond}
 use mathlib.Core.List.{List, [], _∷_}
@@ -8,25 +8,29 @@ use native.Mathlib.Nat.{le-antisymm}
 use lib.Dec.{ltb}
 use lib.ListN.{length, getD}
 use Rattle.meaning.specs.Sets.{Set, listed}
-use Rattle.meaning.specs.Limits.{mostInput}
+use Rattle.meaning.specs.Limits.{mostInput, faultWords}
 use Rattle.meaning.specs.Task.{Task}
 use Rattle.meaning.specs.Feature.{features}
+use Rattle.meaning.specs.Pair.{holds}
 use Rattle.meaning.specs.Weight.{LeastOf, Separates}
 use Rattle.meaning.specs.Number.{Reason, Small, Malformed, refusal, Read, got, fault}
-use Rattle.meaning.specs.File.{judgedTask, judgedWeights}
+use Rattle.meaning.specs.File.{taskOf, judgedTask, judgedWeights, weightBytes, taskBytes}
 use Rattle.meaning.specs.Workspace.{Content, wordsOf, wordsFor, wordsDue, WellFormed, contentOf}
-use Rattle.meaning.specs.Answer.{Outcome, done, refused, refuses, writes, byRead, accepted, endsAlike, breaks, Breaks, Judges, ChecksAs, OpensAs}
+use Rattle.meaning.specs.Answer.{Outcome, done, refused, refuses, writes, delivered, byRead, accepted, endsAlike, breaks, Breaks, Judges, ChecksAs, OpensAs}
 use Rattle.meaning.specs.Answer.{separated, FindsIn, FindsBy, Finds, Edit, addOperator, replaceStart, replaceGoal, Judged, fine, faulty, editJudged, Changes, EditsIn, Edits}
 use Rattle.meaning.specs.Bay.{Builds, judgedBay}
 use Rattle.meaning.specs.Partial.{Partial, judgedPartial, BuildsBy, Silences}
+use Rattle.meaning.specs.Mend.{Good, Dropped, mended, Mends, Drops, startHolds, operatorBreaks, LeastHeld, LeastUnclosed, FindsFault, FaultsPairs}
 use Rattle.meaning.specs.Line.{nothing, separating, Seeks, Says, tooLarge, Prints}
-use Rattle.theory.specs.Truth.{less, same, more, order}
+use Rattle.theory.specs.Truth.{clash, Order, less, same, more, order}
 use Rattle.theory.specs.Flat.{flat-cong, getD-in}
 use Rattle.theory.specs.Run.{members, members-listed}
+use Rattle.theory.specs.Slots.{least-same}
 use Rattle.theory.specs.SlotsOf.{slots-only}
 use Rattle.theory.specs.Whole.{whole-same}
 use Rattle.theory.specs.Words.{packed-cong}
 use Rattle.theory.specs.Contents.{formed-only, withSlots}
+use Rattle.theory.specs.Mending.{held-holds, largest-only, dropped-only}
 
 -- ---- how such statements are put together
 
@@ -138,6 +142,45 @@ builds-by-only out file room = writes-only (judgedPartial out file) _ room
 
 pub silences-only : (task marks room : List ℕ) → AtMostOne (Silences task marks room)
 silences-only task marks room = writes-only (judgedTask task) _ room
+
+-- ---- pair lists made by hand
+
+pub mends-only : (task room : List ℕ) → AtMostOne (Mends task room)
+mends-only task room = read-only (taskOf task 0) _ (λ reason. refuses reason room)
+    (λ T a b h h'. h .2 ∙ ap (λ kept. delivered (taskBytes (mended T kept)) room) (largest-only T (h .0) (h' .0) (h .1) (h' .1)) ∙ sym (h' .2))
+
+pub drops-only : (task room : List ℕ) → AtMostOne (Drops task room)
+drops-only task room = read-only (taskOf task 0) _ (λ reason. refuses reason room)
+    (λ T a b h h'. let kept = largest-only T (h' .0) (h .0) (h' .2) (h .2) in
+    h .4 ∙ ap (λ dropped. delivered (weightBytes dropped) room) (dropped-only T (h .0) (h .1) (h' .1) (h .3) (subst (λ l. Dropped T l (h' .1)) kept (h' .3))) ∙ sym (h' .4))
+
+-- A start that holds a listed pair is not free of them.
+held-not-free : (T : Task) (f : ℕ) → LeastHeld T f → holds (T .sizes) (listed (T .pairs)) (T .start) ≡ false → ⊥
+held-not-free T f h free = clash (held-holds (T .sizes) (listed (T .pairs)) (T .start) f (h .member)) free
+
+-- A good list is closed under every operator, so none is named.
+good-not-broken : (T : Task) (j f : ℕ) → Good T (listed (T .pairs)) → LeastUnclosed T j f → ⊥
+good-not-broken T j f good h = clash (good .closed-under (getD (T .operators) j []) (getD-in (T .operators) j [] (h .counted))) (h .broken)
+
+pub fault-only : (T : Task) (room : List ℕ) → AtMostOne (FindsFault T room)
+fault-only T room a b (inl h) (inl h') = h .1 ∙ sym (h' .1)
+fault-only T room a b (inl h) (inr (inl h')) = absurd (held-not-free T (h' .0) (h' .1) (h .0 .free))
+fault-only T room a b (inl h) (inr (inr h')) = absurd (good-not-broken T (h' .1) (h' .0) (h .0) (h' .2))
+fault-only T room a b (inr (inl h)) (inl h') = absurd (held-not-free T (h .0) (h .1) (h' .0 .free))
+fault-only T room a b (inr (inl h)) (inr (inl h')) = h .2 ∙ ap (λ f. writes startHolds (f ∷ []) room) (least-same _ (h .0) (h' .0) (h .1) (h' .1)) ∙ sym (h' .2)
+fault-only T room a b (inr (inl h)) (inr (inr h')) = absurd (held-not-free T (h .0) (h .1) (h' .2 .free))
+fault-only T room a b (inr (inr h)) (inl h') = absurd (good-not-broken T (h .1) (h .0) (h' .0) (h .2))
+fault-only T room a b (inr (inr h)) (inr (inl h')) = absurd (held-not-free T (h' .0) (h' .1) (h .2 .free))
+fault-only T room a b (inr (inr h)) (inr (inr h')) = h .3 ∙ by (order (h .1) (h' .1)) ∙ sym (h' .3)
+  where
+    by : Order (h .1) (h' .1) → writes operatorBreaks (h .0 ∷ h .1 ∷ []) room ≡ writes operatorBreaks (h' .0 ∷ h' .1 ∷ []) room
+    by (less l) = absurd (clash (h' .2 .earlier (h .1) l) (h .2 .broken))
+    by (same q) = ap₂ (λ f j. writes operatorBreaks (f ∷ j ∷ []) room) (least-same _ (h .0) (h' .0) (h .2 .least) (rw (← q) at (h' .2 .least))) q
+    by (more l) = absurd (clash (h .2 .earlier (h' .1) l) (h' .2 .broken))
+
+pub faults-only : (task room : List ℕ) → AtMostOne (FaultsPairs task room)
+faults-only task room = read-only (taskOf task 0) _ (λ reason. refuses reason room)
+    (λ T. if-only (ltb (length room) faultWords) _ _ (is-only (refuses Small room)) (fault-only T room))
 
 -- ---- the program
 

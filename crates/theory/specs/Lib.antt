@@ -39,6 +39,7 @@ pub mod ReadBack
 pub mod AsRead
 pub mod BytesOf
 pub mod Accepted
+pub mod Mending
 pub mod Operands
 pub mod Histories
 pub mod Finder
@@ -57,6 +58,8 @@ pub mod PartialFile
 pub mod PartialParts
 pub mod PartialNamed
 pub mod PartialDemands
+pub mod MendingDemands
+pub mod Shorter
 pub mod Silence
 pub mod BayOrders
 pub mod Asked

@@ -9,15 +9,16 @@ use native.Mathlib.Omega.{arith}
 use lib.Dec.{leb, ltb}
 use lib.ListN.{length}
 use borrow.Author.Tests.{ltb-true, ltb-false, le-leb, lt-leb}
-use Rattle.meaning.specs.Limits.{mostInput, mostProgramFeatures}
+use Rattle.meaning.specs.Limits.{mostInput, mostProgramFeatures, faultWords}
 use Rattle.meaning.specs.Task.{Task}
 use Rattle.meaning.specs.Feature.{features}
 use Rattle.meaning.specs.Number.{Reason, Small, Malformed, refusal, Read, got, fault}
-use Rattle.meaning.specs.File.{judgedTask, judgedWeights}
+use Rattle.meaning.specs.File.{taskOf, judgedTask, judgedWeights, weightBytes, taskBytes}
 use Rattle.meaning.specs.Workspace.{Content, wordsFor, wordsDue, WellFormed}
 use Rattle.meaning.specs.Answer.{Answer, done, refused, Outcome, refuses, writes, delivered, byRead, Verdict, ChecksAs, OpensAs}
 use Rattle.meaning.specs.Answer.{FindsIn, FindsBy, Finds, Judged, fine, faulty, need, Edit, editJudged, EditsIn, Edits}
 use Rattle.meaning.specs.Partial.{Partial, partialBytes, silenced, marksJudged, silencesBy, Silences}
+use Rattle.meaning.specs.Mend.{Largest, Dropped, mended, Mends, Drops, FindsFault, FaultsPairs}
 use Rattle.meaning.specs.Line.{Found, Seeks, tooLarge, Prints}
 use Rattle.theory.specs.Truth.{on, off, test}
 use Rattle.theory.specs.Operands.{unless}
@@ -52,6 +53,10 @@ silenceJudged task marks room =
     fileJudged (judgedTask task)
     (λ T. unless (marksJudged T marks) (roomJudged (length (partialBytes (silenced T marks))) room))
 
+-- pair_fault: the task up to 5, then two words.
+abbrev pub faultJudged : List ℕ → List ℕ → Judged
+faultJudged task room = fileJudged (taskOf task 0) (λ T. roomJudged faultWords room)
+
 -- "W words for a finder's answer even where that is 'none'".
 abbrev pub findJudged : List ℕ → Content → Judged
 findJudged room c = roomJudged (wordsFor (features (c .sizes))) room
@@ -72,6 +77,24 @@ abbrev pub FaultyIn : List ℕ → (Content → Judged) → ℕ → Type 0
 FaultyIn workspace judged n =
     ((WellFormed workspace → ⊥) × (n ≡ refusal Malformed))
     ⊎ ((formed : WellFormed workspace) × Faulty (judged (formed .content)) n)
+
+-- mend: the task up to 5, then the file of the task with what is kept.
+abbrev pub FaultyMend : List ℕ → List ℕ → ℕ → Type 0
+FaultyMend task room n =
+    byRead (taskOf task 0)
+    (λ T. (kept : List ℕ) × Largest T kept × Faulty (roomJudged (length (taskBytes (mended T kept))) room) n)
+    (λ reason. n ≡ refusal reason)
+
+-- dropped: the task up to 5, then the list of what is not kept.
+abbrev pub FaultyDrop : List ℕ → List ℕ → ℕ → Type 0
+FaultyDrop task room n =
+    byRead (taskOf task 0)
+    (λ T. (kept : List ℕ)
+    × (dropped : List ℕ)
+    × Largest T kept
+    × Dropped T kept dropped
+    × Faulty (roomJudged (length (weightBytes dropped)) room) n)
+    (λ reason. n ≡ refusal reason)
 
 -- ---- when a call refuses
 
@@ -153,6 +176,37 @@ module _ (n : ℕ) (left : List ℕ) where
           ↔ (Faulty (unless judged (roomJudged (length (partialBytes P)) room)) n × (left ≡ room))
       marked fine P = delivered-refused (partialBytes P) room
       marked (faulty reason) P = refusal-alike n left room reason
+
+  -- What was read decides, or what was found for it.
+  found-refused : {A : Type 0} (read : Read A) (room : List ℕ) (Good Fault : A → Type 0) (Bad : Reason → Type 0) → ((a : A) → Good a ↔ (Fault a × (left ≡ room)))
+      → ((reason : Reason) → Bad reason ↔ ((n ≡ refusal reason) × (left ≡ room))) → byRead read Good Bad ↔ (byRead read Fault (λ reason. n ≡ refusal reason) × (left ≡ room))
+  found-refused (got a next) room Good Fault Bad good bad = good a
+  found-refused (fault reason place) room Good Fault Bad good bad = bad reason
+
+  pub mends-refused : (task room : List ℕ) → Mends task room (record { answer = refused n; lent = left }) ↔ (FaultyMend task room n × (left ≡ room))
+  mends-refused task room = found-refused (taskOf task 0) room _ _ _
+      (λ T. (
+        λ h. let (f, q) = delivered-refused (taskBytes (mended T (h .0))) room .0 (h .2) in ((h .0, h .1, f), q),
+        λ h. (h .0 .0, h .0 .1, delivered-refused (taskBytes (mended T (h .0 .0))) room .1 (h .0 .2, h .1)),
+      ))
+      (refusal-alike n left room)
+
+  pub drops-refused : (task room : List ℕ) → Drops task room (record { answer = refused n; lent = left }) ↔ (FaultyDrop task room n × (left ≡ room))
+  drops-refused task room = found-refused (taskOf task 0) room _ _ _
+      (λ T. (
+        λ h. let (f, q) = delivered-refused (weightBytes (h .1)) room .0 (h .4) in ((h .0, h .1, h .2, h .3, f), q),
+        λ h. (h .0 .0, h .0 .1, h .0 .2, h .0 .3, delivered-refused (weightBytes (h .0 .1)) room .1 (h .0 .4, h .1)),
+      ))
+      (refusal-alike n left room)
+
+  no-fault : (T : Task) (room : List ℕ) → FindsFault T room (record { answer = refused n; lent = left }) → ⊥
+  no-fault T room (inl h) = not-done n left _ _ refl (h .1)
+  no-fault T room (inr (inl h)) = not-done n left _ _ refl (h .2)
+  no-fault T room (inr (inr h)) = not-done n left _ _ refl (h .3)
+
+  pub faults-refused : (task room : List ℕ) → FaultsPairs task room (record { answer = refused n; lent = left }) ↔ (Faulty (faultJudged task room) n × (left ≡ room))
+  faults-refused task room = read-refused (taskOf task 0) _ _ _ (λ first. Faulty first n × (left ≡ room))
+      (λ T. room-refused n left room faultWords _ _ (refusal-alike n left room Small) (no-fault T room)) (refusal-alike n left room)
 
   -- A workspace that is not well formed, or what its content decides.
   formed-refused : {A : Type 0} (workspace lent : List ℕ) (By : Content → Outcome A → Type 0) (judged : Content → Judged)

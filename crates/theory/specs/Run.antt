@@ -69,6 +69,12 @@ unfolding Run
 run-in lo hi l f r (here {x} {xs} q) = omega (arith, run-length (suc x) hi xs (r .1))
 run-in lo hi l f r (there {x} {xs} m) = omega (arith, run-in (suc x) hi xs f (r .1) m)
 
+-- A run whose numbers are all from another bound on begins there.
+pub run-inside : (lo hi lo' : ℕ) (l : List ℕ) → lo' ≤ hi → Run lo l hi → ((f : ℕ) → In f l → lo' ≤ f) → Run lo' l hi
+unfolding Run
+run-inside lo hi lo' [] k r h = k
+run-inside lo hi lo' (x ∷ l) k r h = (h x (here refl), r .1)
+
 -- A number outside the bounds is not in the run.
 pub run-outside : (lo hi : ℕ) (l : List ℕ) (f : ℕ) → Run lo l hi → (lo ≤ f → f < hi → ⊥) → listed l f ≡ false
 run-outside lo hi l f r d = elim (test (listed l f)) [ on e ↦ let h = run-in lo hi l f r (listed-in l f e) in absurd (d (h .0) (h .1)) | off e ↦ e ]

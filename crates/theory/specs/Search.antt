@@ -139,6 +139,9 @@ unfolding anyOf
 any-not p [] h = refl
 any-not p (x ∷ xs) h = or-neither (p x) (anyOf p xs) (h x (here refl)) (any-not p xs (λ a m. h a (there m)))
 
+pub any-none : {A : Type 0} (p : A → Bool) (l : List A) → anyOf p l ≡ false → (a : A) → In a l → p a ≡ false
+any-none p l e a m = elim (test (p a)) [ on q ↦ absurd (clash (any-at p l a m q) e) | off q ↦ q ]
+
 -- An element that passes, or the fact that none does.
 pub data SomeOf {A : Type 0} (p : A → Bool) (l : List A) : Type 0 where
   member : (a : A) → In a l → p a ≡ true → SomeOf p l
@@ -177,6 +180,9 @@ pub all-at : {A : Type 0} (p : A → Bool) (l : List A) → allOf p l ≡ true �
 unfolding allOf
 all-at p l e a (here {x} {xs} q) = rw q (and-left (p x) (allOf p xs) e)
 all-at p l e a (there {x} {xs} m) = all-at p xs (and-right (p x) (allOf p xs) e) a m
+
+pub all-not : {A : Type 0} (p : A → Bool) (l : List A) (a : A) → In a l → p a ≡ false → allOf p l ≡ false
+all-not p l a m q = elim (test (allOf p l)) [ on e ↦ absurd (clash (all-at p l e a m) q) | off e ↦ e ]
 
 pub all-cong : {A : Type 0} (p q : A → Bool) (l : List A) → ((a : A) → In a l → p a ≡ q a) → allOf p l ≡ allOf q l
 unfolding allOf

@@ -31,6 +31,14 @@ least (suc n) a = go (least n a) (test (a n))
     go (nothing h) (on e) = found n (omega arith) (record { member = e; first = h })
     go (nothing h) (off e) = nothing (below-suc n (λ f. a f ≡ false) h e)
 
+-- A set has one least member.
+pub least-same : (a : Set) (m m' : ℕ) → LeastMember m a → LeastMember m' a → m ≡ m'
+least-same a m m' p q = elim (order m m') [
+  | less l ↦ absurd (clash (p .member) (q .first m l))
+  | same e ↦ e
+  | more l ↦ absurd (clash (q .member) (p .first m' l))
+]
+
 -- The least member below n as a number to compute with; n itself where there is none.
 unfoldable pub lead : ℕ → Set → ℕ
 lead zero a = 0

@@ -2,6 +2,7 @@
 use Prim.Native.Nat.{ℕ, zero, suc, _*_, _/_, _%_, _^_, _<_}
 use mathlib.Core.Path.{_≡_, refl, ap, _∙_}
 use mathlib.Core.Logic.{_≢_}
+use mathlib.Core.Bool.{true, false, _||_}
 use mathlib.Core.List.{List, [], _∷_}
 use native.Mathlib.Omega.{arith}
 use lib.Dec.{eqb}
@@ -66,6 +67,25 @@ has-toggled l f g h = elim (test (eqb (g / 64) (f / 64))) [
     here : g / 64 ≡ f / 64 → bit (getD (toggled l f) (g / 64) 0) (g % 64) ≡ eqb g f ⊕ bit (getD l (g / 64) 0) (g % 64)
     here q = rw (q, toggled-word l f (omega arith), ← bits q, ← bit-power (f % 64) (g % 64))
         (bit-xor (getD l (f / 64) 0) (2 ^ (f % 64)) (g % 64) ∙ xor-comm (bit (getD l (f / 64) 0) (g % 64)) (bit (2 ^ (f % 64)) (g % 64)))
+
+-- ---- one feature put in
+
+-- Words with one member more, if it was none before.
+pub record Includes (before : List ℕ) (f : ℕ) (now : List ℕ) : Type 0 where
+  pub long : length now ≡ length before
+  pub each : (g : ℕ) → has now g ≡ (eqb g f || has before g)
+
+pub included-already : (l : List ℕ) (f : ℕ) → has l f ≡ true → Includes l f l
+included-already l f e = record {
+  long = refl;
+  each = λ g. elim (test (eqb g f)) [ on q ↦ rw (q, eqb-true g f q) e | off q ↦ rw q refl ];
+}
+
+pub included-now : (l : List ℕ) (f : ℕ) (now : List ℕ) → has l f ≡ false → f < wordBits * length l → now ≡ toggled l f → Includes l f now
+included-now l f now e h t = record {
+  long = ap length t ∙ length-toggled l f;
+  each = λ g. ap (λ m. has m g) t ∙ has-toggled l f g h ∙ elim (test (eqb g f)) [ on q ↦ rw (q, eqb-true g f q, e) refl | off q ↦ rw q refl ];
+}
 
 -- ---- words added
 

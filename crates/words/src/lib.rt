@@ -5,7 +5,7 @@ ghost use lib.ListN.{length, replicate};
 ghost use Rattle.meaning.specs.Limits.{wordBits};
 ghost use Rattle.meaning.specs.Sets.{odd, shared};
 ghost use Rattle.meaning.specs.Workspace.{has};
-ghost use Rattle.words.specs.Change.{toggled, summed};
+ghost use Rattle.words.specs.Change.{toggled, Includes, summed};
 ghost use Rattle.theory.specs.Tells.{Tells};
 ghost use Rattle.words.specs.Next.{Next, Empty};
 ghost use Rattle.words.specs.Members.{membersIn};
@@ -27,6 +27,17 @@ pub fn toggle(words: &mut [u64], f: usize)
 {
     let k = f / WORD_BITS;
     words[k] = words[k] ^ (1u64 << (f % WORD_BITS));
+}
+
+// Puts a feature in, where it is no member yet.
+pub fn include(words: &mut [u64], f: usize)
+    requires { ⌜ f < wordBits * length (now words) ⌝ }
+    ensures { λ r. ⌜ Includes (now (words .entry)) f (now (words .exit)) ⌝ }
+{
+    if has(words, f) {
+        return;
+    }
+    toggle(words, f);
 }
 
 // Adds a set to another: what exactly one of the two has.

@@ -41,6 +41,29 @@ fn line_answer(outcome: &Outcome<u8>) -> String {
     format!("line {}", first.join(" "))
 }
 
+/// The answer, or words of its own where so much was due.
+fn where_due(length: usize, words: &'static str) -> impl Fn(&Outcome<u8>) -> String {
+    move |outcome| {
+        if outcome.number == calls::done(length) {
+            words.to_string()
+        } else {
+            answer(outcome.number)
+        }
+    }
+}
+
+/// What is at fault with a list of pairs.
+fn fault_answer(outcome: &Outcome<u64>) -> String {
+    let words = match outcome.number {
+        number if number == calls::done(0) => "good",
+        number if number == calls::held() => "held",
+        number if number != calls::unclosed() => return answer(number),
+        _ if outcome.memory[1] == 0 => "unclosed at first operator",
+        _ => "unclosed at later operator",
+    };
+    words.to_string()
+}
+
 impl Both<'_> {
     fn judge<Kind: Item>(
         &mut self,
@@ -87,12 +110,31 @@ impl Both<'_> {
         reference: fn(&[From], &mut [Into]) -> u64,
         library: fn(&Lent<From>, &mut Lent<Into>) -> u64,
     ) -> Outcome<Into> {
+        let words = |outcome: &Outcome<Into>| answer(outcome.number);
+        self.filled_in_words(kind, (name, input), room, reference, library, words)
+    }
+
+    /// The same, with answers in words of their own.
+    fn filled_in_words<From: Item, Into: Item>(
+        &mut self,
+        kind: &'static str,
+        (name, input): (&'static str, &[From]),
+        room: &[Into],
+        reference: fn(&[From], &mut [Into]) -> u64,
+        library: fn(&Lent<From>, &mut Lent<Into>) -> u64,
+        words: impl Fn(&Outcome<Into>) -> String,
+    ) -> Outcome<Into> {
         let expected = Outcome::of(room, |room| reference(input, room));
         let lent = Lent::new(input);
         let (found, guards) = guarded(room, |room| library(&lent, room));
-        let kept = guards && lent.still_holds(input);
-        let inputs = || vec![(name, shown(input)), ("room", shown(room))];
-        self.judge(kind, &inputs, &expected, &found, kept);
+        let comparison = Comparison {
+            kind,
+            answer: words(&expected),
+            source: &self.source,
+            inputs: &|| vec![(name, shown(input)), ("room", shown(room))],
+            outside_kept: guards && lent.still_holds(input),
+        };
+        self.tally.judge(&comparison, &expected, &found);
         expected
     }
 
@@ -166,18 +208,9 @@ impl Both<'_> {
     }
 
     pub fn line(&mut self, input: &[u8], room: &[u8]) -> Outcome<u8> {
-        let expected = Outcome::of(room, |room| calls::line(input, room));
-        let lent = Lent::new(input);
-        let (found, guards) = guarded(room, |room| library::line(&lent, room));
-        let comparison = Comparison {
-            kind: "line",
-            answer: line_answer(&expected),
-            source: &self.source,
-            inputs: &|| vec![("input", shown(input)), ("room", shown(room))],
-            outside_kept: guards && lent.still_holds(input),
-        };
-        self.tally.judge(&comparison, &expected, &found);
-        expected
+        let (reference, library) = (calls::line, library::line);
+        let input = ("input", input);
+        self.filled_in_words("line", input, room, reference, library, line_answer)
     }
 
     pub fn weight_file(&mut self, words: &[u64], room: &[u8]) -> Outcome<u8> {
@@ -266,6 +299,25 @@ impl Both<'_> {
         };
         self.judge("silence", &inputs, &expected, &found, kept);
         expected
+    }
+
+    pub fn mend(&mut self, task: &[u8], room: &[u8]) -> Outcome<u8> {
+        let (reference, library) = (calls::mend, library::mend);
+        let words = where_due(task.len(), "unchanged");
+        self.filled_in_words("mend", ("task", task), room, reference, library, words)
+    }
+
+    pub fn dropped(&mut self, task: &[u8], room: &[u8]) -> Outcome<u8> {
+        let (reference, library) = (calls::dropped, library::dropped);
+        // A count of 0 is one byte; with any pair there are two or more.
+        let words = where_due(1, "nothing");
+        self.filled_in_words("dropped", ("task", task), room, reference, library, words)
+    }
+
+    pub fn pair_fault(&mut self, task: &[u8], room: &[u64]) -> Outcome<u64> {
+        let (reference, library) = (calls::pair_fault, library::pair_fault);
+        let task = ("task", task);
+        self.filled_in_words("pair_fault", task, room, reference, library, fault_answer)
     }
 
     /// Whether the library opens a task to exactly the words that edits led to.

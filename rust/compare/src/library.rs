@@ -99,6 +99,24 @@ extern "C" {
         room: *mut u8,
         room_length: usize,
     ) -> u64;
+    fn florumeja_mend(
+        task: *const u8,
+        task_length: usize,
+        room: *mut u8,
+        room_length: usize,
+    ) -> u64;
+    fn florumeja_dropped(
+        task: *const u8,
+        task_length: usize,
+        room: *mut u8,
+        room_length: usize,
+    ) -> u64;
+    fn florumeja_pair_fault(
+        task: *const u8,
+        task_length: usize,
+        room: *mut u64,
+        room_length: usize,
+    ) -> u64;
 }
 
 /// A call that reads two slices of bytes.
@@ -238,4 +256,16 @@ pub fn build_partial_lean(partial: &Lent<u8>, room: &mut Lent<u8>) -> u64 {
 
 pub fn silence(task: &Lent<u8>, marks: &Lent<u8>, room: &mut Lent<u8>) -> u64 {
     written(florumeja_silence, task, marks, room)
+}
+
+pub fn mend(task: &Lent<u8>, room: &mut Lent<u8>) -> u64 {
+    filled(florumeja_mend, task, room)
+}
+
+pub fn dropped(task: &Lent<u8>, room: &mut Lent<u8>) -> u64 {
+    filled(florumeja_dropped, task, room)
+}
+
+pub fn pair_fault(task: &Lent<u8>, room: &mut Lent<u64>) -> u64 {
+    filled(florumeja_pair_fault, task, room)
 }

@@ -4,6 +4,7 @@ use crate::both::Both;
 use crate::groups::{Group, GROUPS};
 use crate::tally::Tally;
 use reference::sample::Generator;
+use std::cmp::Reverse;
 use std::time::Instant;
 
 /// All seeds come from this one.
@@ -49,8 +50,18 @@ fn run_group(tally: &mut Tally, place: usize, plan: Plan) {
     eprintln!("{}: {:.1} s", group.name, begun.elapsed().as_secs_f64());
 }
 
+/// The places of the groups in the order in which they are run.
+fn places(plan: Plan) -> Vec<usize> {
+    let mut places: Vec<usize> = (0..GROUPS.len()).collect();
+    if plan.stop {
+        // A case of a group that has many is soon run.
+        places.sort_by_key(|place| Reverse(GROUPS[*place].cases));
+    }
+    places
+}
+
 pub fn run_all(tally: &mut Tally, plan: Plan) {
-    for place in 0..GROUPS.len() {
+    for place in places(plan) {
         run_group(tally, place, plan);
         if plan.stop && tally.failed() > 0 {
             return;

@@ -5,7 +5,7 @@ use std::collections::BTreeMap;
 use std::fmt::Write;
 
 /// The kinds of comparison, in the order of the report.
-pub const KINDS: [&str; 17] = [
+pub const KINDS: [&str; 20] = [
     "check",
     "open",
     "find",
@@ -23,10 +23,13 @@ pub const KINDS: [&str; 17] = [
     "build_partial",
     "build_partial_lean",
     "silence",
+    "mend",
+    "dropped",
+    "pair_fault",
 ];
 
 /// Answers that a run of all groups has to meet, or it says nothing of them.
-pub const DUE: [(&str, &str); 10] = [
+pub const DUE: [(&str, &str); 36] = [
     ("build", "done"),
     ("build", "refused 1"),
     ("build", "refused 2"),
@@ -37,6 +40,32 @@ pub const DUE: [(&str, &str); 10] = [
     ("build", "refused 11"),
     ("build_lots", "done"),
     ("build_lots", "refused 8"),
+    ("mend", "done"),
+    ("mend", "unchanged"),
+    ("mend", "refused 1"),
+    ("mend", "refused 2"),
+    ("mend", "refused 3"),
+    ("mend", "refused 4"),
+    ("mend", "refused 5"),
+    ("mend", "refused 8"),
+    ("dropped", "done"),
+    ("dropped", "nothing"),
+    ("dropped", "refused 1"),
+    ("dropped", "refused 2"),
+    ("dropped", "refused 3"),
+    ("dropped", "refused 4"),
+    ("dropped", "refused 5"),
+    ("dropped", "refused 8"),
+    ("pair_fault", "good"),
+    ("pair_fault", "held"),
+    ("pair_fault", "unclosed at first operator"),
+    ("pair_fault", "unclosed at later operator"),
+    ("pair_fault", "refused 1"),
+    ("pair_fault", "refused 2"),
+    ("pair_fault", "refused 3"),
+    ("pair_fault", "refused 4"),
+    ("pair_fault", "refused 5"),
+    ("pair_fault", "refused 8"),
 ];
 
 /// More items than this are shown only where they differ.
@@ -136,9 +165,11 @@ fn show<Kind: Item>(comparison: &Comparison, expected: &Outcome<Kind>, found: &O
     for (name, text) in (comparison.inputs)() {
         println!("  {name}: {text}");
     }
+    println!("  due: {}", comparison.answer);
     for (side, outcome) in [("reference", expected), ("library", found)] {
-        let (number, memory) = (outcome.number, shown(&outcome.memory));
-        println!("  {side}: {number:#x}, {}; memory {memory}", answer(number));
+        let (case, value) = (outcome.number >> 32, outcome.number & 0xFFFF_FFFF);
+        let memory = shown(&outcome.memory);
+        println!("  {side}: case {case}, value {value}; memory {memory}");
     }
     let different = places(&expected.memory, &found.memory);
     println!("  places of memory that differ: {different}");

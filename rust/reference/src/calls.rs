@@ -3,10 +3,11 @@
 use crate::bay::read_bay;
 use crate::feature_set::{words_for, FeatureSet};
 use crate::line::{check_line as checker_line, line as finder_line};
+use crate::mending::{dropped as dropped_pairs, first_fault, mended, PairFault};
 use crate::partial::{read_built, silenced, LeftOut};
 use crate::refusal::Refusal;
 use crate::separation::{judged, judged_task, Verdict};
-use crate::task::{read_task, Task, MOST_FEATURES};
+use crate::task::{read_numbers, read_task, Task, MOST_FEATURES};
 use crate::weights::weight_file as file_of;
 use crate::workspace::{Record, Workspace};
 
@@ -26,6 +27,16 @@ pub fn denied() -> u64 {
 /// The operator that breaks.
 pub fn broken(operator: usize) -> u64 {
     2 * CASE + operator as u64
+}
+
+/// The start holds a listed pair.
+pub fn held() -> u64 {
+    CASE
+}
+
+/// A pair is unclosed; its operator is told in lent words.
+pub fn unclosed() -> u64 {
+    2 * CASE
 }
 
 pub fn refused(refusal: Refusal) -> u64 {
@@ -142,6 +153,37 @@ pub fn build_partial_lean(partial: &[u8], room: &mut [u8]) -> u64 {
 pub fn silence(task: &[u8], marks: &[u8], room: &mut [u8]) -> u64 {
     let partial = read_task(task).and_then(|task| silenced(&task, marks));
     settle(partial.and_then(|partial| fill(room, &partial.file())))
+}
+
+pub fn mend(task: &[u8], room: &mut [u8]) -> u64 {
+    settle(read_numbers(task).and_then(|task| fill(room, &mended(&task).file())))
+}
+
+pub fn dropped(task: &[u8], room: &mut [u8]) -> u64 {
+    settle(read_numbers(task).and_then(|task| fill(room, &file_of(&dropped_pairs(&task)))))
+}
+
+pub fn pair_fault(task: &[u8], room: &mut [u64]) -> u64 {
+    settle(try_pair_fault(task, room))
+}
+
+fn try_pair_fault(task: &[u8], room: &mut [u64]) -> Result<u64, Refusal> {
+    let task = read_numbers(task)?;
+    // The room is judged even where nothing is written, or one word.
+    let [first, second, ..] = room else {
+        return Err(Refusal::Room);
+    };
+    Ok(match first_fault(&task) {
+        None => done(0),
+        Some(PairFault::Held(pair)) => {
+            *first = pair as u64;
+            held()
+        }
+        Some(PairFault::Unclosed { pair, operator }) => {
+            (*first, *second) = (pair as u64, operator as u64);
+            unclosed()
+        }
+    })
 }
 
 pub fn line(input: &[u8], room: &mut [u8]) -> u64 {

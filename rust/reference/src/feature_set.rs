@@ -44,6 +44,10 @@ impl FeatureSet {
         self.words[member / 64] |= 1 << (member % 64);
     }
 
+    pub fn remove(&mut self, member: usize) {
+        self.words[member / 64] &= !(1 << (member % 64));
+    }
+
     pub fn toggle(&mut self, member: usize) {
         self.words[member / 64] ^= 1 << (member % 64);
     }

@@ -10,6 +10,7 @@ pub mod features;
 pub mod finder;
 pub mod forced;
 pub mod line;
+pub mod mending;
 pub mod numbers;
 pub mod operators;
 pub mod partial;

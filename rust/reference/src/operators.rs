@@ -68,10 +68,14 @@ impl Pairing {
         Pairing { features, listed }
     }
 
+    /// The number of two atoms' feature, if it is listed.
+    fn listed_pair(&self, one: Atom, other: Atom) -> Option<usize> {
+        let number = self.features.mixed(one, other);
+        number.filter(|number| self.listed.contains(*number))
+    }
+
     pub fn paired(&self, one: Atom, other: Atom) -> bool {
-        self.features
-            .mixed(one, other)
-            .is_some_and(|number| self.listed.contains(number))
+        self.listed_pair(one, other).is_some()
     }
 
     fn any_two_paired(&self, atoms: &[Atom]) -> bool {
@@ -84,12 +88,16 @@ impl Pairing {
         others.iter().any(|other| self.paired(atom, *other))
     }
 
+    /// The listed pairs that a state holds, increasing.
+    pub fn held(&self, state: &[usize]) -> Vec<usize> {
+        let mut pairs = self.listed.members();
+        pairs.retain(|number| self.features.feature(*number).holds(state));
+        pairs
+    }
+
     /// Whether a state holds a listed pair.
     pub fn held_by(&self, state: &[usize]) -> bool {
-        self.listed
-            .members()
-            .into_iter()
-            .any(|number| self.features.feature(number).holds(state))
+        !self.held(state).is_empty()
     }
 
     /// The atoms of the variables that an operator doesn't name.
@@ -142,6 +150,26 @@ impl Pairing {
             !self.paired_with_any(*atom, &afters) || self.paired_with_any(*atom, &befores)
         };
         !self.any_two_paired(&afters) && self.unnamed_atoms(operator).iter().all(excused)
+    }
+
+    /// The pairs by which the list isn't closed under an operator, increasing.
+    pub fn unclosed(&self, operator: &Operator) -> Vec<usize> {
+        if self.idle(operator) {
+            return Vec::new();
+        }
+        let afters = operator.after_atoms();
+        // An after atom may stand beside another one, or beside an unnamed one that is possible.
+        let mut beside = self.unnamed_atoms(operator);
+        beside.retain(|atom| self.possible(operator, *atom));
+        beside.extend(&afters);
+        let mut pairs = Vec::new();
+        for after in afters {
+            let with_after = |other: &Atom| self.listed_pair(after, *other);
+            pairs.extend(beside.iter().filter_map(with_after));
+        }
+        pairs.sort_unstable();
+        pairs.dedup();
+        pairs
     }
 }
 

@@ -60,7 +60,8 @@ pub fn read_task(bytes: &[u8]) -> Result<Task, Refusal> {
     Ok(task)
 }
 
-fn read_numbers(bytes: &[u8]) -> Result<Task, Refusal> {
+/// Reads a task file up to its last byte; pairs aren't judged yet.
+pub fn read_numbers(bytes: &[u8]) -> Result<Task, Refusal> {
     let mut reader = Reader::new(bytes);
     let sizes = read_sizes(&mut reader)?;
     let start = read_state(&mut reader, &sizes)?;

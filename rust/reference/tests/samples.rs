@@ -1,9 +1,14 @@
-//! What is drawn: bays of all kinds, so that tests and comparisons over them say something.
+//! What is drawn: bays and pair lists of all kinds, so that tests and comparisons over them say
+//! something.
 
 use reference::bay::{read_bay, times, Bay, GAP};
+use reference::mending::{dropped, first_fault, mended, PairFault};
 use reference::refusal::Refusal;
 use reference::sample::bays::{bay, mislabel, shapes};
+use reference::sample::handmade::{handmade_task, paired_sizes};
+use reference::sample::tasks::{MEDIUM, SMALL, WIDE};
 use reference::sample::Generator;
+use reference::task::Task;
 
 const DRAWN: usize = 400;
 
@@ -21,10 +26,10 @@ fn drawn(damage: impl Fn(&mut Generator, &mut Bay)) -> Vec<Vec<Bay>> {
     shapes.into_iter().map(draws).collect()
 }
 
-/// Each kind has one bay in forty or more.
-fn has_all(bays: &[Bay], kinds: &[fn(&Bay) -> bool]) {
+/// Each kind has one in forty or more of what is drawn.
+fn has_all<Drawn>(drawn: &[Drawn], kinds: &[fn(&Drawn) -> bool]) {
     for (place, kind) in kinds.iter().enumerate() {
-        let count = bays.iter().filter(|bay| kind(bay)).count();
+        let count = drawn.iter().filter(|each| kind(each)).count();
         assert!(count >= DRAWN / 40, "{count} of kind {place}");
     }
 }
@@ -68,6 +73,58 @@ fn labels_with_all_faults_are_drawn() {
                 |bay| gaps(bay) == [1, 2],
                 |bay| bay.judge_gaps().is_err() && bay.judge_lots().is_ok(),
                 |bay| read_bay(&bay.file()) == Err(Refusal::Lots),
+            ],
+        );
+    }
+}
+
+/// A pair is dropped that was at fault only once others were dropped.
+fn has_chain(task: &Task) -> bool {
+    let pairing = task.pairing();
+    let mut at_once = pairing.held(&task.start);
+    for operator in &task.operators {
+        at_once.extend(pairing.unclosed(operator));
+    }
+    let dropped = dropped(task).members();
+    dropped.iter().any(|pair| !at_once.contains(pair))
+}
+
+/// An operator that was idle acts once pairs are dropped.
+fn wakes_operators(task: &Task) -> bool {
+    let (before, after) = (task.pairing(), mended(task).pairing());
+    let woken = |operator| before.idle(operator) && !after.idle(operator);
+    task.operators.iter().any(woken)
+}
+
+#[test]
+fn pair_lists_of_all_kinds_are_drawn() {
+    let mut generator = Generator::new(0x5A3C);
+    for scale in [SMALL, MEDIUM, WIDE] {
+        let mut draw = || {
+            let sizes = paired_sizes(&mut generator, scale);
+            handmade_task(&mut generator, &sizes, scale.most_operators)
+        };
+        let tasks: Vec<Task> = (0..DRAWN).map(|_| draw()).collect();
+        has_all(
+            &tasks,
+            &[
+                |task| task.pairs.is_empty(),
+                |task| !task.pairs.is_empty() && first_fault(task).is_none(),
+                |task| matches!(first_fault(task), Some(PairFault::Held(_))),
+                |task| {
+                    let fault = first_fault(task);
+                    matches!(fault, Some(PairFault::Unclosed { operator: 0, .. }))
+                },
+                |task| {
+                    let fault = first_fault(task);
+                    matches!(fault, Some(PairFault::Unclosed { operator: 1.., .. }))
+                },
+                |task| !task.pairs.is_empty() && mended(task).pairs.is_empty(),
+                |task| !mended(task).pairs.is_empty() && first_fault(task).is_some(),
+                // Nearly good.
+                |task| (1..4).contains(&dropped(task).members().len()) && task.pairs.len() > 8,
+                has_chain,
+                wakes_operators,
             ],
         );
     }

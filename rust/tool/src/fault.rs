@@ -2,6 +2,7 @@
 
 use crate::characters::is_plain;
 use crate::json::Json;
+use crate::pair_list::Culprit;
 
 /// How much of a long line is shown, and how much of it before the place.
 const WIDEST_PART: usize = 70;
@@ -11,6 +12,8 @@ const ONE_MORE_VALUE: &str = "in the built task each variable has one value more
 const NO_LONGER_IDLE: &str =
     "an operator that was idle for want of a possible value is not idle in \
                               the built task, where \"unknown\" is always possible";
+const MEND: &str = "florumeja mend TASK -o FILE writes the task without the pairs that cannot stay";
+const NOT_MENDED: &str = "florumeja mend mends task files, not partial files";
 
 /// Why no answer was given.
 #[derive(Debug)]
@@ -21,6 +24,8 @@ pub enum Fault {
     Refused(u32),
     /// The same, and what may help.
     Explained(u32, String),
+    /// The library refused a pair list, and this pair is behind it.
+    Pair(Culprit),
     /// Files, the command line, or answers that do not fit together.
     Failure(String),
 }
@@ -56,7 +61,8 @@ impl Fault {
     pub fn of_partial(self) -> Fault {
         match self {
             Fault::Refused(2) => Fault::Explained(2, ONE_MORE_VALUE.to_string()),
-            Fault::Refused(7) => Fault::Explained(7, NO_LONGER_IDLE.to_string()),
+            Fault::Refused(6) => Fault::Explained(6, NOT_MENDED.to_string()),
+            Fault::Refused(7) => Fault::Explained(7, format!("{NO_LONGER_IDLE}; {NOT_MENDED}")),
             other => other,
         }
     }
@@ -67,6 +73,10 @@ impl Fault {
             Fault::Text(fault) => fault.words(),
             Fault::Refused(number) => refusal_words(*number),
             Fault::Explained(number, words) => format!("{} ({words})", refusal_words(*number)),
+            Fault::Pair(culprit) => {
+                let refusal = refusal_words(culprit.refusal());
+                format!("{refusal} ({}; {MEND})", culprit.words())
+            }
             Fault::Failure(words) => words.clone(),
         }
     }
@@ -101,6 +111,10 @@ impl Fault {
             Fault::Text(fault) => fields.extend(fault.fields()),
             Fault::Refused(number) | Fault::Explained(number, _) => {
                 fields.push(("refusal", refusal_json(*number)))
+            }
+            Fault::Pair(culprit) => {
+                fields.push(("refusal", refusal_json(culprit.refusal())));
+                fields.push(("pair", culprit.json()));
             }
             Fault::Failure(_) => {}
         }

@@ -103,6 +103,30 @@ mod tests {
         assert_eq!(Features::new(vec![9; 9]).count(), 2997);
     }
 
+    // Seven atoms, then the pairs of variables 0 and 1 (six), 0 and 2 (four), 1 and 2 (six).
+    #[test]
+    fn features_are_numbered_by_the_rules() {
+        let features = Features::new(vec![2, 3, 2]);
+        let single = |variable, value| Feature::Single(Atom::new(variable, value));
+        let pair = |(i, x), (j, y)| Feature::Pair(Atom::new(i, x), Atom::new(j, y));
+        let due = [
+            (0, single(0, 0)),
+            (2, single(1, 0)),
+            (6, single(2, 1)),
+            (7, pair((0, 0), (1, 0))),
+            (9, pair((0, 0), (1, 2))),
+            (10, pair((0, 1), (1, 0))),
+            (13, pair((0, 0), (2, 0))),
+            (16, pair((0, 1), (2, 1))),
+            (17, pair((1, 0), (2, 0))),
+            (22, pair((1, 2), (2, 1))),
+        ];
+        for (number, feature) in due {
+            assert_eq!(features.get(number), feature, "{number}");
+        }
+        assert_eq!(features.count(), 23);
+    }
+
     #[test]
     fn the_second_value_of_a_pair_runs_faster() {
         let features = Features::new(vec![2, 3]);

@@ -19,7 +19,7 @@ pub fn tool() -> String {
          florumeja --version shows the version. In the folder of the sources ./florumeja install\n\
          PREFIX installs the tool and the library.\n\
          \n\
-         Exit status: 0 IMPOSSIBLE (or separated, accepted, opened, built, silenced),\n\
+         Exit status: 0 IMPOSSIBLE (or separated, accepted, opened, built, silenced, mended),\n\
          1 no proof (or none, rejected), 2 refused or an error. In scripts take care that 0\n\
          means IMPOSSIBLE.\n",
         table(names.collect())

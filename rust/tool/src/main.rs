@@ -17,6 +17,7 @@ mod keeping;
 mod library;
 mod numbers;
 mod output;
+mod pair_list;
 mod picture;
 mod progress;
 mod question;

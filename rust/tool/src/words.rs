@@ -10,6 +10,14 @@ pub fn counted(count: usize, noun: &str) -> String {
     format!("{count} {noun}{ending}")
 }
 
+/// Words one after the other, as in "A", "A and B" and "A, B and C".
+pub fn joined(words: &[String]) -> String {
+    match words.split_last() {
+        Some((last, others)) if !others.is_empty() => format!("{} and {last}", others.join(", ")),
+        _ => words.concat(),
+    }
+}
+
 /// The word for a count's parity.
 pub fn parity(count: usize) -> &'static str {
     if count % 2 == 1 {

@@ -12,7 +12,7 @@ use borrow.Author.Needs.{needs}
 use borrow.Author.Tests.{not-true, not-false}
 use Rattle.meaning.specs.Limits.{mostVariables, mostAtoms}
 use Rattle.meaning.specs.Task.{Operator, IsOperator}
-use Rattle.meaning.specs.Feature.{features}
+use Rattle.meaning.specs.Feature.{atoms, features}
 use Rattle.meaning.specs.Number.{Read, got}
 use Rattle.meaning.specs.File.{operatorOf}
 use Rattle.meaning.specs.Answer.{operatorIn}
@@ -33,7 +33,7 @@ use Rattle.task.proofs.are_closed.Tie as tie
 
 abbrev Inv-loop : tie.InvT-loop
 Inv-loop bytes at count sizes pairs end possible closed₀ next judged after n variables befores afters pair₀ closed pair =
-    (closed ≡ true) × Reached sizes pairs (entriesIn variables befores afters) pair
+    (closed ≡ true) × Reached sizes pairs (entriesIn variables befores afters) (atoms sizes) pair
 
 abbrev μ-loop : tie.MeasureT-loop
 μ-loop bytes at count sizes pairs end possible closed₀ next judged after n variables befores afters pair₀ closed pair = end - pair .feature
@@ -164,7 +164,7 @@ first-pair-requires : tie.Need-first-pair-requires Inv-loop μ-loop Inv-walk μ-
 first-pair-requires c κs = let s = turn (c .before) in (start s .pre, all s)
 
 loop-holds : tie.Need-loop-holds Inv-loop μ-loop Inv-walk μ-walk
-loop-holds c = let s = turn (c .before .before) in (top s .walk .inv .1, reached-first _ _ _ (start s .pre) _ (c .first-pair .ensures))
+loop-holds c = let s = turn (c .before .before) in (top s .walk .inv .1, reached-first _ _ _ (start s .pre) _ _ (c .first-pair .ensures))
 
 slice-aggregate-is-unclosed : tie.Need-slice-aggregate-is-unclosed Inv-loop μ-loop Inv-walk μ-walk
 slice-aggregate-is-unclosed c = search needs
@@ -181,7 +181,7 @@ loop-less c = omega (arith, c .next-pair .ensures .next .above, c .before .befor
 
 loop-again : tie.Need-loop-again Inv-loop μ-loop Inv-walk μ-walk
 loop-again c = let (still, reached) = c .before .before .before .before .before .before .loop .inv in
-    (still, reached-next _ _ _ (start (pair-turn (c .before .before)) .pre) _ _ reached (sym (c .before .before .is-unclosed .ensures) ∙ c .before .if3 .left) (c .next-pair .ensures))
+    (still, reached-next _ _ _ (start (pair-turn (c .before .before)) .pre) _ _ _ reached (sym (c .before .before .is-unclosed .ensures) ∙ c .before .if3 .left) (c .next-pair .ensures))
 
 add-judged : tie.Need-add-judged Inv-loop μ-loop Inv-walk μ-walk
 add-judged c = let s = turn (c .before) in omega (arith, s .before .before .before .walk-test .taken, start s .fits .count)

@@ -156,11 +156,81 @@ pub enum Fault {
     GoalLotsOccur,
     /// The last two labels aren't counted; the last one alone would follow from the others.
     LastLotsUncounted,
+    /// Each operator is judged once, in its turn; what later drops leave unclosed stays.
+    OnePass,
+    /// An operator is judged again only for a dropped pair whose first atom it has before.
+    FirstAtomWakes,
+    /// An operator that is idle under the list that came is never judged.
+    IdleStaysIdle,
+    /// Mending keeps the pairs that the start holds.
+    HeldPairsKept,
+    /// Mending drops the pairs that the goal holds.
+    GoalPairsDropped,
+    /// Where a pair is dropped, the last one that could stay is dropped too.
+    OnePairTooMany,
+    /// Only pairs of two after atoms are dropped as unclosed.
+    NamedPairsOnly,
+    /// Where a pair is unclosed, all pairs of its operator's after atoms are dropped.
+    ExcusedDropped,
+    /// Pairs of an idle operator's after atoms are dropped.
+    IdleDropped,
+    /// Mending refuses a start that holds a pair.
+    MendingRefusesHeld,
+    /// Mending refuses a list that isn't closed.
+    MendingRefusesUnclosed,
+    /// Mending lets left-over bytes pass.
+    MendingTakesLeftOver,
+    /// No room is refused before a file to mend is judged.
+    MendingRoomFirst,
+    /// Mending needs room for the file that came.
+    MendingRoomAsCame,
+    /// Room that is too short is filled as far as it goes.
+    MendingFillsShortRoom,
+    /// A refused mending, or telling what is dropped, clears the room.
+    MendingSpoilsRefused,
+    /// Past the mended file stands the end of the one that came.
+    MendingLeavesTail,
+    /// The mended file has the count of the pairs that came.
+    MendingCountAsCame,
+    /// The dropped pairs are told in the order in which they were dropped.
+    DroppedUnordered,
+    /// The pairs that the start holds aren't told as dropped.
+    DroppedWithoutHeld,
+    /// The last dropped pair isn't told, if there are several.
+    DroppedWithoutLast,
+    /// What is at fault with a list is the last pair that the start holds.
+    NamingLastHeld,
+    /// What is at fault with a list is the last unclosed pair of the first operator.
+    NamingLastPair,
+    /// What is at fault with a list is told of the last operator.
+    NamingLastOperator,
+    /// What is at fault with a list is the least unclosed pair of all operators.
+    NamingLeastOfAll,
+    /// The number of the operator at fault leaves idle ones out.
+    NamingCountsLive,
+    /// What is at fault with a list is told of operators before the start.
+    NamingOperatorsFirst,
+    /// The number of the operator at fault is the answer's value too.
+    NamingInValue,
+    /// What is at fault with a list is refused.
+    NamingRefuses,
+    /// Where the start holds a pair, the second word is cleared.
+    NamingFillsBothWords,
+    /// Where a list is good, two words are cleared.
+    NamingClearsGood,
+    /// Where the start holds a pair, one word is room enough.
+    NamingHeldInOneWord,
+    /// Where a list is good, no room is needed.
+    NamingGoodInNoWord,
+    /// The two words are asked for before a file is judged for its list.
+    NamingRoomFirst,
+    /// Where what is at fault can't be told, the words are cleared.
+    NamingSpoilsRefused,
 }
 
 use Fault::*;
 
-pub const FAULTS: [Fault; 75] = [
+pub const FAULTS: [Fault; 110] = [
     AcceptsAlike,
     CountsLiveOperators,
     LastOperator,
@@ -236,6 +306,41 @@ pub const FAULTS: [Fault; 75] = [
     EqualGapsPass,
     GoalLotsOccur,
     LastLotsUncounted,
+    OnePass,
+    FirstAtomWakes,
+    IdleStaysIdle,
+    HeldPairsKept,
+    GoalPairsDropped,
+    OnePairTooMany,
+    NamedPairsOnly,
+    ExcusedDropped,
+    IdleDropped,
+    MendingRefusesHeld,
+    MendingRefusesUnclosed,
+    MendingTakesLeftOver,
+    MendingRoomFirst,
+    MendingRoomAsCame,
+    MendingFillsShortRoom,
+    MendingSpoilsRefused,
+    MendingLeavesTail,
+    MendingCountAsCame,
+    DroppedUnordered,
+    DroppedWithoutHeld,
+    DroppedWithoutLast,
+    NamingLastHeld,
+    NamingLastPair,
+    NamingLastOperator,
+    NamingLeastOfAll,
+    NamingCountsLive,
+    NamingOperatorsFirst,
+    NamingInValue,
+    NamingRefuses,
+    NamingFillsBothWords,
+    NamingClearsGood,
+    NamingHeldInOneWord,
+    NamingGoodInNoWord,
+    NamingRoomFirst,
+    NamingSpoilsRefused,
 ];
 
 thread_local! {

@@ -11,7 +11,7 @@ use reference::operators::{
 };
 use reference::refusal::Refusal;
 use reference::separation::{keeps_by_changes, verdict, Verdict};
-use reference::task::{read_task, Task};
+use reference::task::{read_numbers, read_task, Task};
 use reference::weights::read_weights;
 use reference::workspace::{words_due, Workspace};
 
@@ -30,16 +30,25 @@ fn shortened(bytes: &[u8]) -> Vec<u8> {
     encode(&numbers)
 }
 
+/// A file up to the end of its last operator.
+pub fn without_left_over(bytes: &[u8]) -> &[u8] {
+    let mut length = bytes.len();
+    while read_numbers(&bytes[..length]) == Err(Refusal::LeftOver) {
+        length -= 1;
+    }
+    &bytes[..length]
+}
+
 /// The task of a file, read as leniently as the planted fault says.
 fn lenient_task(bytes: &[u8]) -> Result<Task, Refusal> {
     if planted(LongForms) {
         return read_task(&shortened(bytes));
     }
-    let mut length = bytes.len();
-    while planted(LeftOverPasses) && read_task(&bytes[..length]) == Err(Refusal::LeftOver) {
-        length -= 1;
-    }
-    let read = read_task(&bytes[..length]);
+    let read = if planted(LeftOverPasses) {
+        read_task(without_left_over(bytes))
+    } else {
+        read_task(bytes)
+    };
     if planted(AfterExcuses) && read == Err(Refusal::NotClosed) {
         return lenient_pairs(bytes).ok_or(Refusal::NotClosed);
     }
@@ -48,7 +57,7 @@ fn lenient_task(bytes: &[u8]) -> Result<Task, Refusal> {
 
 /// A task that is refused only for pairs of an after atom and an unnamed one.
 fn lenient_pairs(bytes: &[u8]) -> Option<Task> {
-    let task = task_with_any_pairs(bytes)?;
+    let task = read_numbers(bytes).ok()?;
     let pairing = task.pairing();
     let excused = |operator: &Operator| {
         pairing.idle(operator) || {
@@ -69,17 +78,6 @@ pub fn numbers_of(bytes: &[u8]) -> Vec<usize> {
         numbers.push(number as usize);
     }
     numbers
-}
-
-/// Reads a task whose pairs are at fault, by reading it without them first.
-fn task_with_any_pairs(bytes: &[u8]) -> Option<Task> {
-    let mut numbers = numbers_of(bytes);
-    let head = 1 + 3 * numbers[0];
-    let listed: Vec<usize> = numbers.drain(head..=head + numbers[head]).skip(1).collect();
-    numbers.insert(head, 0);
-    let mut task = read_task(&encode(&numbers)).ok()?;
-    task.pairs = listed;
-    Some(task)
 }
 
 pub fn check(task: &[u8], weights: &[u8]) -> u64 {

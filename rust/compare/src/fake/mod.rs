@@ -3,6 +3,7 @@
 mod bays;
 mod faults;
 mod files;
+mod mending;
 mod partials;
 mod words;
 mod written;
@@ -14,6 +15,7 @@ pub use faults::{plant, Fault, FAULTS};
 use bays::build;
 use faults::{planted, Fault::*};
 use files::{check, open};
+use mending::{dropped, mend, pair_fault};
 use partials::{build_partial, build_partial_lean, check_partial, open_partial, silence};
 use reference::workspace::Record;
 use words::{add_operator, find, replace_goal, replace_start};
@@ -241,4 +243,34 @@ unsafe extern "C" fn florumeja_silence(
         lent(marks, marks_length),
         lent_for_writing(room, room_length),
     )
+}
+
+#[no_mangle]
+unsafe extern "C" fn florumeja_mend(
+    task: *const u8,
+    task_length: usize,
+    room: *mut u8,
+    room_length: usize,
+) -> u64 {
+    mend(lent(task, task_length), lent_for_writing(room, room_length))
+}
+
+#[no_mangle]
+unsafe extern "C" fn florumeja_dropped(
+    task: *const u8,
+    task_length: usize,
+    room: *mut u8,
+    room_length: usize,
+) -> u64 {
+    dropped(lent(task, task_length), lent_for_writing(room, room_length))
+}
+
+#[no_mangle]
+unsafe extern "C" fn florumeja_pair_fault(
+    task: *const u8,
+    task_length: usize,
+    room: *mut u64,
+    room_length: usize,
+) -> u64 {
+    pair_fault(lent(task, task_length), lent_for_writing(room, room_length))
 }

@@ -2,16 +2,16 @@
 
 use super::ample_room;
 use crate::both::Both;
-use reference::features::{Feature, Features};
 use reference::numbers::LARGEST;
 use reference::operators::{Entry, Operator};
 use reference::partial::{built_sizes, LeftOut, Partial};
+use reference::sample::handmade::hold_pair;
 use reference::sample::partials::{accepted_partial, completed};
 use reference::sample::Generator;
 use reference::workspace::words_due;
 
 /// The operator that sets a value to itself; every list of pairs is closed under it.
-fn staying(generator: &mut Generator, sizes: &[usize]) -> Operator {
+pub(super) fn staying(generator: &mut Generator, sizes: &[usize]) -> Operator {
     let variable = generator.below(sizes.len());
     let value = generator.below(sizes[variable]);
     Operator {
@@ -20,16 +20,6 @@ fn staying(generator: &mut Generator, sizes: &[usize]) -> Operator {
             before: value,
             after: value,
         }],
-    }
-}
-
-/// Lets the start hold the first listed pair, if there is one.
-fn hold_pair(partial: &mut Partial) {
-    let features = Features::new(&partial.sizes);
-    let first = partial.pairs.first().map(|pair| features.feature(*pair));
-    if let Some(Feature::Mixed(one, other)) = first {
-        partial.start[one.variable] = one.value;
-        partial.start[other.variable] = other.value;
     }
 }
 
@@ -82,7 +72,9 @@ pub fn counted(both: &mut Both, generator: &mut Generator) {
         judge_count(both, generator, &partial, left_out);
         silence(both, generator, &partial);
         // A pair that the start holds is judged after the count.
-        hold_pair(&mut partial);
+        if let Some(pair) = partial.pairs.first() {
+            hold_pair(&partial.sizes, *pair, &mut partial.start);
+        }
         judge_count(both, generator, &partial, left_out);
     }
 }

@@ -6,6 +6,7 @@ mod files;
 mod kept;
 mod large;
 mod lines;
+mod mended;
 mod partials;
 mod sets;
 mod silenced;
@@ -25,7 +26,7 @@ pub struct Group {
 }
 
 /// The counts make an optimised run take less than two minutes.
-pub const GROUPS: [Group; 33] = [
+pub const GROUPS: [Group; 40] = [
     Group {
         name: "weights",
         cases: 40_000,
@@ -190,6 +191,41 @@ pub const GROUPS: [Group; 33] = [
         name: "every-small-bay",
         cases: 1,
         run: bays::every,
+    },
+    Group {
+        name: "handmade-lists",
+        cases: 12_000,
+        run: mended::lists,
+    },
+    Group {
+        name: "step-by-step",
+        cases: 4_000,
+        run: mended::step_by_step,
+    },
+    Group {
+        name: "damaged-lists",
+        cases: 30_000,
+        run: mended::damaged,
+    },
+    Group {
+        name: "handmade-bays",
+        cases: 80,
+        run: mended::bays,
+    },
+    Group {
+        name: "large-lists",
+        cases: 100,
+        run: mended::large,
+    },
+    Group {
+        name: "late-operators",
+        cases: 120,
+        run: mended::late_operators,
+    },
+    Group {
+        name: "every-small-list",
+        cases: 1,
+        run: mended::every,
     },
 ];
 

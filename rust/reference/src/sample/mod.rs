@@ -2,6 +2,7 @@
 
 pub mod bays;
 pub mod damage;
+pub mod handmade;
 pub mod partials;
 pub mod tasks;
 pub mod workspaces;

@@ -2,7 +2,7 @@
 
 use super::Generator;
 use crate::feature_set::FeatureSet;
-use crate::features::{count_features, Atom, Feature, Features, State};
+use crate::features::{count_features, Atom, Features, State};
 use crate::forced::{generators, Generators};
 use crate::operators::{conditions, Entry, Operator, Pairing};
 use crate::separation::keeps_by_changes;
@@ -280,36 +280,12 @@ pub(super) fn free_start(sizes: &[usize], start: &[usize], pairs: &mut Vec<usize
     pairs.retain(|pair| !features.feature(*pair).holds(start));
 }
 
-/// The pairs by which a list isn't closed under an operator.
-fn open_pairs(pairing: &Pairing, operator: &Operator) -> Vec<usize> {
-    let (befores, afters) = (operator.before_atoms(), operator.after_atoms());
-    let kept_out = |atom: Atom| befores.iter().any(|before| pairing.paired(*before, atom));
-    let mut open = Vec::new();
-    for after in &afters {
-        for number in pairing.listed.members() {
-            let Feature::Mixed(one, other) = pairing.features.feature(number) else {
-                continue;
-            };
-            let partner = match *after {
-                atom if atom == one => other,
-                atom if atom == other => one,
-                _ => continue,
-            };
-            let named = operator.names(partner.variable);
-            if named && afters.contains(&partner) || !named && !kept_out(partner) {
-                open.push(number);
-            }
-        }
-    }
-    open
-}
-
 /// The pairs by which a task's list isn't closed under the first such operator.
 pub(super) fn first_open_pairs(task: &Task) -> Option<Vec<usize>> {
     let pairing = task.pairing();
     let mut operators = task.operators.iter();
     let open = operators.find(|operator| !pairing.closed(operator))?;
-    Some(open_pairs(&pairing, open))
+    Some(pairing.unclosed(open))
 }
 
 /// Drops pairs until the list is closed under every operator.

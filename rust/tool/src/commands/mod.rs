@@ -4,6 +4,7 @@ mod ask;
 mod build;
 mod check;
 mod find;
+mod mend;
 mod open;
 pub mod partial;
 mod report;
@@ -40,6 +41,7 @@ pub const COMMANDS: &[Command] = &[
     check::COMMAND,
     build::COMMAND,
     silence::COMMAND,
+    mend::COMMAND,
     open::COMMAND,
 ];
 

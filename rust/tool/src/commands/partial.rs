@@ -3,6 +3,7 @@
 use crate::args::{Arguments, Choice};
 use crate::fault::Fault;
 use crate::library::{self, Verdict, Workspace};
+use crate::pair_list;
 
 pub const PARTIAL: Choice = Choice {
     long: "--partial",
@@ -73,7 +74,7 @@ impl Reading {
 
     fn told(self, fault: Fault, file: &[u8]) -> Fault {
         match self {
-            Reading::Task => fault.about(file),
+            Reading::Task => pair_list::told(fault.about(file), file),
             _ => fault.about(file).of_partial(),
         }
     }

@@ -7,6 +7,7 @@ use crate::files;
 use crate::json::Json;
 use crate::library;
 use crate::output::{complain, Status};
+use crate::pair_list;
 use crate::words::counted;
 use std::ffi::OsStr;
 
@@ -97,7 +98,7 @@ fn give(arguments: &Arguments, marks: &[u8], partial: &[u8]) -> Result<(), Fault
 // A task that opens by itself is not at fault: then it is the marks, or the limits of what is built.
 fn told(fault: Fault, task: &[u8], marks: &[u8]) -> Fault {
     let Ok(workspace) = library::open(task) else {
-        return fault.about(task);
+        return pair_list::told(fault.about(task), task);
     };
     let variables = workspace.features().sizes().len();
     match fault {

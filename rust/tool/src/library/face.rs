@@ -72,4 +72,22 @@ extern "C" {
         room: *mut u8,
         room_length: usize,
     ) -> u64;
+    pub fn florumeja_mend(
+        task: *const u8,
+        task_length: usize,
+        room: *mut u8,
+        room_length: usize,
+    ) -> u64;
+    pub fn florumeja_dropped(
+        task: *const u8,
+        task_length: usize,
+        room: *mut u8,
+        room_length: usize,
+    ) -> u64;
+    pub fn florumeja_pair_fault(
+        task: *const u8,
+        task_length: usize,
+        room: *mut u64,
+        room_length: usize,
+    ) -> u64;
 }

@@ -1,10 +1,12 @@
 //! The face of the proved static library: the only place where a verdict comes from.
 
 mod face;
+mod pairs;
 mod workspace;
 
 use crate::fault::Fault;
 use face::*;
+pub use pairs::{dropped, mend, pair_fault, Reason};
 pub use workspace::Workspace;
 
 // Room for the largest results that the rules' limits allow: 64 variables, 4,096 features, and in

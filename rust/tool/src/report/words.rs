@@ -2,6 +2,7 @@
 
 use crate::bay::{Bay, GAP};
 use crate::features::{Atom, Feature};
+use crate::words::joined;
 
 /// Slots get letters, or numbers where pallets have letters, so that nobody takes a slot for a
 /// pallet.
@@ -14,12 +15,8 @@ pub fn slot(bay: &Bay, index: usize) -> char {
 pub fn slots(bay: &Bay, indices: &[usize]) -> String {
     let name = |&index: &usize| slot(bay, index).to_string();
     let names: Vec<String> = indices.iter().map(name).collect();
-    match names.split_last() {
-        Some((last, others)) if !others.is_empty() => {
-            format!("slots {} and {last}", others.join(", "))
-        }
-        _ => format!("slot {}", names.concat()),
-    }
+    let ending = if names.len() > 1 { "s" } else { "" };
+    format!("slot{ending} {}", joined(&names))
 }
 
 /// What a slot holds; a label that no pallet has stands in brackets.

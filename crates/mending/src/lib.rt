@@ -1,0 +1,235 @@
+// Mends a task's list of pairs: the file with the largest good sublist, the pairs that are dropped for it, and the pair behind a refusal 6 or 7.
+ghost use mathlib.Core.Path.{_≡_};
+ghost use mathlib.Core.List.{List};
+ghost use Prim.Native.Nat.{ℕ, _<_, _≤_};
+ghost use lib.ListN.{length};
+ghost use Rattle.meaning.specs.Limits.{numberEnd, faultWords};
+ghost use Rattle.meaning.specs.Workspace.{wordsFor};
+ghost use Rattle.meaning.specs.Answer.{delivered};
+ghost use Rattle.meaning.specs.Mend.{Mends, Drops, FaultsPairs};
+ghost use Rattle.task.specs.Answer.{ReadInto};
+ghost use Rattle.writer.specs.Answer.{outcomeOf};
+ghost use Rattle.writer.specs.Front.{Front};
+ghost use Rattle.mending.specs.Parts.{mendedBytes};
+ghost use Rattle.mending.specs.Answer.{KeptIn, faultOf};
+use keeping::Fault;
+use limits::FAULT_WORDS;
+use limits::HEADER_WORDS;
+use limits::MOST_WORDS;
+use number::Reason;
+use task::Judged;
+use writer::Written;
+
+// The list is good, the start holds a listed pair, the list is not closed under an operator, or the call is refused.
+pub enum PairFault {
+    Good,
+    Held,
+    Unclosed,
+    Refused(u64),
+}
+
+// Puts the pairs that are kept of a task that was read into words.
+fn fill_kept(
+    task: &[u8],
+    header: &[u64],
+    v: usize,
+    n: usize,
+    count: usize,
+    at: usize,
+    kept: &mut [u64],
+)
+    requires { ⌜ ((old : List ℕ) × ReadInto (now task) old (now header) v n count at) × (length (now kept) ≡ wordsFor n) ⌝ }
+    ensures { λ r. ⌜ KeptIn (now (task .entry)) (now (kept .exit)) ⌝ }
+{
+    words::copy(kept, layout::pairs(header, v, n));
+    keeping::keep_largest(
+        task,
+        at,
+        count,
+        layout::sizes(header, v),
+        layout::start(header, v, n),
+        kept,
+    );
+}
+
+// Writes the file of a mended task from its parts, if the room is long enough for all of it: the operators as they stand in the task's file.
+fn write_mended(
+    own: &[u8],
+    count: usize,
+    sizes: &[u64],
+    start: &[u64],
+    goal: &[u64],
+    kept: &[u64],
+    room: &mut [u8],
+) -> Written
+    requires { ⌜ Front (now sizes) (now start) (now goal) (now kept) × (count < numberEnd) ⌝ }
+    ensures { λ r. ⌜ outcomeOf r (now (room .exit))
+        ≡ delivered (mendedBytes count (now (own .entry)) (now (sizes .entry)) (now (start .entry)) (now (goal .entry)) (now (kept .entry))) (now (room .entry)) ⌝ }
+{
+    let front = writer::front_width(sizes, start, goal, kept);
+    let operators = number::width(count) + own.len();
+    if room.len() < front + operators {
+        return writer::refuse(Reason::Small);
+    }
+    let second = writer::write_front(room, sizes, start, goal, kept);
+    let third = number::write_number(room, second, count);
+    Written::Done(writer::write_bytes(room, third, own))
+}
+
+// Writes the mended task of a file that was read, by its header and its counts. The pairs that are kept go to the lent words.
+fn mend_in(
+    task: &[u8],
+    header: &[u64],
+    v: usize,
+    n: usize,
+    count: usize,
+    at: usize,
+    kept: &mut [u64],
+    room: &mut [u8],
+) -> Written
+    requires { ⌜ ((old : List ℕ) × ReadInto (now task) old (now header) v n count at) × (length (now kept) ≡ wordsFor n) ⌝ }
+    ensures { λ r. ⌜ Mends (now (task .entry)) (now (room .entry)) (outcomeOf r (now (room .exit))) ⌝ }
+{
+    fill_kept(task, header, v, n, count, at, kept);
+    write_mended(
+        &task[at..],
+        count,
+        layout::sizes(header, v),
+        layout::start(header, v, n),
+        layout::goal(header, v, n),
+        kept,
+        room,
+    )
+}
+
+// Writes the pairs that are dropped of a file that was read, by its header and its counts: the listed ones without those that are kept, in the lent words.
+fn drop_in(
+    task: &[u8],
+    header: &[u64],
+    v: usize,
+    n: usize,
+    count: usize,
+    at: usize,
+    pairs: &mut [u64],
+    room: &mut [u8],
+) -> Written
+    requires { ⌜ ((old : List ℕ) × ReadInto (now task) old (now header) v n count at) × (length (now pairs) ≡ wordsFor n) ⌝ }
+    ensures { λ r. ⌜ Drops (now (task .entry)) (now (room .entry)) (outcomeOf r (now (room .exit))) ⌝ }
+{
+    fill_kept(task, header, v, n, count, at, pairs);
+    words::add(pairs, layout::pairs(header, v, n));
+    writer::weight_file(pairs, room)
+}
+
+// Tells the fault of a list that was read, by its header and its counts; the room has a word for the pair and one for the operator.
+fn tell_fault(
+    task: &[u8],
+    header: &[u64],
+    v: usize,
+    n: usize,
+    count: usize,
+    at: usize,
+    room: &mut [u64],
+) -> PairFault
+    requires { ⌜ ((old : List ℕ) × ReadInto (now task) old (now header) v n count at) × (faultWords ≤ length (now room)) ⌝ }
+    ensures { λ r. ⌜ FaultsPairs (now (task .entry)) (now (room .entry)) (record { answer = faultOf r; lent = now (room .exit) }) ⌝ }
+{
+    match keeping::first_fault(
+        task,
+        at,
+        count,
+        layout::sizes(header, v),
+        layout::start(header, v, n),
+        layout::pairs(header, v, n),
+    ) {
+        Fault::Nothing => PairFault::Good,
+        Fault::Held(pair) => {
+            room[0] = pair as u64;
+            PairFault::Held
+        }
+        Fault::Unclosed(pair, operator) => {
+            room[0] = pair as u64;
+            room[1] = operator as u64;
+            PairFault::Unclosed
+        }
+    }
+}
+
+// Writes the task file that keeps of a task's listed pairs the largest good sublist.
+pub fn mend(task: &[u8], room: &mut [u8]) -> Written
+    ensures { λ r. ⌜ Mends (now (task .entry)) (now (room .entry)) (outcomeOf r (now (room .exit))) ⌝ }
+{
+    let mut header = [0u64; HEADER_WORDS];
+    match task::read(task, &mut header) {
+        Judged::Accepted {
+            variables,
+            features,
+            operators,
+            at,
+        } => {
+            let words = layout::words_for(features);
+            let mut kept = [0u64; MOST_WORDS];
+            mend_in(
+                task,
+                &header,
+                variables,
+                features,
+                operators,
+                at,
+                &mut kept[..words],
+                room,
+            )
+        }
+        Judged::Refused(reason, _) => writer::refuse(reason),
+    }
+}
+
+// Writes the listed pairs that are dropped for it, increasing, with their count.
+pub fn dropped(task: &[u8], room: &mut [u8]) -> Written
+    ensures { λ r. ⌜ Drops (now (task .entry)) (now (room .entry)) (outcomeOf r (now (room .exit))) ⌝ }
+{
+    let mut header = [0u64; HEADER_WORDS];
+    match task::read(task, &mut header) {
+        Judged::Accepted {
+            variables,
+            features,
+            operators,
+            at,
+        } => {
+            let words = layout::words_for(features);
+            let mut pairs = [0u64; MOST_WORDS];
+            drop_in(
+                task,
+                &header,
+                variables,
+                features,
+                operators,
+                at,
+                &mut pairs[..words],
+                room,
+            )
+        }
+        Judged::Refused(reason, _) => writer::refuse(reason),
+    }
+}
+
+// Says whether a task's list of pairs is good, and otherwise which pair is behind the refusal, and which operator. The file is judged up to 5, then the room.
+pub fn pair_fault(task: &[u8], room: &mut [u64]) -> PairFault
+    ensures { λ r. ⌜ FaultsPairs (now (task .entry)) (now (room .entry)) (record { answer = faultOf r; lent = now (room .exit) }) ⌝ }
+{
+    let mut header = [0u64; HEADER_WORDS];
+    match task::read(task, &mut header) {
+        Judged::Accepted {
+            variables,
+            features,
+            operators,
+            at,
+        } => {
+            if room.len() < FAULT_WORDS {
+                return PairFault::Refused(number::refusal(Reason::Small));
+            }
+            tell_fault(task, &header, variables, features, operators, at, room)
+        }
+        Judged::Refused(reason, _) => PairFault::Refused(number::refusal(reason)),
+    }
+}

@@ -1,13 +1,14 @@
 -- The listed pairs that are unclosed under an operator, marked one after another with their atoms.
 use Prim.Native.Nat.{ℕ, _+_, _<_, _≤_}
 use mathlib.Core.Path.{_≡_, refl, sym, ap, _∙_, subst}
+use mathlib.Core.Logic.{_≢_}
 use mathlib.Core.Bool.{Bool, true, false, _&&_}
 use mathlib.Core.List.{List}
 use native.Mathlib.Omega.{arith}
 use lib.Dec.{eqb, ltb}
 use lib.ListN.{length, getD, replicate, length-replicate}
 use borrow.Author.Tests.{eqb-true, eq-eqb, ne-eqb, ltb-true, ltb-false, lt-ltb, le-ltb}
-use Rattle.meaning.specs.Sets.{Set, _⊕_, some}
+use Rattle.meaning.specs.Sets.{_⊕_}
 use Rattle.meaning.specs.Task.{Operator, Entries}
 use Rattle.meaning.specs.Feature.{atoms, features, single}
 use Rattle.meaning.specs.Pair.{unclosedPair}
@@ -15,16 +16,17 @@ use Rattle.meaning.specs.Workspace.{has}
 use Rattle.meaning.specs.Answer.{operatorIn}
 use Rattle.meaning.specs.Mend.{Within}
 use Rattle.theory.specs.Truth.{on, off, test, clash, less, same, more, order}
-use Rattle.theory.specs.Search.{and-both, and-none-right, or-left, or-right, some-at}
+use Rattle.theory.specs.Search.{and-both, and-none-left, and-none-right, or-left, or-right, or-neither, some-at, some-not}
 use Rattle.theory.specs.Numbering.{single-below, double-only}
 use Rattle.theory.specs.Closed.{listedUnclosed, unclosed-above, unclosed-below}
-use Rattle.theory.specs.Mending.{touchedIn}
+use Rattle.theory.specs.Mending.{beforeIn, besideIn, touchedIn}
 use Rattle.theory.specs.Slices.{entriesIn, entryIn}
 use Rattle.numbering.specs.Order.{Joins}
 use Rattle.words.specs.Change.{toggled, length-toggled, has-toggled, Includes}
+use Rattle.words.specs.Next.{Next, Clear}
 use Rattle.words.specs.Part.{has-none}
 use Rattle.pairs.specs.declared.PairAt.{PairAt}
-use Rattle.pairs.specs.Places.{any-table, some-next, some-done}
+use Rattle.pairs.specs.Places.{any-table, two-table}
 use Rattle.pairs.specs.Ready.{Listed}
 use Rattle.pairs.specs.Walk.{Found, Reached, reached-first}
 
@@ -61,29 +63,73 @@ pub touched-both : (sizes : List ℕ) (f i x j y a b : ℕ) (before middle now :
 touched-both sizes f i x j y a b before middle now joins here first' there second' =
     both-put sizes f i x j y before middle now joins (subst (λ n. Includes before n middle) here first') (subst (λ n. Includes middle n now) there second')
 
--- Whether a before atom is touched, by places.
-pub touched-places : (sizes : List ℕ) (touched : Set) (variables befores afters : List ℕ)
-    → touchedIn sizes touched (entriesIn variables befores afters) ≡ some (length variables) (λ k. touched (single sizes (getD variables k 0) (getD befores k 0)))
-unfolding touchedIn operatorIn
-touched-places sizes touched variables befores afters = any-table _ (length variables) (entryIn variables befores afters)
+-- ---- what matters to an operator, by places
 
 module _ (sizes words variables befores : List ℕ) where
-  -- In turns: the atom at a place is in the set, or not, or none is.
-  abbrev atomIn : ℕ → Bool
+  -- The before atom at a place is in the set.
+  unfoldable pub atomIn : ℕ → Bool
   atomIn k = has words (single sizes (getD variables k 0) (getD befores k 0))
 
-  abbrev pub NoneTouched : ℕ → Type 0
-  NoneTouched k = some k atomIn ≡ false
+  -- From place to place.
+  pub atom-met : (start k a : ℕ) (told : Bool) → start ≤ k → k < length variables → Clear atomIn start k → a ≡ single sizes (getD variables k 0) (getD befores k 0) → told ≡ has words a → told ≡ true
+      → Next atomIn (length variables) start k
+  unfolding atomIn
+  atom-met start k a told above l clear e q t = record { above = above; within = omega arith; clear = clear; member = λ h. ap (has words) (sym e) ∙ sym q ∙ t }
 
-  pub touched-hit : (k a : ℕ) (found : Bool) → k < length variables → a ≡ single sizes (getD variables k 0) (getD befores k 0) → found ≡ has words a → found ≡ true
-      → (afters : List ℕ) → true ≡ touchedIn sizes (has words) (entriesIn variables befores afters)
-  touched-hit k a found l e told hit afters = sym (touched-places sizes (has words) variables befores afters ∙ some-at (length variables) atomIn k l (ap (has words) (sym e) ∙ sym told ∙ hit))
+  pub atom-passed : (start k a : ℕ) (told : Bool) → Clear atomIn start k → a ≡ single sizes (getD variables k 0) (getD befores k 0) → told ≡ has words a → told ≡ false → Clear atomIn start (k + 1)
+  unfolding atomIn
+  atom-passed start k a told clear e q t f l h = elim (order f k) [
+    | less m ↦ clear f l m
+    | same z ↦ rw z (ap (has words) (sym e) ∙ sym q ∙ t)
+    | more m ↦ absurd (omega arith)
+  ]
 
-  pub touched-miss : (k a : ℕ) (found : Bool) → NoneTouched k → a ≡ single sizes (getD variables k 0) (getD befores k 0) → found ≡ has words a → found ≡ false → NoneTouched (k + 1)
-  touched-miss k a found none e told miss = some-next k atomIn none (ap (has words) (sym e) ∙ sym told ∙ miss)
+  pub atoms-passed : (start k : ℕ) → start ≤ k → k ≤ length variables → length variables ≤ k → Clear atomIn start k → Next atomIn (length variables) start k
+  atoms-passed start k above within l clear = record { above = above; within = within; clear = clear; member = λ h. absurd (omega arith) }
 
-  pub touched-end : (k : ℕ) → k ≤ length variables → length variables ≤ k → NoneTouched k → (afters : List ℕ) → false ≡ touchedIn sizes (has words) (entriesIn variables befores afters)
-  touched-end k l h none afters = some-done (length variables) k atomIn l h none ∙ sym (touched-places sizes (has words) variables befores afters)
+  module _ (afters : List ℕ) where
+    -- In turns: none up to a place, the one there, or one further on.
+    touched-none : ((k : ℕ) → k < length variables → atomIn k ≡ false) → false ≡ touchedIn sizes (has words) (entriesIn variables befores afters)
+    unfolding touchedIn operatorIn atomIn
+    touched-none none = sym (or-neither _ _
+        (two-table _ (length variables) (entryIn variables befores afters) ∙ some-not (length variables) _ (λ l h. some-not l _ (λ k j. and-none-right (atomIn k) (atomIn l) (none l h))))
+        (and-none-left _ _ (any-table _ (length variables) (entryIn variables befores afters) ∙ some-not (length variables) _ none)))
+
+    touched-two : (k l : ℕ) → k < l → l < length variables → atomIn k ≡ true → atomIn l ≡ true → true ≡ touchedIn sizes (has words) (entriesIn variables befores afters)
+    unfolding touchedIn operatorIn atomIn
+    touched-two k l h j p q = sym (or-left _ _ (two-table _ (length variables) (entryIn variables befores afters) ∙ some-at (length variables) _ l j (some-at l _ k h (and-both (atomIn k) (atomIn l) p q))))
+
+    touched-one : (k : ℕ) → k < length variables → atomIn k ≡ true → ((l : ℕ) → l < length variables → l ≢ k → atomIn l ≡ false)
+        → besideIn sizes (has words) (entriesIn variables befores afters) ≡ touchedIn sizes (has words) (entriesIn variables befores afters)
+    unfolding touchedIn operatorIn atomIn
+    touched-one k h p others = sym (rw (
+      any-table (beforeIn sizes (has words)) (length variables) (entryIn variables befores afters) ∙ some-at (length variables) _ k h p,
+      two-table (λ e e'. beforeIn sizes (has words) e && beforeIn sizes (has words) e') (length variables) (entryIn variables befores afters)
+          ∙ some-not (length variables) _ (λ l j. some-not l _ (λ i m. apart i l m j)),
+    ) refl)
+      where
+        apart : (i l : ℕ) → i < l → l < length variables → (atomIn i && atomIn l) ≡ false
+        apart i l m j = elim (order i k) [
+          | less z ↦ and-none-left (atomIn i) (atomIn l) (others i (omega arith) (λ q. omega arith))
+          | same z ↦ and-none-right (atomIn i) (atomIn l) (others l j (λ q. omega arith))
+          | more z ↦ and-none-left (atomIn i) (atomIn l) (others i (omega arith) (λ q. omega arith))
+        ]
+
+  module _ (first : ℕ) (found : Next atomIn (length variables) 0 first) where
+    pub never-touched : length variables ≤ first → (afters : List ℕ) → false ≡ touchedIn sizes (has words) (entriesIn variables befores afters)
+    never-touched l afters = touched-none afters (λ k h. found .clear k (omega arith) (omega arith))
+
+    module _ (second : ℕ) (inside : first < length variables) (next : Next atomIn (length variables) (first + 1) second) where
+      pub twice-touched : second < length variables → (afters : List ℕ) → true ≡ touchedIn sizes (has words) (entriesIn variables befores afters)
+      twice-touched l afters = touched-two afters first second (omega (arith, next .above)) l (found .member inside) (next .member l)
+
+      pub once-touched : length variables ≤ second → (afters : List ℕ)
+          → besideIn sizes (has words) (entriesIn variables befores afters) ≡ touchedIn sizes (has words) (entriesIn variables befores afters)
+      once-touched l afters = touched-one afters first inside (found .member inside) (λ k h d. elim (order k first) [
+        | less z ↦ found .clear k (omega arith) z
+        | same z ↦ absurd (d z)
+        | more z ↦ next .clear k (omega arith) (omega arith)
+      ])
 
 -- ---- marks
 

@@ -2,13 +2,13 @@
 use Prim.Native.Nat.{ℕ, suc, _+_, _-_, _<_, _≤_}
 use mathlib.Core.Path.{_≡_, refl, sym, ap, _∙_, subst}
 use mathlib.Core.Logic.{_⊎_, inl, inr}
-use mathlib.Core.Bool.{Bool, true, false, _||_, cond, true≢false}
+use mathlib.Core.Bool.{Bool, true, false, not, _&&_, _||_, cond, true≢false}
 use mathlib.Core.List.{List, [], _∷_, List·Memᴰ as In, List·Memᴰ·head as here, List·Memᴰ·tail as there, List·Memᴰ·not-nil as not-nil, List·Memᴰ·cases-cons as cases-cons}
 use native.Mathlib.Omega.{arith}
 use native.Mathlib.Nat.{sub-zero}
 use lib.ListN.{length}
-use Rattle.meaning.specs.Sets.{Set, count}
-use Rattle.meaning.specs.Task.{Operator, Task}
+use Rattle.meaning.specs.Sets.{Set, count, some, anyOf, twoOf}
+use Rattle.meaning.specs.Task.{Operator, Task, names, size}
 use Rattle.meaning.specs.Feature.{features, single}
 use Rattle.meaning.specs.Pair.{closed, unclosedPair}
 use Rattle.meaning.specs.Number as meaning
@@ -17,10 +17,10 @@ use Rattle.meaning.specs.File.{operatorOf, operatorsOf}
 use Rattle.meaning.specs.Workspace.{has}
 use Rattle.meaning.specs.Mend.{Within}
 use Rattle.theory.specs.Truth.{on, off, test, clash}
-use Rattle.theory.specs.Search.{or-either, or-none-left, or-none-right, any-not, any-none}
+use Rattle.theory.specs.Search.{and-left, and-right, and-both, and-none-left, or-either, or-neither, or-none-left, or-none-right, some-at, some-get, any-at, any-get, any-not, two-not, two-none}
 use Rattle.theory.specs.Count.{count-within}
 use Rattle.theory.specs.Accepted.{Readable}
-use Rattle.theory.specs.Mending.{Below, Narrowed, narrowed-self, narrowed-on, unclosed-narrowed, touchedIn, closed-steady, without-within}
+use Rattle.theory.specs.Mending.{Below, Narrowed, narrowed-self, narrowed-on, unclosed-narrowed, beforeIn, besideIn, touchedIn, closed-steady, without-within}
 use Rattle.theory.specs.Reading.{not-got, got-value, got-next}
 use Rattle.number.specs.Answers.{placeOf, place-next, place-faulted}
 use Rattle.number.specs.declared.Reason.{Reason}
@@ -31,7 +31,7 @@ use Rattle.keeping.specs.Turn.{TurnTo, TurnBy}
 
 -- ---- a turn that may be passed over
 
--- Whether an operator has to be judged: all of them in the first pass; later those with a before atom that was touched in the pass before, or is in this one.
+-- Whether an operator has to be judged: all of them in the first pass; later those to which atoms matter that were touched in the pass before, or in this one.
 abbrev pub due : List ℕ → Bool → Set → Set → Operator → Bool
 due sizes all old touched o = all || (touchedIn sizes old o || touchedIn sizes touched o)
 
@@ -104,12 +104,26 @@ pub record PassBy (sizes bytes : List ℕ) (at many : ℕ) (all : Bool) (old pai
 
 -- Fewer atoms touch fewer operators.
 touched-less : (sizes : List ℕ) (a b : Set) (o : Operator) → Within a b → touchedIn sizes b o ≡ false → touchedIn sizes a o ≡ false
-unfolding touchedIn
-touched-less sizes a b o within e = any-not _ o (λ x m. elim (test (a (single sizes (x .variable) (x .before)))) [ on q ↦ absurd (clash (within _ q) (any-none _ o e x m)) | off q ↦ q ])
+unfolding touchedIn besideIn
+touched-less sizes a b o within e = or-neither _ _
+    (two-not _ o (λ x x' r. elim (test (beforeIn sizes a x && beforeIn sizes a x')) [
+      | on q ↦ absurd (clash (and-both _ _ (within _ (and-left (beforeIn sizes a x) (beforeIn sizes a x') q)) (within _ (and-right (beforeIn sizes a x) (beforeIn sizes a x') q)))
+          (two-none _ o (or-none-left _ (anyOf (beforeIn sizes b) o && besideIn sizes b o) e) x x' r))
+      | off q ↦ q
+    ]))
+    (elim (test (anyOf (beforeIn sizes a) o && besideIn sizes a o)) [
+      | on q ↦ let (x, m, p) = any-get _ o (and-left (anyOf (beforeIn sizes a) o) (besideIn sizes a o) q) in
+          let (u, l, t) = some-get (length sizes) _ (and-right (anyOf (beforeIn sizes a) o) (besideIn sizes a o) q) in
+          let (y, k, z) = some-get (size sizes u) _ (and-right (not (names o u)) _ t) in
+          absurd (clash (and-both (anyOf (beforeIn sizes b) o) (besideIn sizes b o) (any-at _ o x m (within _ p))
+          (some-at (length sizes) _ u l (and-both _ _ (and-left (not (names o u)) (some (size sizes u) (λ y. a (single sizes u y))) t) (some-at (size sizes u) _ y k (within _ z)))))
+          (or-none-right (twoOf (λ x x'. beforeIn sizes b x && beforeIn sizes b x') o) _ e))
+      | off q ↦ q
+    ])
 
 touched-none : (sizes : List ℕ) (a : Set) (o : Operator) → ((x : ℕ) → a x ≡ false) → touchedIn sizes a o ≡ false
 unfolding touchedIn
-touched-none sizes a o none = any-not _ o (λ x m. none (single sizes (x .variable) (x .before)))
+touched-none sizes a o none = or-neither _ _ (two-not _ o (λ x x' r. and-none-left (beforeIn sizes a x) _ (none _))) (and-none-left (anyOf (beforeIn sizes a) o) _ (any-not _ o (λ x m. none _)))
 
 -- One of the two, as code comes to it.
 pub either-told : (any one told : Bool) → ((any ≡ true) × (told ≡ any)) ⊎ ((any ≡ false) × (told ≡ one)) → told ≡ (any || one)

@@ -19,10 +19,11 @@ ghost use Rattle.theory.specs.Mending.{touchedIn, ReadAs};
 ghost use Rattle.number.specs.Answers.{placeOf};
 ghost use Rattle.numbering.specs.Order.{Contains};
 ghost use Rattle.words.specs.Members.{membersIn};
+ghost use Rattle.words.specs.Next.{Next};
 ghost use Rattle.operator.specs.Records.{recordOf};
 ghost use Rattle.pairs.specs.Ready.{Listed, Atoms, Ready, HoldsPossible};
 ghost use Rattle.keeping.specs.Standing.{standing};
-ghost use Rattle.keeping.specs.Marks.{Touched, Marked};
+ghost use Rattle.keeping.specs.Marks.{atomIn, Touched, Marked};
 ghost use Rattle.keeping.specs.Turn.{LeftBy, TurnBy};
 ghost use Rattle.keeping.specs.Pass.{TurnAt, OperatorsAt, PassTo, Settles};
 ghost use Rattle.keeping.specs.Keep.{HeldOut};
@@ -80,19 +81,40 @@ fn standing(state: &[u64]) -> Operator
     }
 }
 
-// Whether one of the operator's before atoms is in a set of atoms.
+// The first place from one on whose before atom is in a set of atoms; the number of places where there is none.
+fn touched_from(
+    sizes: &[u64],
+    variables: &[usize],
+    befores: &[usize],
+    touched: &[u64],
+    start: usize,
+) -> usize
+    requires { ⌜ InLimits (now sizes) × Atoms (now sizes) (now variables) (now befores) × (atoms (now sizes) ≤ wordBits * length (now touched)) × (start ≤ length (now variables)) ⌝ }
+    ensures { λ r. ⌜ Next (atomIn (now (sizes .entry)) (now (touched .entry)) (now (variables .entry)) (now (befores .entry))) (length (now (variables .entry))) start r ⌝ }
+{
+    let mut k = start;
+    while k < variables.len() {
+        if words::has(touched, numbering::single(sizes, variables[k], befores[k])) {
+            return k;
+        }
+        k += 1;
+    }
+    k
+}
+
+// Whether a pair of a set's atoms may matter to the operator: two of its before atoms, or one of them and an atom of a variable that it doesn't name.
 fn is_touched(sizes: &[u64], variables: &[usize], befores: &[usize], touched: &[u64]) -> bool
     requires { ⌜ InLimits (now sizes) × Atoms (now sizes) (now variables) (now befores) × (atoms (now sizes) ≤ wordBits * length (now touched)) ⌝ }
     ensures { λ r. ⌜ ((afters : List ℕ) → r ≡ touchedIn (now (sizes .entry)) (has (now (touched .entry))) (entriesIn (now (variables .entry)) (now (befores .entry)) afters)) ⌝ }
 {
-    let mut k = 0;
-    while k < variables.len() {
-        if words::has(touched, numbering::single(sizes, variables[k], befores[k])) {
-            return true;
-        }
-        k += 1;
+    let first = touched_from(sizes, variables, befores, touched, 0);
+    if variables.len() <= first {
+        return false;
     }
-    false
+    if touched_from(sizes, variables, befores, touched, first + 1) < variables.len() {
+        return true;
+    }
+    pairs::has_unnamed(sizes, variables, touched)
 }
 
 // Puts both atoms of a pair into a set of atoms.
@@ -230,8 +252,8 @@ fn drop_under(
     drop_unclosed(sizes, pairs, variables, befores, afters, &possible, touched)
 }
 
-// Takes out what is unclosed under an operator that has to be judged: all of them in the first pass, later those with a before atom that was touched in the pass before or is in
-// this one.
+// Takes out what is unclosed under an operator that has to be judged: all of them in the first pass, later those to which a pair of atoms may matter that were touched in the pass
+// before, or in this one.
 fn drop_if_due(
     sizes: &[u64],
     pairs: &mut [u64],

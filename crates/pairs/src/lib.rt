@@ -15,6 +15,7 @@ ghost use Rattle.meaning.specs.File.{InLimits};
 ghost use Rattle.meaning.specs.Pair.{paired, idle, closed, unclosedPair, holds};
 ghost use Rattle.theory.specs.Slices.{entriesIn};
 ghost use Rattle.theory.specs.Closed.{leaves};
+ghost use Rattle.theory.specs.Mending.{besideIn};
 ghost use Rattle.numbering.specs.Order.{Stands, Contains};
 ghost use Rattle.pairs.specs.Ready.{Listed, Atoms, Ready, Apart, Place, HoldsPossible};
 ghost use Rattle.pairs.specs.Judge.{pairedWithin, clashingIn, valued};
@@ -202,6 +203,21 @@ fn is_stuck(sizes: &[u64], variables: &[usize], possible: &[u64]) -> bool
     let mut u = 0;
     while u < sizes.len() {
         if !names(variables, u) && !has_value(sizes, possible, u) {
+            return true;
+        }
+        u += 1;
+    }
+    false
+}
+
+// Whether a set of atoms has one of some unnamed variable.
+pub fn has_unnamed(sizes: &[u64], variables: &[usize], set: &[u64]) -> bool
+    requires { ⌜ InLimits (now sizes) × (atoms (now sizes) ≤ wordBits * length (now set)) ⌝ }
+    ensures { λ r. ⌜ ((befores afters : List ℕ) → r ≡ besideIn (now (sizes .entry)) (has (now (set .entry))) (entriesIn (now (variables .entry)) befores afters)) ⌝ }
+{
+    let mut u = 0;
+    while u < sizes.len() {
+        if !names(variables, u) && has_value(sizes, set, u) {
             return true;
         }
         u += 1;

@@ -1,4 +1,4 @@
--- Good lists of pairs: what no good sublist has, that there is exactly one largest good sublist, and that an operator need be judged again only where a pair with one of its before atoms was taken out.
+-- Good lists of pairs: what no good sublist has, that there is exactly one largest good sublist, and that an operator need be judged again only where a pair that matters to it was taken out.
 use Prim.Native.Nat.{ℕ, zero, suc, _<_}
 use mathlib.Core.Path.{_≡_, refl, sym, ap, ap₂, _∙_, fun-ext, subst}
 use mathlib.Core.Logic.{_≢_, _⊎_, inl, inr}
@@ -9,7 +9,7 @@ use native.Mathlib.Nat.{ne-of-lt}
 use lib.Dec.{eqb, ltb}
 use lib.ListN.{length}
 use borrow.Author.Tests.{eqb-true, eq-eqb, lt-ltb, not-true, not-false}
-use Rattle.meaning.specs.Sets.{Set, count, some, anyOf, listed}
+use Rattle.meaning.specs.Sets.{Set, count, some, anyOf, twoOf, listed}
 use Rattle.meaning.specs.Task.{Entry, Operator, Task, State, Entries, Run, names, value, size}
 use Rattle.meaning.specs.Feature.{atoms, features, single, both}
 use Rattle.meaning.specs.Pair.{paired, possible, clashing, stuck, idle, closed, joinsAfters, joinsPossible, unclosedPair, holds, heldPair}
@@ -21,7 +21,7 @@ use Rattle.theory.specs.Search.{and-left, and-right, and-both, and-none-
 use Rattle.theory.specs.Search.{some-at, some-get, some-not, some-none, some-cong, any-at, any-get, any-not, any-none, any-cong, two-at, two-get, two-cong, member, nobody, whichOf, earlier-left, earlier-right, listed-in, in-listed}
 use Rattle.theory.specs.Run.{members, run-in, run-same, run-members, run-inside, listed-members}
 use Rattle.theory.specs.Count.{count-less}
-use Rattle.theory.specs.Numbering.{atoms-room, both-below}
+use Rattle.theory.specs.Numbering.{atoms-room, both-below, both-mirror}
 use Rattle.theory.specs.Operators.{unnamed-apart, in-fine, entries-rise}
 use Rattle.theory.specs.Closed.{closed-by-pairs}
 use Rattle.theory.specs.Accepted.{Readable, good-writable}
@@ -88,39 +88,51 @@ holds-by-pairs sizes pairs state full = true-together _ _
     (and-both _ _ q (some-at (length sizes) _ j l (some-at j _ i k (eq-eqb (both sizes i (value state i) j (value state j)) _ refl)))))
     (λ t. let (f, n, p) = some-get (features sizes) _ t in held-holds sizes pairs state f p)
 
--- ---- an operator none of whose before atoms is touched
+-- ---- an operator to which nothing that went matters
 
 -- A set of atoms has an atom of each pair that was taken out of a list.
 abbrev pub Touches : List ℕ → Set → Set → Set → Type 0
 Touches sizes before left touched = (i x j y : ℕ) → i ≢ j → i < length sizes → j < length sizes → x < size sizes i → y < size sizes j
     → before (both sizes i x j y) ≡ true → left (both sizes i x j y) ≡ false → touched (single sizes i x) ≡ true
 
--- One of the operator's before atoms is in a set.
+-- An entry's before atom is in a set; an atom of a variable that the operator doesn't name is.
+abbrev pub beforeIn : List ℕ → Set → Entry → Bool
+beforeIn sizes touched e = touched (single sizes (e .variable) (e .before))
+
+unfoldable pub besideIn : List ℕ → Set → Operator → Bool
+besideIn sizes touched o = some (length sizes) (λ u. not (names o u) && some (size sizes u) (λ y. touched (single sizes u y)))
+
+-- A pair of the set's atoms may matter to the operator: two of its before atoms, or one of them and an atom of a variable that it doesn't name. Other pairs change neither what
+-- is possible nor whether it is idle.
 unfoldable pub touchedIn : List ℕ → Set → Operator → Bool
-touchedIn sizes touched o = anyOf (λ e. touched (single sizes (e .variable) (e .before))) o
+touchedIn sizes touched o = twoOf (λ e e'. beforeIn sizes touched e && beforeIn sizes touched e') o || (anyOf (beforeIn sizes touched) o && besideIn sizes touched o)
 
 module _ (sizes : List ℕ) (before left touched : Set) (within : Within left before) (touches : Touches sizes before left touched) (o : Operator) (fine : Entries sizes 0 o)
     (clear : touchedIn sizes touched o ≡ false) where
-  -- What a before atom is paired with.
-  paired-steady : (e : Entry) → In e o → (u y : ℕ) → e .variable ≢ u → u < length sizes → y < size sizes u
-      → before (both sizes (e .variable) (e .before) u y) ≡ left (both sizes (e .variable) (e .before) u y)
-  unfolding touchedIn
-  paired-steady e m u y d l k = let own = in-fine sizes 0 o e m fine in true-together _ _
-      (λ t. elim (test (left (both sizes (e .variable) (e .before) u y))) [
+  -- Two atoms not both of which are touched are paired as they were.
+  paired-steady : (i x j y : ℕ) → i ≢ j → i < length sizes → j < length sizes → x < size sizes i → y < size sizes j
+      → (touched (single sizes i x) ≡ true → touched (single sizes j y) ≡ true → ⊥) → before (both sizes i x j y) ≡ left (both sizes i x j y)
+  paired-steady i x j y d l k hx hy untouched = true-together _ _
+      (λ t. elim (test (left (both sizes i x j y))) [
         | on q ↦ q
-        | off q ↦ absurd (clash (touches (e .variable) (e .before) u y d (own .1) l (own .2) k t q) (any-none _ o clear e m))
+        | off q ↦ let turned = both-mirror sizes i x j y d in
+            absurd (untouched (touches i x j y d l k hx hy t q) (touches j y i x (λ e. d (sym e)) k l hy hx (ap before (sym turned) ∙ t) (ap left (sym turned) ∙ q)))
       ])
       (within _)
 
   possible-steady : (u y : ℕ) → names o u ≡ false → u < length sizes → y < size sizes u → possible sizes before o u y ≡ possible sizes left o u y
-  unfolding possible paired
-  possible-steady u y free l k = ap not (any-cong _ _ o (λ e m. paired-steady e m u y (unnamed-apart o e u m free) l k))
+  unfolding possible paired touchedIn besideIn
+  possible-steady u y free l k = ap not (any-cong _ _ o (λ e m. let own = in-fine sizes 0 o e m fine in
+      paired-steady (e .variable) (e .before) u y (unnamed-apart o e u m free) (own .1) l (own .2) k (λ p q.
+      clash (and-both (anyOf (beforeIn sizes touched) o) (besideIn sizes touched o) (any-at _ o e m p) (some-at (length sizes) _ u l (and-both _ _ (ap not free) (some-at (size sizes u) _ y k q))))
+      (or-none-right (twoOf (λ e e'. beforeIn sizes touched e && beforeIn sizes touched e') o) _ clear))))
 
   idle-steady : idle sizes before o ≡ idle sizes left o
-  unfolding idle clashing stuck paired
+  unfolding idle clashing stuck paired touchedIn
   idle-steady = ap₂ _||_
-      (two-cong _ _ o (λ e e' r. let own = in-fine sizes 0 o e' (earlier-right r) fine in
-      paired-steady e (earlier-left r) (e' .variable) (e' .before) (ne-of-lt (entries-rise sizes 0 o e e' fine r)) (own .1) (own .2)))
+      (two-cong _ _ o (λ e e' r. let own = in-fine sizes 0 o e (earlier-left r) fine in let other = in-fine sizes 0 o e' (earlier-right r) fine in
+      paired-steady (e .variable) (e .before) (e' .variable) (e' .before) (ne-of-lt (entries-rise sizes 0 o e e' fine r)) (own .1) (other .1) (own .2) (other .2) (λ p q.
+      clash (two-at _ o e e' r (and-both _ _ p q)) (or-none-left _ (anyOf (beforeIn sizes touched) o && besideIn sizes touched o) clear))))
       (some-cong (length sizes) _ _ (λ u l. elim (test (names o u)) [
         | on q ↦ rw q refl
         | off q ↦ rw q (ap not (some-cong (size sizes u) _ _ (λ y k. possible-steady u y q l k)))

@@ -1,78 +1,42 @@
--- `is_touched`: none of the first k before atoms is in the set.
-use Prim.Native.Nat.{_<_, _≤_, _-_}
+-- `is_touched`: no before atom is in the set, two are, or one is and the variables that are not named decide.
+use mathlib.Core.Path.{_∙_}
 use native.Mathlib.Omega.{arith}
-use lib.ListN.{length}
-use Rattle.meaning.specs.Feature.{atoms}
-use Rattle.theory.specs.Numbering.{single-below}
-use Rattle.numbering.specs.Sizes.{limits-small}
-use Rattle.pairs.specs.Places.{some-start}
-use Rattle.keeping.specs.Marks.{NoneTouched, touched-hit, touched-miss, touched-end}
+use borrow.Author.Needs.{needs}
+use Rattle.keeping.specs.Marks.{never-touched, twice-touched, once-touched}
 use Rattle.keeping.proofs.is_touched.Statement.{statement}
 use Rattle.keeping.proofs.is_touched.Tie as tie
 
-abbrev Inv-loop : tie.InvT-loop
-Inv-loop sizes variables befores touched k₀ k = (k ≤ length variables) × NoneTouched sizes touched variables befores k
+touched-from-requires : tie.Need-touched-from-requires
+touched-from-requires c κs = search needs
 
-abbrev μ-loop : tie.MeasureT-loop
-μ-loop sizes variables befores touched k₀ k = length variables - k
+returns : tie.Need-returns
+returns c = let a = c .before .before .before .before .before .before .args in never-touched _ _ (a .variables .now) (a .befores .now) _ (c .before .touched-from .ensures) (c .if1 .taken)
 
--- At a turn: what the call began with.
-abbrev start : tie.At-loop Inv-loop μ-loop → tie.Start Inv-loop μ-loop
-start c = c .before .before .before .before .before
+add-touched-from : tie.Need-add-touched-from
+add-touched-from c = search needs
 
-loop-holds : tie.Need-loop-holds Inv-loop μ-loop
-loop-holds c = (omega arith, some-start _)
+touched-from-requires-2 : tie.Need-touched-from-requires-2
+touched-from-requires-2 c κs = search needs
 
-mul-single : tie.Need-mul-single Inv-loop μ-loop
-mul-single c = omega arith
+returns-2 : tie.Need-returns-2
+returns-2 c = let a = c .before .before .before .before .before .before .before .before .args in
+    twice-touched _ _ (a .variables .now) (a .befores .now) _ (c .before .before .before .touched-from .ensures) _ (omega (arith, c .before .before .if1 .left)) (c .before .touched-from2 .ensures) (c .if2 .taken)
 
-shared-slice-read-single : tie.Need-shared-slice-read-single Inv-loop μ-loop
-shared-slice-read-single c = omega arith
+has-unnamed-requires : tie.Need-has-unnamed-requires
+has-unnamed-requires c κs = search needs
 
-mul-single-2 : tie.Need-mul-single-2 Inv-loop μ-loop
-mul-single-2 c = omega (arith, start (c .before .before) .pre .1 .equal)
-
-shared-slice-read-single-2 : tie.Need-shared-slice-read-single-2 Inv-loop μ-loop
-shared-slice-read-single-2 c = omega (arith, start (c .before .before .before) .pre .1 .equal)
-
-single-requires : tie.Need-single-requires Inv-loop μ-loop
-single-requires c κs = let a = c .before .before .before in let inside = start a .pre .1 .inside (a .loop .k) (c .before .before .loop-test .taken) in (limits-small _ (start a .pre .0), inside .0, inside .1)
-
-has-requires : tie.Need-has-requires Inv-loop μ-loop
-has-requires c κs = let a = c .before .before .before .before in let inside = start a .pre .1 .inside (a .loop .k) (c .before .before .before .loop-test .taken) in
-    let below : c .single .result < atoms (start a .args .sizes .now) = rw (c .single .ensures) (single-below _ _ _ (inside .1)) in omega (arith, below, start a .pre .2)
-
-returns : tie.Need-returns Inv-loop μ-loop
-returns c = let a = start (c .before .before .before .before .before .before) .args in touched-hit _ _ (a .variables .now) (a .befores .now) _ _ _ (c .before .before .before .before .before .loop-test .taken) (c .before .before .single .ensures) (c .before .has .ensures) (c .if1 .taken)
-
-add-k : tie.Need-add-k Inv-loop μ-loop
-add-k c = omega arith
-
-loop-less : tie.Need-loop-less Inv-loop μ-loop
-loop-less c = omega arith
-
-loop-again : tie.Need-loop-again Inv-loop μ-loop
-loop-again c = let a = start (c .before .before .before .before .before .before) .args in
-    (omega arith, touched-miss _ _ (a .variables .now) (a .befores .now) _ _ _ (c .before .before .before .before .before .before .loop .inv .1) (c .before .before .single .ensures) (c .before .has .ensures) (c .if1 .left))
-
-returns-2 : tie.Need-returns-2 Inv-loop μ-loop
-returns-2 c = let a = start (c .before) .args in touched-end _ _ (a .variables .now) (a .befores .now) _ (omega arith) (omega arith) (c .before .loop .inv .1)
+returns-3 : tie.Need-returns-3
+returns-3 c = let a = c .before .before .before .before .before .before .before .before .before .args in λ afters. c .has-unnamed .ensures (a .befores .now) afters
+    ∙ once-touched _ _ (a .variables .now) (a .befores .now) _ (c .before .before .before .before .touched-from .ensures) _ (omega (arith, c .before .before .before .if1 .left)) (c .before .before .touched-from2 .ensures) (omega (arith, c .before .if2 .left)) afters
 
 pub is-touched-spec : {M : Type 1} → statement M
 is-touched-spec =
     tie.close
     (tie.spec
-    Inv-loop
-    μ-loop
-    loop-holds
-    mul-single
-    shared-slice-read-single
-    mul-single-2
-    shared-slice-read-single-2
-    single-requires
-    has-requires
+    touched-from-requires
     returns
-    add-k
-    loop-less
-    loop-again
-    returns-2)
+    add-touched-from
+    touched-from-requires-2
+    returns-2
+    has-unnamed-requires
+    returns-3)

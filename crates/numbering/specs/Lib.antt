@@ -1,6 +1,5 @@
 pub mod Sizes
 pub mod Sums
-pub mod Starts
 pub mod Blocks
 pub mod Planes
 pub mod Order

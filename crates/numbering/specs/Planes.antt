@@ -9,7 +9,6 @@ use Rattle.meaning.specs.Feature.{atoms, pairStart, double, both}
 use Rattle.theory.specs.Numbering.{both-less, both-more, both-below}
 use Rattle.numbering.specs.declared.Plane.{Plane}
 use Rattle.numbering.specs.Sizes.{SmallSizes, features-small}
-use Rattle.numbering.specs.Blocks.{numbered}
 
 abbrev pub numberIn : Plane → ℕ → ℕ → ℕ
 numberIn plane x y = plane .first + (x * plane .step + y * plane .other)
@@ -18,10 +17,11 @@ numberIn plane x y = plane .first + (x * plane .step + y * plane .other)
 abbrev pub Spans : List ℕ → ℕ → ℕ → (ℕ → ℕ → ℕ → ℕ → ℕ) → Plane → Type 0
 Spans sizes i j feature plane = (x y : ℕ) → x < size sizes i → y < size sizes j → numberIn plane x y ≡ feature i x j y
 
--- That of variables in order, from its parts.
-pub plane-ordered : (sizes : List ℕ) (i j all start d : ℕ) → SmallSizes sizes → i < j → all ≡ atoms sizes → start ≡ pairStart sizes i j → d ≡ size sizes j
-    → Spans sizes i j (double sizes) (record { first = all + start; step = d; other = 1 })
-plane-ordered sizes i j all start d s l e f g x y h k = omega (arith, numbered sizes i x j y all start d s l h k e f g .0)
+-- That of variables in order, from its first number.
+pub plane-ordered : (sizes : List ℕ) (i j first d : ℕ) → first ≡ atoms sizes + pairStart sizes i j → d ≡ size sizes j
+    → Spans sizes i j (double sizes) (record { first = first; step = d; other = 1 })
+unfolding double
+plane-ordered sizes i j first d e g x y h k = rw (e, g) (omega arith)
 
 pub plane-less : (sizes : List ℕ) (i j : ℕ) (plane : Plane) → i < j → Spans sizes i j (double sizes) plane → Spans sizes i j (both sizes) plane
 plane-less sizes i j plane l h x y m k = h x y m k ∙ sym (both-less sizes i x j y l)

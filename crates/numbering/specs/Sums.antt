@@ -6,7 +6,7 @@ use native.Mathlib.Omega.{arith}
 use native.Mathlib.Nat.{mul-add, add-mul, mul-le-mul-left}
 use native.Mathlib.Numerals.{add-one}
 use lib.ListN.{length, take}
-use lib.Seq.{take-all, take-length}
+use lib.Seq.{take-length}
 use Rattle.meaning.specs.Limits.{mostAtoms}
 use Rattle.meaning.specs.Task.{size}
 use Rattle.meaning.specs.Feature.{sumOf, pairsOf, atoms, features}
@@ -53,7 +53,7 @@ pub all-atoms : (sizes : List ℕ) → sumOf (take (length sizes) sizes) ≡ ato
 unfolding atoms
 all-atoms sizes = ap sumOf (take-length sizes)
 
--- After the last turn all features are counted.
-pub counted : (sizes : List ℕ) (j sum pairs : ℕ) → length sizes ≤ j → sum ≡ sumOf (take j sizes) → pairs ≡ pairsOf (take j sizes) → sum + pairs ≡ features sizes
+-- The atoms and the pairs of all variables are all features.
+pub counted : (sizes : List ℕ) (sum pairs : ℕ) → sum ≡ sumOf (take (length sizes) sizes) → pairs ≡ pairsOf (take (length sizes) sizes) → sum + pairs ≡ features sizes
 unfolding features atoms
-counted sizes j sum pairs l e h = rw (e, h, take-all j sizes l) refl
+counted sizes sum pairs e h = rw (e, h, take-length sizes) refl

@@ -1,15 +1,19 @@
 // The numbers of features: how many there are, the number of each, and back from a number to the atoms of its feature.
 ghost use mathlib.Core.Path.{_≡_};
 ghost use mathlib.Core.Logic.{_≢_};
-ghost use Prim.Native.Nat.{_^_, _<_, _≤_};
+ghost use Prim.Native.Nat.{_+_, _^_, _<_, _≤_};
 ghost use lib.ListN.{length, take};
 ghost use Rattle.meaning.specs.Task.{size};
-ghost use Rattle.meaning.specs.Feature.{sumOf, atoms, features, single, pairStart, double, both};
+ghost use Rattle.meaning.specs.Feature.{sumOf, pairsOf, atoms, features, single, pairStart, double, both};
 ghost use Rattle.numbering.specs.Sizes.{SmallSizes};
-ghost use Rattle.numbering.specs.Starts.{startingNumbers};
 ghost use Rattle.numbering.specs.Planes.{numberIn, Spans};
 ghost use Rattle.numbering.specs.Order.{Stands, Follows, Contains, Joins};
-use limits::MOST_VARIABLES;
+
+// How many atoms some variables have, and how many pairs of atoms of two of them.
+struct Counts {
+    atoms: usize,
+    pairs: usize,
+}
 
 // Where the features of two variables stand: the number of the one with both values 0, and how far a step of each value leads.
 pub struct Plane {
@@ -41,18 +45,38 @@ pub fn size(sizes: &[u64], i: usize) -> usize
     sizes[i] as usize
 }
 
-// How many atoms the first n variables have: the number of variable n's first atom.
-fn atoms_before(sizes: &[u64], n: usize) -> usize
-    requires { ⌜ SmallSizes (now sizes) × (n ≤ length (now sizes)) ⌝ }
-    ensures { λ r. ⌜ r ≡ sumOf (take n (now (sizes .entry))) ⌝ }
+// How many atoms the variables from `from` to right before `to` have.
+fn atoms_between(sizes: &[u64], from: usize, to: usize) -> usize
+    requires { ⌜ SmallSizes (now sizes) × (from ≤ to) × (to ≤ length (now sizes)) ⌝ }
+    ensures { λ r. ⌜ sumOf (take from (now (sizes .entry))) + r ≡ sumOf (take to (now (sizes .entry))) ⌝ }
 {
     let mut sum = 0;
-    let mut i = 0;
-    while i < n {
+    let mut i = from;
+    while i < to {
         sum += size(sizes, i);
         i += 1;
     }
     sum
+}
+
+// The atoms and the pairs of the first n variables: each adds its atoms, and their pairs with the atoms before them.
+fn counts_before(sizes: &[u64], n: usize) -> Counts
+    requires { ⌜ SmallSizes (now sizes) × (n ≤ length (now sizes)) ⌝ }
+    ensures { λ r. ⌜ (r .atoms ≡ sumOf (take n (now (sizes .entry)))) × (r .pairs ≡ pairsOf (take n (now (sizes .entry)))) ⌝ }
+{
+    let mut atoms = 0;
+    let mut pairs = 0;
+    let mut i = 0;
+    while i < n {
+        let d = size(sizes, i);
+        pairs += atoms * d;
+        atoms += d;
+        i += 1;
+    }
+    Counts {
+        atoms: atoms,
+        pairs: pairs,
+    }
 }
 
 // How many single atoms there are: A.
@@ -60,24 +84,16 @@ pub fn atoms(sizes: &[u64]) -> usize
     requires { ⌜ SmallSizes (now sizes) ⌝ }
     ensures { λ r. ⌜ r ≡ atoms (now (sizes .entry)) ⌝ }
 {
-    atoms_before(sizes, sizes.len())
+    atoms_between(sizes, 0, sizes.len())
 }
 
-// How many features there are: N. Each variable adds its atoms, and its pairs with the atoms before them.
+// How many features there are: N.
 pub fn features(sizes: &[u64]) -> usize
     requires { ⌜ SmallSizes (now sizes) ⌝ }
     ensures { λ r. ⌜ r ≡ features (now (sizes .entry)) ⌝ }
 {
-    let mut atoms = 0;
-    let mut pairs = 0;
-    let mut j = 0;
-    while j < sizes.len() {
-        let d = size(sizes, j);
-        pairs += atoms * d;
-        atoms += d;
-        j += 1;
-    }
-    atoms + pairs
+    let all = counts_before(sizes, sizes.len());
+    all.atoms + all.pairs
 }
 
 // The number of the atom that gives variable i the value x.
@@ -85,45 +101,20 @@ pub fn single(sizes: &[u64], i: usize, x: usize) -> usize
     requires { ⌜ SmallSizes (now sizes) × (i < length (now sizes)) × (x < size (now sizes) i) ⌝ }
     ensures { λ r. ⌜ r ≡ single (now (sizes .entry)) i x ⌝ }
 {
-    atoms_before(sizes, i) + x
+    atoms_between(sizes, 0, i) + x
 }
 
-// The number of each variable's first atom. Halves of words hold them, so that the table is filled quickly.
-fn starting_numbers(sizes: &[u64]) -> [u16; MOST_VARIABLES]
-    requires { ⌜ SmallSizes (now sizes) ⌝ }
-    ensures { λ r. ⌜ r ≡ startingNumbers (now (sizes .entry)) ⌝ }
+// The number of the first feature of variables i < j. All atoms stand before it, the pairs of the variables before i, among themselves and with the
+// rest, and those of i with the variables between the two.
+fn first_pair(sizes: &[u64], i: usize, j: usize) -> usize
+    requires { ⌜ SmallSizes (now sizes) × (i < j) × (j < length (now sizes)) ⌝ }
+    ensures { λ r. ⌜ r ≡ atoms (now (sizes .entry)) + pairStart (now (sizes .entry)) i j ⌝ }
 {
-    let mut starts = [0u16; MOST_VARIABLES];
-    let mut start = 0;
-    let mut i = 0;
-    while i < sizes.len() {
-        starts[i] = start as u16;
-        start += size(sizes, i);
-        i += 1;
-    }
-    starts
-}
-
-// How many two-variable features stand before those of the variables i < j, by the starting numbers and the number of all atoms.
-fn pair_start(
-    sizes: &[u64],
-    starts: &[u16; MOST_VARIABLES],
-    all: usize,
-    i: usize,
-    j: usize,
-) -> usize
-    requires { ⌜ SmallSizes (now sizes) × (now starts ≡ startingNumbers (now sizes)) × (all ≡ atoms (now sizes)) × (i < j) × (j < length (now sizes)) ⌝ }
-    ensures { λ r. ⌜ r ≡ pairStart (now (sizes .entry)) i j ⌝ }
-{
-    let mut sum = 0;
-    let mut k = 0;
-    while k < i {
-        let d = size(sizes, k);
-        sum += d * (all - (starts[k] as usize + d));
-        k += 1;
-    }
+    let before = counts_before(sizes, i);
     let d = size(sizes, i);
-    sum + d * (starts[j] as usize - (starts[i] as usize + d))
+    let between = atoms_between(sizes, i + 1, j);
+    let rest = d + between + atoms_between(sizes, j, sizes.len());
+    before.atoms + rest + (before.pairs + before.atoms * rest) + d * between
 }
 
 // The features of variables i < j: a step of the first value passes all values of the second.
@@ -131,11 +122,8 @@ fn ordered_plane(sizes: &[u64], i: usize, j: usize) -> Plane
     requires { ⌜ SmallSizes (now sizes) × (i < j) × (j < length (now sizes)) ⌝ }
     ensures { λ r. ⌜ Spans (now (sizes .entry)) i j (double (now (sizes .entry))) r ⌝ }
 {
-    let starts = starting_numbers(sizes);
-    let last = sizes.len() - 1;
-    let all = starts[last] as usize + size(sizes, last);
     Plane {
-        first: all + pair_start(sizes, &starts, all, i, j),
+        first: first_pair(sizes, i, j),
         step: size(sizes, j),
         other: 1,
     }

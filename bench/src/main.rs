@@ -1,5 +1,5 @@
 //! Measures opening and finding: the proved library beside plain Rust of the same algorithm in two variants, and libm4ri on the same rows. Below that
-//! opening an order that names some slots, and mending pair lists.
+//! opening an order that names some slots, and mending pair lists. With `--stack` it measures the stack of every public call instead.
 
 mod answer;
 mod calls;
@@ -12,6 +12,7 @@ mod measure;
 mod mending;
 mod orders;
 mod plain;
+mod stack;
 mod table;
 mod tasks;
 
@@ -82,10 +83,15 @@ fn measure(case: &Case) -> Result<[Line; 2], String> {
     ])
 }
 
-/// Measures each case, or those whose names contain the first argument.
+/// Measures each case, or those whose names contain the first argument; or stack, by a listing of the library's functions.
 fn main() -> ExitCode {
-    let wanted = std::env::args().nth(1).unwrap_or_default();
-    match run(&wanted) {
+    let arguments: Vec<String> = std::env::args().skip(1).collect();
+    let measured = match &arguments[..] {
+        [option, listing] if option == "--stack" => stack::print(listing),
+        [wanted, ..] => run(wanted),
+        [] => run(""),
+    };
+    match measured {
         Ok(()) => ExitCode::SUCCESS,
         Err(difference) => {
             eprintln!("{difference}");

@@ -1,7 +1,5 @@
 //! Two ways to the numbers of features: worked out anew at each use, and read off tables that are kept.
 
-pub const MOST_VARIABLES: usize = 64;
-
 /// A way to the number at which a variable's atoms begin, and the features of two variables.
 pub trait Numbering {
     fn new(sizes: &[usize]) -> Self;
@@ -25,19 +23,19 @@ impl Numbering for Anew {
     }
 
     fn first_pair(&self, sizes: &[usize], low: usize, high: usize) -> usize {
-        let mut first_atoms = [0u16; MOST_VARIABLES];
-        let mut atoms = 0;
-        for (first, size) in first_atoms.iter_mut().zip(sizes) {
-            *first = atoms as u16;
+        let (mut atoms, mut behind) = (0, 0);
+        for (variable, size) in sizes.iter().enumerate().skip(low).rev() {
+            atoms += size;
+            if variable == high {
+                behind = atoms;
+            }
+        }
+        let mut pairs = sizes[low] * (atoms - (sizes[low] + behind));
+        for size in sizes[..low].iter().rev() {
+            pairs += size * atoms;
             atoms += size;
         }
-        let before: usize = sizes[..low]
-            .iter()
-            .zip(&first_atoms)
-            .map(|(&size, &first)| size * (atoms - (usize::from(first) + size)))
-            .sum();
-        let between = usize::from(first_atoms[high] - first_atoms[low]) - sizes[low];
-        atoms + before + sizes[low] * between
+        atoms + pairs
     }
 }
 

@@ -2,10 +2,11 @@
 
 use super::features::{Atom, Features, MOST_FEATURES};
 use super::file::{Reader, Refusal};
-use super::numbering::{Numbering, MOST_VARIABLES};
+use super::numbering::Numbering;
 use super::pairs::Pairs;
 use super::set;
 
+pub const MOST_VARIABLES: usize = 64;
 pub const MOST_SIZE: usize = 64;
 
 #[derive(Clone, Copy)]

@@ -2,12 +2,12 @@
 
 use super::features::{Atom, Features, MOST_FEATURES};
 use super::file::Refusal;
-use super::numbering::{Numbering, MOST_VARIABLES};
+use super::numbering::Numbering;
 use super::pairs::Pairs;
 use super::rows::Rows;
 use super::set;
 use super::slots::{self, Slots};
-use super::task::{Task, MOST_SIZE};
+use super::task::{Task, MOST_SIZE, MOST_VARIABLES};
 
 /// Where the parts of a workspace begin; the sizes begin behind the first word.
 struct Layout {

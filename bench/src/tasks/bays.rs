@@ -18,7 +18,7 @@ pub fn task_file(rows: u8, columns: u8) -> Vec<u8> {
     written(|room| library::build(&bay_file(rows, columns), room))
 }
 
-fn bay_file(rows: u8, columns: u8) -> Vec<u8> {
+pub fn bay_file(rows: u8, columns: u8) -> Vec<u8> {
     let start: Vec<u8> = (0..rows * columns).collect();
     let mut goal = start.clone();
     goal.swap(1, 2);

@@ -1,6 +1,6 @@
 -- The features of two variables as a plane: a first number, and a step for each value.
 use Prim.Native.Nat.{ℕ, _+_, _*_, _^_, _<_}
-use mathlib.Core.Path.{_≡_, sym, _∙_}
+use mathlib.Core.Path.{_≡_}
 use mathlib.Core.Logic.{_≢_}
 use mathlib.Core.List.{List}
 use native.Mathlib.Omega.{arith}
@@ -17,20 +17,17 @@ numberIn plane x y = plane .first + (x * plane .step + y * plane .other)
 abbrev pub Spans : List ℕ → ℕ → ℕ → (ℕ → ℕ → ℕ → ℕ → ℕ) → Plane → Type 0
 Spans sizes i j feature plane = (x y : ℕ) → x < size sizes i → y < size sizes j → numberIn plane x y ≡ feature i x j y
 
--- That of variables in order, from its first number.
-pub plane-ordered : (sizes : List ℕ) (i j first d : ℕ) → first ≡ atoms sizes + pairStart sizes i j → d ≡ size sizes j
-    → Spans sizes i j (double sizes) (record { first = first; step = d; other = 1 })
+-- The plane of variables in order, from its first number: a step of the first value passes all values of the second.
+pub plane-less : (sizes : List ℕ) (i j first d : ℕ) → i < j → first ≡ atoms sizes + pairStart sizes i j → d ≡ size sizes j
+    → Spans sizes i j (both sizes) (record { first = first; step = d; other = 1 })
 unfolding double
-plane-ordered sizes i j first d e g x y h k = rw (e, g) (omega arith)
-
-pub plane-less : (sizes : List ℕ) (i j : ℕ) (plane : Plane) → i < j → Spans sizes i j (double sizes) plane → Spans sizes i j (both sizes) plane
-plane-less sizes i j plane l h x y m k = h x y m k ∙ sym (both-less sizes i x j y l)
+plane-less sizes i j first d l e g x y h k = rw (e, g, both-less sizes i x j y l) (omega arith)
 
 -- That of variables the other way round has the steps turned round.
-pub plane-more : (sizes : List ℕ) (i j first step other : ℕ) → j < i → Spans sizes j i (double sizes) (record { first = first; step = step; other = other })
-    → Spans sizes i j (both sizes) (record { first = first; step = other; other = step })
-plane-more sizes i j first step other l h x y m k =
-    let e : first + (x * other + y * step) ≡ first + (y * step + x * other) = omega arith in e ∙ h y x k m ∙ sym (both-more sizes i x j y l)
+pub plane-more : (sizes : List ℕ) (i j first d : ℕ) → j < i → first ≡ atoms sizes + pairStart sizes j i → d ≡ size sizes i
+    → Spans sizes i j (both sizes) (record { first = first; step = 1; other = d })
+unfolding double
+plane-more sizes i j first d l e g x y h k = rw (e, g, both-more sizes i x j y l) (omega arith)
 
 -- Every number of a plane is small.
 pub plane-small : (sizes : List ℕ) (i j x y : ℕ) (plane : Plane) → SmallSizes sizes → i ≢ j → Spans sizes i j (both sizes) plane → x < size sizes i → y < size sizes j

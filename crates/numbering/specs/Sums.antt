@@ -6,14 +6,14 @@ use native.Mathlib.Omega.{arith}
 use native.Mathlib.Nat.{mul-add, add-mul, mul-le-mul-left}
 use native.Mathlib.Numerals.{add-one}
 use lib.ListN.{length, take}
-use lib.Seq.{take-length}
+use lib.Seq.{take-all, take-length}
 use Rattle.meaning.specs.Limits.{mostAtoms}
 use Rattle.meaning.specs.Task.{size}
 use Rattle.meaning.specs.Feature.{sumOf, pairsOf, atoms, features}
 use Rattle.theory.specs.Numbering.{front-room}
 use Rattle.numbering.specs.Sizes.{SmallSizes, mostPairs, sum-small, pairs-small}
 
-sum-next : (sizes : List ℕ) (i : ℕ) → sumOf (take (suc i) sizes) ≡ sumOf (take i sizes) + size sizes i
+pub sum-next : (sizes : List ℕ) (i : ℕ) → sumOf (take (suc i) sizes) ≡ sumOf (take i sizes) + size sizes i
 unfolding sumOf
 sum-next [] zero = refl
 sum-next [] (suc i) = refl
@@ -21,7 +21,7 @@ sum-next (d ∷ ds) zero = omega arith
 sum-next (d ∷ ds) (suc i) = omega (arith, sum-next ds i)
 
 -- The last variable's atoms are paired with all atoms before them.
-pairs-next : (sizes : List ℕ) (i : ℕ) → pairsOf (take (suc i) sizes) ≡ pairsOf (take i sizes) + sumOf (take i sizes) * size sizes i
+pub pairs-next : (sizes : List ℕ) (i : ℕ) → pairsOf (take (suc i) sizes) ≡ pairsOf (take i sizes) + sumOf (take i sizes) * size sizes i
 unfolding sumOf pairsOf
 pairs-next [] zero = refl
 pairs-next [] (suc i) = refl
@@ -53,7 +53,7 @@ pub all-atoms : (sizes : List ℕ) → sumOf (take (length sizes) sizes) ≡ ato
 unfolding atoms
 all-atoms sizes = ap sumOf (take-length sizes)
 
--- The atoms and the pairs of all variables are all features.
-pub counted : (sizes : List ℕ) (sum pairs : ℕ) → sum ≡ sumOf (take (length sizes) sizes) → pairs ≡ pairsOf (take (length sizes) sizes) → sum + pairs ≡ features sizes
+-- After the last turn all features are counted.
+pub counted : (sizes : List ℕ) (j sum pairs : ℕ) → length sizes ≤ j → sum ≡ sumOf (take j sizes) → pairs ≡ pairsOf (take j sizes) → sum + pairs ≡ features sizes
 unfolding features atoms
-counted sizes sum pairs e h = rw (e, h, take-length sizes) refl
+counted sizes j sum pairs l e h = rw (e, h, take-all j sizes l) refl

@@ -4,22 +4,23 @@ ghost use mathlib.Core.Logic.{_≢_};
 ghost use Prim.Native.Nat.{_+_, _^_, _<_, _≤_};
 ghost use lib.ListN.{length, take};
 ghost use Rattle.meaning.specs.Task.{size};
-ghost use Rattle.meaning.specs.Feature.{sumOf, pairsOf, atoms, features, single, pairStart, double, both};
+ghost use Rattle.meaning.specs.Feature.{sumOf, atoms, features, single, pairStart, both};
 ghost use Rattle.numbering.specs.Sizes.{SmallSizes};
+ghost use Rattle.numbering.specs.Blocks.{From};
 ghost use Rattle.numbering.specs.Planes.{numberIn, Spans};
 ghost use Rattle.numbering.specs.Order.{Stands, Follows, Contains, Joins};
-
-// How many atoms some variables have, and how many pairs of atoms of two of them.
-struct Counts {
-    atoms: usize,
-    pairs: usize,
-}
 
 // Where the features of two variables stand: the number of the one with both values 0, and how far a step of each value leads.
 pub struct Plane {
     pub first: usize,
     pub step: usize,
     pub other: usize,
+}
+
+// How many atoms the variables from a first one on have, and those from a second one on.
+struct Rests {
+    first: usize,
+    second: usize,
 }
 
 // The features of two variables in order as a block of numbers, from `start` to right before `end`. A variable with itself has an empty one,
@@ -45,38 +46,18 @@ pub fn size(sizes: &[u64], i: usize) -> usize
     sizes[i] as usize
 }
 
-// How many atoms the variables from `from` to right before `to` have.
-fn atoms_between(sizes: &[u64], from: usize, to: usize) -> usize
-    requires { ⌜ SmallSizes (now sizes) × (from ≤ to) × (to ≤ length (now sizes)) ⌝ }
-    ensures { λ r. ⌜ sumOf (take from (now (sizes .entry))) + r ≡ sumOf (take to (now (sizes .entry))) ⌝ }
+// How many atoms the first n variables have: the number of variable n's first atom.
+fn atoms_before(sizes: &[u64], n: usize) -> usize
+    requires { ⌜ SmallSizes (now sizes) × (n ≤ length (now sizes)) ⌝ }
+    ensures { λ r. ⌜ r ≡ sumOf (take n (now (sizes .entry))) ⌝ }
 {
     let mut sum = 0;
-    let mut i = from;
-    while i < to {
+    let mut i = 0;
+    while i < n {
         sum += size(sizes, i);
         i += 1;
     }
     sum
-}
-
-// The atoms and the pairs of the first n variables: each adds its atoms, and their pairs with the atoms before them.
-fn counts_before(sizes: &[u64], n: usize) -> Counts
-    requires { ⌜ SmallSizes (now sizes) × (n ≤ length (now sizes)) ⌝ }
-    ensures { λ r. ⌜ (r .atoms ≡ sumOf (take n (now (sizes .entry)))) × (r .pairs ≡ pairsOf (take n (now (sizes .entry)))) ⌝ }
-{
-    let mut atoms = 0;
-    let mut pairs = 0;
-    let mut i = 0;
-    while i < n {
-        let d = size(sizes, i);
-        pairs += atoms * d;
-        atoms += d;
-        i += 1;
-    }
-    Counts {
-        atoms: atoms,
-        pairs: pairs,
-    }
 }
 
 // How many single atoms there are: A.
@@ -84,16 +65,24 @@ pub fn atoms(sizes: &[u64]) -> usize
     requires { ⌜ SmallSizes (now sizes) ⌝ }
     ensures { λ r. ⌜ r ≡ atoms (now (sizes .entry)) ⌝ }
 {
-    atoms_between(sizes, 0, sizes.len())
+    atoms_before(sizes, sizes.len())
 }
 
-// How many features there are: N.
+// How many features there are: N. Each variable adds its atoms, and its pairs with the atoms before them.
 pub fn features(sizes: &[u64]) -> usize
     requires { ⌜ SmallSizes (now sizes) ⌝ }
     ensures { λ r. ⌜ r ≡ features (now (sizes .entry)) ⌝ }
 {
-    let all = counts_before(sizes, sizes.len());
-    all.atoms + all.pairs
+    let mut atoms = 0;
+    let mut pairs = 0;
+    let mut j = 0;
+    while j < sizes.len() {
+        let d = size(sizes, j);
+        pairs += atoms * d;
+        atoms += d;
+        j += 1;
+    }
+    atoms + pairs
 }
 
 // The number of the atom that gives variable i the value x.
@@ -101,47 +90,73 @@ pub fn single(sizes: &[u64], i: usize, x: usize) -> usize
     requires { ⌜ SmallSizes (now sizes) × (i < length (now sizes)) × (x < size (now sizes) i) ⌝ }
     ensures { λ r. ⌜ r ≡ single (now (sizes .entry)) i x ⌝ }
 {
-    atoms_between(sizes, 0, i) + x
+    atoms_before(sizes, i) + x
 }
 
-// The number of the first feature of variables i < j. All atoms stand before it, the pairs of the variables before i, among themselves and with the
-// rest, and those of i with the variables between the two.
+// How many atoms the variables from i on have, and those from j on.
+fn atoms_from(sizes: &[u64], i: usize, j: usize) -> Rests
+    requires { ⌜ SmallSizes (now sizes) × (i < j) × (j < length (now sizes)) ⌝ }
+    ensures { λ r. ⌜ From (now (sizes .entry)) i (r .first) × From (now (sizes .entry)) j (r .second) ⌝ }
+{
+    let mut sum = 0;
+    let mut second = 0;
+    let mut k = sizes.len();
+    while i < k {
+        k -= 1;
+        sum += size(sizes, k);
+        if k == j {
+            second = sum;
+        }
+    }
+    Rests {
+        first: sum,
+        second: second,
+    }
+}
+
+// The number of the first feature of variables i < j. All atoms stand before it, the pairs of i with the variables between the two, and those of each
+// variable before i with all behind it.
 fn first_pair(sizes: &[u64], i: usize, j: usize) -> usize
     requires { ⌜ SmallSizes (now sizes) × (i < j) × (j < length (now sizes)) ⌝ }
     ensures { λ r. ⌜ r ≡ atoms (now (sizes .entry)) + pairStart (now (sizes .entry)) i j ⌝ }
 {
-    let before = counts_before(sizes, i);
-    let d = size(sizes, i);
-    let between = atoms_between(sizes, i + 1, j);
-    let rest = d + between + atoms_between(sizes, j, sizes.len());
-    before.atoms + rest + (before.pairs + before.atoms * rest) + d * between
-}
-
-// The features of variables i < j: a step of the first value passes all values of the second.
-fn ordered_plane(sizes: &[u64], i: usize, j: usize) -> Plane
-    requires { ⌜ SmallSizes (now sizes) × (i < j) × (j < length (now sizes)) ⌝ }
-    ensures { λ r. ⌜ Spans (now (sizes .entry)) i j (double (now (sizes .entry))) r ⌝ }
-{
-    Plane {
-        first: first_pair(sizes, i, j),
-        step: size(sizes, j),
-        other: 1,
+    let from = atoms_from(sizes, i, j);
+    let own = size(sizes, i);
+    let mut pairs = own * (from.first - (own + from.second));
+    let mut atoms = from.first;
+    let mut k = i;
+    while 0 < k {
+        k -= 1;
+        let d = size(sizes, k);
+        pairs += d * atoms;
+        atoms += d;
     }
+    atoms + pairs
 }
 
-// The features of two variables, either way round.
+// The features of two variables, either way round: a step of the lower variable's value passes all values of the other one.
 pub fn plane_of(sizes: &[u64], i: usize, j: usize) -> Plane
     requires { ⌜ SmallSizes (now sizes) × (i ≢ j) × (i < length (now sizes)) × (j < length (now sizes)) ⌝ }
     ensures { λ r. ⌜ Spans (now (sizes .entry)) i j (both (now (sizes .entry))) r ⌝ }
 {
+    let mut low = i;
+    let mut high = j;
+    if j < i {
+        low = j;
+        high = i;
+    }
+    let first = first_pair(sizes, low, high);
     if i < j {
-        ordered_plane(sizes, i, j)
-    } else {
-        let turned = ordered_plane(sizes, j, i);
         Plane {
-            first: turned.first,
-            step: turned.other,
-            other: turned.step,
+            first: first,
+            step: size(sizes, j),
+            other: 1,
+        }
+    } else {
+        Plane {
+            first: first,
+            step: 1,
+            other: size(sizes, i),
         }
     }
 }

@@ -1,103 +1,112 @@
--- `first_pair` meets its contract: the sums over the variables before i, between the two and from j on are the parts of the number.
-use Prim.Native.Nat.{_+_, _*_, _≤_}
+-- `first_pair` meets its contract: at each turn only the pairs of the variables before k are not counted, and all sums stay small.
+use Prim.Native.Nat.{ℕ, _+_, _-_, _*_, _≤_}
 use mathlib.Core.Path.{_≡_}
+use mathlib.Core.List.{List}
 use native.Mathlib.Omega.{arith}
-use lib.ListN.{take}
 use borrow.Author.Needs.{needs}
 use Rattle.meaning.specs.Limits.{mostAtoms}
-use Rattle.meaning.specs.Feature.{sumOf, atoms, pairStart}
-use Rattle.theory.specs.Numbering.{front-room}
-use Rattle.numbering.specs.Sizes.{mostPairs, sum-small}
-use Rattle.numbering.specs.Sums.{atoms-turn, all-atoms}
-use Rattle.numbering.specs.Blocks.{first-of}
+use Rattle.numbering.specs.Sizes.{mostPairs}
+use Rattle.numbering.specs.Blocks.{Counted, counted-first, counted-turn, counted-small, counted-last}
 use Rattle.numbering.proofs.first_pair.Statement.{statement}
 use Rattle.numbering.proofs.first_pair.Tie as tie
 
--- The atoms before variable j are those before i, those of i, and those between.
-front : (c : tie.After-atoms-between)
-    → let a = c .before .before .before .before .args in
-    let sum = c .before .before .counts-before .result .atoms + c .before .size .result + c .atoms-between .result in
-    (sum ≡ sumOf (take (a .j) (a .sizes .now))) × (sum ≤ mostAtoms)
-front c =
-    let start = c .before .before .before .before in
-    let sizes = start .args .sizes .now in
-    let (own, _) = atoms-turn sizes _ _ _ (start .pre .0) (c .before .size .ensures) (c .before .before .counts-before .ensures .0) in
-    (omega (arith, own, c .atoms-between .ensures), omega (arith, own, c .atoms-between .ensures, front-room sizes (start .args .j), sum-small sizes (start .pre .0)))
+abbrev Inv-loop : tie.InvT-loop
+Inv-loop sizes i j own pairs₀ atoms₀ k₀ pairs atoms k = (k ≤ i) × Counted sizes i j k atoms pairs
 
--- The sum is the number, and it is small.
-number : (c : tie.After-atoms-between2)
-    → let a = c .before .before .before .before .before .args in
-    let counts = c .before .before .before .counts-before .result in
-    let d = c .before .before .size .result in
-    let between = c .before .atoms-between .result in
-    let rest = d + between + c .atoms-between2 .result in
-    let sum = counts .atoms + rest + (counts .pairs + counts .atoms * rest) + d * between in
-    (sum ≡ atoms (a .sizes .now) + pairStart (a .sizes .now) (a .i) (a .j)) × (sum ≤ mostAtoms + mostPairs)
-unfolding atoms
-number c =
-    let start = c .before .before .before .before .before in
-    let (small, l, _) = start .pre in
-    let (before, pairs) = c .before .before .before .counts-before .ensures in
-    first-of (start .args .sizes .now) (start .args .i) (start .args .j) _ _ _ _ _ small l before pairs (c .before .before .size .ensures) (front (c .before) .0)
-    (omega (arith, front (c .before) .0, c .atoms-between2 .ensures, all-atoms (start .args .sizes .now)))
+abbrev μ-loop : tie.MeasureT-loop
+μ-loop sizes i j own pairs₀ atoms₀ k₀ pairs atoms k = k
 
-counts-before-requires : tie.Need-counts-before-requires
-counts-before-requires c κs = search needs
+-- What is counted, and that it is small.
+abbrev Sums : List ℕ → ℕ → ℕ → ℕ → ℕ → ℕ → Type 0
+Sums sizes i j k count pairs = Counted sizes i j k count pairs × (count ≤ mostAtoms) × (pairs ≤ mostPairs)
 
-size-requires : tie.Need-size-requires
+-- At first the pairs of variable i itself are counted.
+begin : (c : tie.After-size Inv-loop μ-loop)
+    → let a = c .before .before .before .args in
+    let counts = c .before .atoms-from .result in
+    let own = c .size .result in
+    (own + counts .second ≤ counts .first) × Sums (a .sizes .now) (a .i) (a .j) (a .i) (counts .first) (own * (counts .first - (own + counts .second)))
+begin c =
+    let (small, ordered, _) = c .before .before .before .pre in
+    let (first, second) = c .before .atoms-from .ensures in
+    let (room, counted) = counted-first _ _ _ ordered _ _ _ (c .size .ensures) first second in
+    let (few, most) = counted-small _ _ _ ordered _ _ _ small counted in
+    (room, (counted, few, most))
+
+-- What a turn adds.
+turn : (c : tie.After-size2 Inv-loop μ-loop)
+    → let a = c .before .before .before .before .before .before .before .before .args in
+    let at = c .before .before .loop in
+    Sums (a .sizes .now) (a .i) (a .j) (at .k - 1) (at .atoms + c .size2 .result) (at .pairs + c .size2 .result * at .atoms)
+turn c =
+    let (small, ordered, _) = c .before .before .before .before .before .before .before .before .pre in
+    let counted = counted-turn _ _ _ _ (omega arith) (c .size2 .ensures) _ _ _ (c .before .before .loop .inv .1) in
+    let (few, most) = counted-small _ _ _ ordered _ _ _ small counted in
+    (counted, few, most)
+
+atoms-from-requires : tie.Need-atoms-from-requires Inv-loop μ-loop
+atoms-from-requires c κs = search needs
+
+size-requires : tie.Need-size-requires Inv-loop μ-loop
 size-requires c κs = search needs
 
-add-atoms-between : tie.Need-add-atoms-between
-add-atoms-between c = search needs
+add-pairs : tie.Need-add-pairs Inv-loop μ-loop
+add-pairs c = let (room, sums) = begin (c .before) in omega (arith, room, sums .1)
 
-atoms-between-requires : tie.Need-atoms-between-requires
-atoms-between-requires c κs = search needs
+sub-pairs : tie.Need-sub-pairs Inv-loop μ-loop
+sub-pairs c = begin (c .before .before) .0
 
-add-rest : tie.Need-add-rest
-add-rest c = omega (arith, front c .1)
+mul-pairs : tie.Need-mul-pairs Inv-loop μ-loop
+mul-pairs c = omega (arith, begin (c .before .before) .1 .2)
 
-atoms-between-requires-2 : tie.Need-atoms-between-requires-2
-atoms-between-requires-2 c κs = search needs
+loop-holds : tie.Need-loop-holds Inv-loop μ-loop
+loop-holds c = (omega arith, begin (c .before .before) .1 .0)
 
-add-rest-2 : tie.Need-add-rest-2
-add-rest-2 c = omega (arith, number c .1)
+sub-k : tie.Need-sub-k Inv-loop μ-loop
+sub-k c = omega arith
 
-add-result : tie.Need-add-result
-add-result c = omega (arith, number (c .before) .1)
+size-requires-2 : tie.Need-size-requires-2 Inv-loop μ-loop
+size-requires-2 c κs = omega arith
 
-mul-result : tie.Need-mul-result
-mul-result c = omega (arith, number (c .before .before) .1)
+mul-pairs-2 : tie.Need-mul-pairs-2 Inv-loop μ-loop
+mul-pairs-2 c = omega (arith, turn c .2)
 
-add-result-2 : tie.Need-add-result-2
-add-result-2 c = omega (arith, number (c .before .before .before) .1)
+add-pairs-2 : tie.Need-add-pairs-2 Inv-loop μ-loop
+add-pairs-2 c = omega (arith, turn c .2)
 
-add-result-3 : tie.Need-add-result-3
-add-result-3 c = omega (arith, number (c .before .before .before) .1)
+add-atoms : tie.Need-add-atoms Inv-loop μ-loop
+add-atoms c = omega (arith, turn c .1)
 
-mul-result-2 : tie.Need-mul-result-2
-mul-result-2 c = omega (arith, number (c .before .before .before) .1)
+loop-less : tie.Need-loop-less Inv-loop μ-loop
+loop-less c = omega arith
 
-add-result-4 : tie.Need-add-result-4
-add-result-4 c = omega (arith, number (c .before .before .before) .1)
+loop-again : tie.Need-loop-again Inv-loop μ-loop
+loop-again c = (omega arith, turn c .0)
 
-returns : tie.Need-returns
-returns c = number (c .before .before .before) .0
+add-result : tie.Need-add-result Inv-loop μ-loop
+add-result c = let (small, ordered, _) = c .before .before .before .before .before .before .before .pre in omega (arith, counted-small _ _ _ ordered _ _ _ small (c .before .loop .inv .1))
+
+returns : tie.Need-returns Inv-loop μ-loop
+returns c = let e : c .before .loop .k ≡ 0 = omega arith in counted-last _ _ _ _ _ (rw e at (c .before .loop .inv .1))
 
 pub first-pair-spec : {M : Type 1} → statement M
 first-pair-spec =
     tie.close
     (tie.spec
-    counts-before-requires
+    Inv-loop
+    μ-loop
+    atoms-from-requires
     size-requires
-    add-atoms-between
-    atoms-between-requires
-    add-rest
-    atoms-between-requires-2
-    add-rest-2
+    add-pairs
+    sub-pairs
+    mul-pairs
+    loop-holds
+    sub-k
+    size-requires-2
+    mul-pairs-2
+    add-pairs-2
+    add-atoms
+    loop-less
+    loop-again
     add-result
-    mul-result
-    add-result-2
-    add-result-3
-    mul-result-2
-    add-result-4
     returns)

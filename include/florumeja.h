@@ -17,7 +17,14 @@
  *   - A slice that is lent for writing (a room; the workspace of an edit) shares no byte with another slice of the call.
  *   - No other thread writes a slice of a call, or touches one that is lent for writing, before the call returns.
  *
- * Nothing is kept between calls and nothing is allocated. A call takes some 20 KiB of stack, florumeja_line some 70 KiB (measured, not proved).
+ * Nothing is kept between calls and nothing is allocated. The most stack that a call can take, in bytes, whatever its input, as bench/stack reads it from
+ * the compiled archive (measured, not proved; what memcpy and memset of the C library take comes on top):
+ *
+ *   line             71408      build_partial, build_partial_lean   13744      check              11488      replace_start   960
+ *   open_partial     16816      check_partial                       13584      add_operator        9432      replace_goal    912
+ *   pair_fault       15632      mend, dropped                       11968      find                1568      weight_file      64
+ *   open             14592      silence                             11904      build               1280
+ *                               check_line                          11536
  *
  * Each call answers one number, case * 2^32 + value; take it apart by florumeja_case and florumeja_value:
  *

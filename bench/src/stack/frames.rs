@@ -75,12 +75,16 @@ impl Frames {
             name: name.to_string(),
             bytes,
         };
-        let function = self.functions.get(name);
-        let frame = function.map_or(Ok(ADDRESS), |function| nested_frame(name, function))?;
-        let mut deepest = vec![step(frame)];
-        for (bytes, callee) in function.iter().flat_map(|function| &function.calls) {
+        let library = Function {
+            frame: ADDRESS,
+            calls: Vec::new(),
+        };
+        let function = self.functions.get(name).unwrap_or(&library);
+        let outer = outer_frames(name, function)?;
+        let mut deepest = vec![step(outer + function.frame)];
+        for (bytes, callee) in &function.calls {
             if callee != name {
-                let mut way = vec![step(*bytes)];
+                let mut way = vec![step(outer + bytes)];
                 way.extend(self.way(callee, known)?);
                 if total(&way) > total(&deepest) {
                     deepest = way;
@@ -96,15 +100,15 @@ fn total(way: &[Step]) -> usize {
     way.iter().map(|step| step.bytes).sum()
 }
 
-/// The frame of a function, with as many more before it as it has where it calls itself.
-fn nested_frame(name: &str, function: &Function) -> Result<usize, String> {
+/// How many bytes a function that calls itself has in its frames but the last one.
+fn outer_frames(name: &str, function: &Function) -> Result<usize, String> {
     let own = function.calls.iter().filter(|(_, callee)| callee == name);
-    let Some(before) = own.map(|(bytes, _)| bytes).max() else {
-        return Ok(function.frame);
+    let Some(outer) = own.map(|(bytes, _)| bytes).max() else {
+        return Ok(0);
     };
     let nested = NESTED.iter().find(|(nested, _)| *nested == name);
     let (_, frames) = nested.ok_or_else(|| format!("{name} calls itself without a known end"))?;
-    Ok((frames - 1) * before + function.frame)
+    Ok((frames - 1) * outer)
 }
 
 /// A function's name and its lines.
@@ -192,6 +196,9 @@ impl Function {
                 ("sub", Some((bytes, "%rsp"))) => depth = depth.wrapping_add(number(bytes)?),
                 ("add", Some((bytes, "%rsp"))) => depth = depth.wrapping_sub(number(bytes)?),
                 (_, Some((_, "%rsp"))) => return Err(format!("{kind} {operands} moves the stack")),
+                ("call", _) if instruction.named.is_none() && operands.starts_with(TABLE) => {
+                    return Err(format!("{kind} {operands} calls what is not named"))
+                }
                 ("call", _) => function.calls(depth, instruction.named.unwrap_or(name)),
                 _ if kind.starts_with('j') => match instruction.named {
                     // The frame is gone, and the callee returns to the caller.

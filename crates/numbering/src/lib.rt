@@ -123,15 +123,15 @@ fn first_pair(sizes: &[u64], i: usize, j: usize) -> usize
     let from = atoms_from(sizes, i, j);
     let own = size(sizes, i);
     let mut pairs = own * (from.first - (own + from.second));
-    let mut atoms = from.first;
+    let mut behind = from.first;
     let mut k = i;
     while 0 < k {
         k -= 1;
         let d = size(sizes, k);
-        pairs += d * atoms;
-        atoms += d;
+        pairs += d * behind;
+        behind += d;
     }
-    atoms + pairs
+    behind + pairs
 }
 
 // The features of two variables, either way round: a step of the lower variable's value passes all values of the other one.

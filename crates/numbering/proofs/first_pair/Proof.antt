@@ -11,10 +11,10 @@ use Rattle.numbering.proofs.first_pair.Statement.{statement}
 use Rattle.numbering.proofs.first_pair.Tie as tie
 
 abbrev Inv-loop : tie.InvT-loop
-Inv-loop sizes i j own pairs₀ atoms₀ k₀ pairs atoms k = (k ≤ i) × Counted sizes i j k atoms pairs
+Inv-loop sizes i j own pairs₀ behind₀ k₀ pairs behind k = (k ≤ i) × Counted sizes i j k behind pairs
 
 abbrev μ-loop : tie.MeasureT-loop
-μ-loop sizes i j own pairs₀ atoms₀ k₀ pairs atoms k = k
+μ-loop sizes i j own pairs₀ behind₀ k₀ pairs behind k = k
 
 -- What is counted, and that it is small.
 abbrev Sums : List ℕ → ℕ → ℕ → ℕ → ℕ → ℕ → Type 0
@@ -37,7 +37,7 @@ begin c =
 turn : (c : tie.After-size2 Inv-loop μ-loop)
     → let a = c .before .before .before .before .before .before .before .before .args in
     let at = c .before .before .loop in
-    Sums (a .sizes .now) (a .i) (a .j) (at .k - 1) (at .atoms + c .size2 .result) (at .pairs + c .size2 .result * at .atoms)
+    Sums (a .sizes .now) (a .i) (a .j) (at .k - 1) (at .behind + c .size2 .result) (at .pairs + c .size2 .result * at .behind)
 turn c =
     let (small, ordered, _) = c .before .before .before .before .before .before .before .before .pre in
     let counted = counted-turn _ _ _ _ (omega arith) (c .size2 .ensures) _ _ _ (c .before .before .loop .inv .1) in
@@ -74,8 +74,8 @@ mul-pairs-2 c = omega (arith, turn c .2)
 add-pairs-2 : tie.Need-add-pairs-2 Inv-loop μ-loop
 add-pairs-2 c = omega (arith, turn c .2)
 
-add-atoms : tie.Need-add-atoms Inv-loop μ-loop
-add-atoms c = omega (arith, turn c .1)
+add-behind : tie.Need-add-behind Inv-loop μ-loop
+add-behind c = omega (arith, turn c .1)
 
 loop-less : tie.Need-loop-less Inv-loop μ-loop
 loop-less c = omega arith
@@ -105,7 +105,7 @@ first-pair-spec =
     size-requires-2
     mul-pairs-2
     add-pairs-2
-    add-atoms
+    add-behind
     loop-less
     loop-again
     add-result

@@ -88,7 +88,7 @@ impl Runs {
         room
     }
 
-    /// A call that leaves words, and those that are due of an opening.
+    /// A call that leaves words: its answer, and the room.
     fn words(&mut self, call: &str, arguments: &[[u64; 2]], length: usize) -> (u64, Vec<u64>) {
         let mut room = vec![0u64; length];
         let answer = self.run(call, &[arguments, &[lent(&mut room)]].concat().concat());

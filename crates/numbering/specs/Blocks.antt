@@ -12,9 +12,12 @@ use Rattle.theory.specs.Numbering.{front-next, pair-room}
 use Rattle.numbering.specs.Sizes.{SmallSizes, mostPairs, sum-small, pairs-small}
 use Rattle.numbering.specs.Sums.{sum-next, pairs-next}
 
+-- The atoms from variable k on are counted.
+abbrev pub From : List ℕ → ℕ → ℕ → Type 0
+From sizes k count = sumOf (take k sizes) + count ≡ sumOf sizes
+
 -- Before the pairs of first variable i stand those of the variables before it, among themselves and with the rest.
-row-start : (sizes : List ℕ) (i rest : ℕ) → sumOf (take i sizes) + rest ≡ sumOf sizes
-    → pairStart sizes i (suc i) ≡ pairsOf (take i sizes) + sumOf (take i sizes) * rest
+row-start : (sizes : List ℕ) (i rest : ℕ) → From sizes i rest → pairStart sizes i (suc i) ≡ pairsOf (take i sizes) + sumOf (take i sizes) * rest
 unfolding sumOf pairsOf pairStart
 row-start [] zero rest e = omega arith
 row-start [] (suc i) rest e = omega arith
@@ -32,10 +35,6 @@ block-start [] i (suc j) between l e = omega arith
 block-start (d ∷ ds) zero (suc j) between l e =
     let q : between ≡ sumOf (take j ds) = omega arith in rw q (omega arith)
 block-start (d ∷ ds) (suc i) (suc j) between l e = omega (arith, block-start ds i j between (omega arith) (omega arith))
-
--- The atoms from variable k on are counted.
-abbrev pub From : List ℕ → ℕ → ℕ → Type 0
-From sizes k count = sumOf (take k sizes) + count ≡ sumOf sizes
 
 -- Of what stands before the pairs of variables i and j, only the pairs of the variables before k are not counted, among themselves and with the rest.
 pub record Counted (sizes : List ℕ) (i j k count pairs : ℕ) : Type 0 where

@@ -10,6 +10,7 @@ use Rattle.numbering.specs.Planes.{plane-less, plane-more}
 use Rattle.numbering.proofs.plane_of.Statement.{statement}
 use Rattle.numbering.proofs.plane_of.Tie as tie
 
+-- The number of the first feature of two variables in order.
 abbrev firstOf : List ℕ → ℕ → ℕ → ℕ
 firstOf sizes low high = atoms sizes + pairStart sizes low high
 

@@ -19,7 +19,8 @@ use Rattle.meaning.specs.File.{item, judge, rising, ended, itemsOf, size
 use Rattle.meaning.specs.Workspace.{has}
 use Rattle.meaning.specs.Answer.{done, refused, accepted, endsAlike, breaks, fine, faulty, entriesJudged}
 use Rattle.meaning.specs.Bay.{sidesOf, neighbours}
-use Rattle.meaning.specs.Line.{digits, word, refusedLine, verdictLine}
+use Rattle.meaning.specs.Place.{nowhere}
+use Rattle.meaning.specs.Line.{digits, word, fileText, refusedLine, verdictLine}
 
 -- States, value by value.
 pub state-none : State [] []
@@ -243,18 +244,18 @@ unfolding unclosedPair joinsAfters joinsPossible possible paired both double pai
 unclosed-afters = (refl, refl)
 
 -- The checker's lines, byte for byte: `accepted`.
-accepted-line : verdictLine (done accepted) ≡ 97 ∷ 99 ∷ 99 ∷ 101 ∷ 112 ∷ 116 ∷ 101 ∷ 100 ∷ 10 ∷ []
+accepted-line : verdictLine nowhere (done accepted) ≡ 97 ∷ 99 ∷ 99 ∷ 101 ∷ 112 ∷ 116 ∷ 101 ∷ 100 ∷ 10 ∷ []
 unfolding verdictLine
 accepted-line = refl
 
 -- `rejected ends alike`.
-alike-line : verdictLine (done endsAlike)
+alike-line : verdictLine nowhere (done endsAlike)
     ≡ 114 ∷ 101 ∷ 106 ∷ 101 ∷ 99 ∷ 116 ∷ 101 ∷ 100 ∷ 32 ∷ 101 ∷ 110 ∷ 100 ∷ 115 ∷ 32 ∷ 97 ∷ 108 ∷ 105 ∷ 107 ∷ 101 ∷ 10 ∷ []
 unfolding verdictLine
 alike-line = refl
 
 -- `rejected operator 16382`: the last operator of the longest list.
-operator-line : verdictLine (done (breaks 16382))
+operator-line : verdictLine nowhere (done (breaks 16382))
     ≡ 114 ∷ 101 ∷ 106 ∷ 101 ∷ 99 ∷ 116 ∷ 101 ∷ 100 ∷ 32 ∷ 111 ∷ 112 ∷ 101 ∷ 114 ∷ 97 ∷ 116 ∷ 111 ∷ 114 ∷ 32 ∷ 49 ∷ 54 ∷ 51 ∷ 56 ∷ 50 ∷ 10 ∷ []
 unfolding verdictLine word digits
 operator-line = refl
@@ -265,6 +266,6 @@ unfolding word digits
 long-word = refl
 
 -- `refused 7`.
-refused-line : verdictLine (refused 7) ≡ 114 ∷ 101 ∷ 102 ∷ 117 ∷ 115 ∷ 101 ∷ 100 ∷ 32 ∷ 55 ∷ 10 ∷ []
-unfolding verdictLine refusedLine word digits
+refused-line : verdictLine nowhere (refused 7) ≡ 114 ∷ 101 ∷ 102 ∷ 117 ∷ 115 ∷ 101 ∷ 100 ∷ 32 ∷ 55 ∷ 10 ∷ []
+unfolding verdictLine refusedLine fileText word digits
 refused-line = refl

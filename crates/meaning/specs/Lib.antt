@@ -13,9 +13,11 @@ pub mod Answer
 pub mod Bay
 pub mod Partial
 pub mod Mend
+pub mod Place
 pub mod Line
 pub mod History
 pub mod Facts
+pub mod PlaceFacts
 pub mod FactsOfA
 pub mod LotFacts
 pub mod PartialFacts

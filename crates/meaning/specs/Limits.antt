@@ -73,3 +73,7 @@ mostTask = 1048576
 -- pair_fault: room for a pair and an operator's number, a word each.
 abbrev pub faultWords : ℕ
 faultWords = 2
+
+-- display: room for the beginning of a part and its length, a word each.
+abbrev pub placeWords : ℕ
+placeWords = 2

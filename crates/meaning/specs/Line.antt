@@ -1,4 +1,4 @@
--- The finder and the checker as programs: what they say of their files, and the lines that they print.
+-- The finder, the checker and the bay builder as programs: what they say of their files, and the lines that they print.
 use Prim.Native.Nat.{ℕ, zero, suc, _+_, _/_, _%_}
 use mathlib.Core.Path.{_≡_}
 use mathlib.Core.Bool.{Bool, true, false, _||_, cond}
@@ -13,6 +13,8 @@ use Rattle.meaning.specs.Weight.{Separates, LeastOf}
 use Rattle.meaning.specs.Number.{Small, refusal, Read, got, fault}
 use Rattle.meaning.specs.File.{judgedTask}
 use Rattle.meaning.specs.Answer.{Answer, done, refused, byRead, Verdict, accepted, endsAlike, breaks, Checks}
+use Rattle.meaning.specs.Bay.{judgedBay}
+use Rattle.meaning.specs.Place.{Spot, nowhere, inTask, inWeights, spotAlone, spotBeside}
 
 -- ---- the finder's answer
 
@@ -57,17 +59,37 @@ unfoldable pub wordsIn : List ℕ → List ℕ
 wordsIn [] = []
 wordsIn (n ∷ ns) = word n ++ wordsIn ns
 
--- "`refused` and the number", of the finder and of the checker.
-unfoldable pub refusedLine : ℕ → List ℕ
-refusedLine n = (114 ∷ 101 ∷ 102 ∷ 117 ∷ 115 ∷ 101 ∷ 100 ∷ []) ++ (word n ++ (10 ∷ []))
+-- "`at` and the place"
+unfoldable pub atPlace : ℕ → List ℕ
+atPlace place = 32 ∷ 97 ∷ 116 ∷ word place
+
+-- Where a fault of a file that comes alone stands, "or as before without one".
+unfoldable pub placeText : Spot → List ℕ
+placeText nowhere = []
+placeText (inTask place) = atPlace place
+placeText (inWeights place) = atPlace place
+
+-- The same with the file that holds it: ` in task` or ` in weights`.
+unfoldable pub fileText : Spot → List ℕ
+fileText nowhere = []
+fileText (inTask place) = atPlace place ++ (32 ∷ 105 ∷ 110 ∷ 32 ∷ 116 ∷ 97 ∷ 115 ∷ 107 ∷ [])
+fileText (inWeights place) = atPlace place ++ (32 ∷ 105 ∷ 110 ∷ 32 ∷ 119 ∷ 101 ∷ 105 ∷ 103 ∷ 104 ∷ 116 ∷ 115 ∷ [])
+
+-- "The program prints `refused`, the number, `at` and the place, or as before without one." (Document 01 said: "or `refused` and the number".)
+unfoldable pub refusedLine : ℕ → List ℕ → List ℕ
+refusedLine n place = (114 ∷ 101 ∷ 102 ∷ 117 ∷ 115 ∷ 101 ∷ 100 ∷ []) ++ (word n ++ (place ++ (10 ∷ [])))
 
 -- ---- the finder's line
 
--- "It prints one line: `separated`, the count and the features, increasing; or `none`; or `refused` and the number."
-unfoldable pub line : Answer Found → List ℕ
-line (done (separating fs)) = (115 ∷ 101 ∷ 112 ∷ 97 ∷ 114 ∷ 97 ∷ 116 ∷ 101 ∷ 100 ∷ []) ++ (wordsIn (length fs ∷ fs) ++ (10 ∷ []))
-line (done nothing) = 110 ∷ 111 ∷ 110 ∷ 101 ∷ 10 ∷ []
-line (refused n) = refusedLine n
+-- "It prints one line: `separated`, the count and the features, increasing; or `none`"; or the refusal and its place.
+unfoldable pub line : Spot → Answer Found → List ℕ
+line spot (done (separating fs)) = (115 ∷ 101 ∷ 112 ∷ 97 ∷ 114 ∷ 97 ∷ 116 ∷ 101 ∷ 100 ∷ []) ++ (wordsIn (length fs ∷ fs) ++ (10 ∷ []))
+line spot (done nothing) = 110 ∷ 111 ∷ 110 ∷ 101 ∷ 10 ∷ []
+line spot (refused n) = refusedLine n (placeText spot)
+
+-- A file that is too long is not judged, so no place is known in it.
+abbrev pub printedSpot : List ℕ → Spot
+printedSpot input = cond (ltb mostInput (length input)) nowhere (spotAlone (judgedTask input))
 
 -- ---- the checker's line
 
@@ -76,11 +98,24 @@ abbrev pub ChecksFiles : List ℕ → List ℕ → Answer Verdict → Type 0
 ChecksFiles task weights answer =
     cond (ltb mostTask (length task)) (answer ≡ refused (refusal Small)) (Checks task weights answer)
 
--- `accepted`; or `rejected ends alike`; or `rejected operator` and its number; or `refused` and the number.
-unfoldable pub verdictLine : Answer Verdict → List ℕ
-verdictLine (done accepted) = 97 ∷ 99 ∷ 99 ∷ 101 ∷ 112 ∷ 116 ∷ 101 ∷ 100 ∷ 10 ∷ []
-verdictLine (done endsAlike) =
+-- Where the first fault of the two files stands; in a task file that is too long none is known.
+abbrev pub checkedSpot : List ℕ → List ℕ → Spot
+checkedSpot task weights = spotBeside (judgedTask task) weights
+
+abbrev pub filesSpot : List ℕ → List ℕ → Spot
+filesSpot task weights = cond (ltb mostTask (length task)) nowhere (checkedSpot task weights)
+
+-- `accepted`; or `rejected ends alike`; or `rejected operator` and its number; or the refusal, its place and its file.
+unfoldable pub verdictLine : Spot → Answer Verdict → List ℕ
+verdictLine spot (done accepted) = 97 ∷ 99 ∷ 99 ∷ 101 ∷ 112 ∷ 116 ∷ 101 ∷ 100 ∷ 10 ∷ []
+verdictLine spot (done endsAlike) =
     114 ∷ 101 ∷ 106 ∷ 101 ∷ 99 ∷ 116 ∷ 101 ∷ 100 ∷ 32 ∷ 101 ∷ 110 ∷ 100 ∷ 115 ∷ 32 ∷ 97 ∷ 108 ∷ 105 ∷ 107 ∷ 101 ∷ 10 ∷ []
-verdictLine (done (breaks j)) =
+verdictLine spot (done (breaks j)) =
     (114 ∷ 101 ∷ 106 ∷ 101 ∷ 99 ∷ 116 ∷ 101 ∷ 100 ∷ 32 ∷ 111 ∷ 112 ∷ 101 ∷ 114 ∷ 97 ∷ 116 ∷ 111 ∷ 114 ∷ []) ++ (word j ++ (10 ∷ []))
-verdictLine (refused n) = refusedLine n
+verdictLine spot (refused n) = refusedLine n (fileText spot)
+
+-- ---- the bay builder's line
+
+-- What the program prints for a bay file that it refuses by a number.
+unfoldable pub bayLine : List ℕ → ℕ → List ℕ
+bayLine bay n = refusedLine n (placeText (spotAlone (judgedBay bay)))

@@ -6,18 +6,18 @@ use lib.ListN.{length, getD}
 use lib.Dec.{eqb, ltb}
 use Rattle.meaning.specs.Limits.{group, mostGroups}
 
--- Why a call refuses. The first three are told apart here, and share the paper's number 1.
+-- Why a call refuses.
 pub data Reason : Type 0 where
   Ends Padded Endless Limit Range Unordered LeftOver Outgrown Held Unclosed Small Malformed Gaps Unequal : Reason
 
--- The paper's number for a reason.
+-- The paper's number for a reason. Document 01 said of 1: "input ends inside what is due, or a number is badly formed".
 abbrev pub refusal : Reason → ℕ
--- "input ends inside what is due"
+-- "1 is now only input that ends"
 refusal Ends = 1
--- "or a number is badly formed": not in shortest form
-refusal Padded = 1
--- or its last byte that is allowed says that more follows
-refusal Endless = 1
+-- "12 a number not in shortest form"
+refusal Padded = 12
+-- "13 one whose second byte says that more follows": the last that is allowed
+refusal Endless = 13
 -- "v, a size, N, or a bay dimension breaks its limit"
 refusal Limit = 2
 -- "a value, variable, entry count, feature or label is outside its range, or a list of new values hasn't length v"
@@ -84,6 +84,16 @@ groups (suc k) first bytes place =
 -- The number at a place: "two bytes at most".
 unfoldable pub number : List ℕ → ℕ → Read ℕ
 number bytes place = groups mostGroups place bytes place
+
+-- How many bytes are read of a number in at most k groups: to its last group, to the last byte that is allowed, or to the end of the file.
+unfoldable pub groupsRead : ℕ → List ℕ → ℕ → ℕ
+groupsRead zero bytes place = 0
+groupsRead (suc k) bytes place =
+    cond (ltb place (length bytes)) (cond (ltb (getD bytes place 0) group) 1 (suc (groupsRead k bytes (place + 1)))) 0
+
+-- "that number's bytes as far as they were read"
+unfoldable pub bytesRead : List ℕ → ℕ → ℕ
+bytesRead bytes place = groupsRead mostGroups bytes place
 
 -- Goes on from the place after a number; one that is badly formed is the last.
 abbrev pub placeAfter : Read ℕ → ℕ → (ℕ → ℕ) → ℕ

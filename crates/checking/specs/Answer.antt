@@ -4,10 +4,10 @@ use mathlib.Core.Path.{_≡_, refl, sym, ap, _∙_, fun-ext}
 use mathlib.Core.Bool.{Bool, true, false, cond}
 use mathlib.Core.List.{List, [], _++_, List·Memᴰ as In}
 use native.Mathlib.Omega.{arith}
-use lib.ListN.{length, getD, take, replicate, length-append}
+use lib.ListN.{length, getD, length-append}
 use lib.Dec.{ltb}
 use borrow.Author.Tests.{lt-ltb, le-ltb, ltb-true, ltb-false}
-use Rattle.meaning.specs.Limits.{wordBits, mostFeatures}
+use Rattle.meaning.specs.Limits.{wordBits}
 use Rattle.meaning.specs.Sets.{_⊕_, Set, odd, shared, listed}
 use Rattle.meaning.specs.Task as task
 use Rattle.meaning.specs.Task.{Task}
@@ -21,7 +21,7 @@ use Rattle.meaning.specs.Answer as meaning
 use Rattle.meaning.specs.Answer.{Answer, done, refused, accepted, endsAlike, breaks, Judges}
 use Rattle.theory.specs.Truth.{on, off, test, clash, xor-false-same, xor-true-differ}
 use Rattle.theory.specs.Search.{listed-in}
-use Rattle.theory.specs.Flat.{getD-in, in-getD, take-replicate}
+use Rattle.theory.specs.Flat.{getD-in, in-getD}
 use Rattle.theory.specs.Run.{run-in}
 use Rattle.theory.specs.Words.{length-packed, has-packed, packed-holds}
 use Rattle.theory.specs.Parity.{dot-cong, odd-shared}
@@ -134,12 +134,6 @@ module _ (T : Task) (weights : Set) (ok : Acceptable T) where
       let first = first-then (T .sizes) (listed (T .pairs)) weights os follow _ _ (breaking-first (T .sizes) (listed (T .pairs)) weights bytes at os next read)
       (among-first (T .sizes) (listed (T .pairs)) weights follow) in
       rw (← (ap length e ∙ length-append os follow)) (judged-by _ (rw e first))
-
--- ---- room for a row
-
--- The first words of room for the most features.
-pub room-zeros : (w n : ℕ) → n ≤ mostFeatures → w ≡ wordsFor n → take w (replicate {A = ℕ} (wordsFor mostFeatures) 0) ≡ replicate (wordsFor n) 0
-room-zeros w n h e = ap (λ k. take k (replicate {A = ℕ} (wordsFor mostFeatures) 0)) e ∙ take-replicate (wordsFor n) (wordsFor mostFeatures) 0 (omega arith)
 
 -- ---- the ends
 

@@ -1,12 +1,13 @@
 -- The parts of a workspace for v variables and n features, each under one name; and that they are what is lent from one place to the next.
 use Prim.Native.Nat.{ℕ, _+_, _-_, _*_, _≤_}
-use mathlib.Core.Path.{_≡_, refl}
+use mathlib.Core.Path.{_≡_, refl, ap, _∙_}
 use mathlib.Core.List.{List}
 use native.Mathlib.Omega.{arith}
-use lib.ListN.{length, getD, take, drop, length-drop}
+use lib.ListN.{length, getD, take, drop, replicate, length-drop}
 use lib.Seq.{length-take-le}
 use Rattle.meaning.specs.Limits.{mostVariables, mostFeatures}
 use Rattle.meaning.specs.Workspace.{wordsFor, sizesAt, startAt, goalAt, pairsAt, slotsAt, wordsDue}
+use Rattle.theory.specs.Flat.{take-replicate}
 use Rattle.theory.specs.Contents.{sizesIn}
 use Rattle.layout.specs.declared.Places.{Places}
 use Rattle.layout.specs.Places.{placesOf}
@@ -75,3 +76,7 @@ module _ (v n : ℕ) (at : Places) (is : at ≡ placesOf v n) (ws : List ℕ) wh
 
   pub lent-slots : take (at .end - at .slots) (drop (at .slots) ws) ≡ slotsPart v n ws
   lent-slots = rw is (lent (slotsAt v n) (n * wordsFor n) ws)
+
+-- The first words of zeros for the most features are the zeros for fewer.
+pub room-zeros : (w n : ℕ) → n ≤ mostFeatures → w ≡ wordsFor n → take w (replicate {A = ℕ} (wordsFor mostFeatures) 0) ≡ replicate (wordsFor n) 0
+room-zeros w n h e = ap (λ k. take k (replicate {A = ℕ} (wordsFor mostFeatures) 0)) e ∙ take-replicate (wordsFor n) (wordsFor mostFeatures) 0 (omega arith)

@@ -8,7 +8,7 @@ use lib.Dec.{ltb}
 use Rattle.meaning.specs.Limits.{placeWords}
 use Rattle.meaning.specs.Task.{Task}
 use Rattle.meaning.specs.Feature.{features}
-use Rattle.meaning.specs.Number.{Small, hasPlace, Read, got, fault, bytesRead}
+use Rattle.meaning.specs.Number.{Reason, Small, hasPlace, Read, got, fault, bytesRead}
 use Rattle.meaning.specs.File.{judgedTask, judgedWeights}
 use Rattle.meaning.specs.Answer.{Outcome, refuses, writes}
 use Rattle.meaning.specs.Bay.{judgedBay}
@@ -21,19 +21,22 @@ pub data Spot : Type 0 where
   nowhere : Spot
   inTask inWeights : ℕ → Spot
 
--- "With refusals 1 to 4, 12 and 13 the reader gives the place of the first byte of the number being read"; "a 2 judged after 5 has none". Where nothing is refused, what
--- is read next decides.
-abbrev pub spotOf : {A : Type 0} → (ℕ → Spot) → Read A → (A → Spot) → Spot
-spotOf file (got a next) rest = rest a
-spotOf file (fault reason place) rest = cond (hasPlace reason) (file place) nowhere
+-- "With refusals 1 to 4, 12 and 13 the reader gives the place of the first byte of the number being read"; "a 2 judged after 5 has none".
+abbrev pub faultSpot : (ℕ → Spot) → Reason → ℕ → Spot
+faultSpot file reason place = cond (hasPlace reason) (file place) nowhere
+
+-- Where nothing is refused, what is read next decides.
+abbrev pub spotBy : {A : Type 0} → (ℕ → Spot) → Read A → (A → Spot) → Spot
+spotBy file (got a next) rest = rest a
+spotBy file (fault reason place) rest = faultSpot file reason place
 
 -- The first fault of a file that comes alone.
 abbrev pub spotAlone : {A : Type 0} → Read A → Spot
-spotAlone read = spotOf inTask read (λ _. nowhere)
+spotAlone read = spotBy inTask read (λ _. nowhere)
 
 -- The first fault of a task that was judged and of the weights beside it: "Weights are read after a fully accepted task."
 abbrev pub spotBeside : Read Task → List ℕ → Spot
-spotBeside judged weights = spotOf inTask judged (λ T. spotOf inWeights (judgedWeights (features (T .sizes)) weights) (λ _. nowhere))
+spotBeside judged weights = spotBy inTask judged (λ T. spotBy inWeights (judgedWeights (features (T .sizes)) weights) (λ _. nowhere))
 
 -- ---- what is shown
 

@@ -11,7 +11,7 @@ use lib.Seq.{sets, sets-eq}
 use lib.Dec.{eqb}
 use borrow.Author.Tests.{lt-ltb, le-ltb}
 use Rattle.meaning.specs.Limits.{group, mostGroups, numberEnd}
-use Rattle.meaning.specs.Number.{Reason, Read, got, fault, onRead, Ends, Padded, Endless, groups, number, numbersOn, groupBytes, numberBytes}
+use Rattle.meaning.specs.Number.{Reason, Read, got, fault, onRead, Ends, Padded, Endless, groups, number, groupsRead, numbersOn, groupBytes, numberBytes}
 use Rattle.theory.specs.NumberBack.{groups-one, groups-give, group-one, group-more, group-bytes-filled}
 
 -- ---- reading
@@ -46,6 +46,26 @@ module _ (first : ℕ) (bytes : List ℕ) (place : ℕ) where
   -- What so many groups hold at most.
   pub groups-below : (k n next : ℕ) → k ≤ mostGroups → groups k first bytes place ≡ got n next → n < numberEnd
   groups-below k n next h e = lt-of-lt-of-le (groups-give bytes k first .gives place n next e .known .below) (pow-le-pow-right (omega arith) h)
+
+-- ---- how far a number is read
+
+module _ (bytes : List ℕ) (place : ℕ) where
+  pub read-none : (k : ℕ) → length bytes ≤ place → groupsRead k bytes place ≡ 0
+  unfolding groupsRead
+  read-none zero h = refl
+  read-none (suc k) h = rw (le-ltb place (length bytes) h)
+
+  pub read-last : (k : ℕ) → 0 < k → place < length bytes → getD bytes place 0 < group → groupsRead k bytes place ≡ 1
+  unfolding groupsRead
+  read-last zero some h l = absurd (omega arith)
+  read-last (suc k) some h l = rw (lt-ltb place (length bytes) h, lt-ltb (getD bytes place 0) group l)
+
+  pub read-more : (k : ℕ) → 0 < k → place < length bytes → group ≤ getD bytes place 0 → groupsRead k bytes place ≡ suc (groupsRead (k - 1) bytes (place + 1))
+  unfolding groupsRead
+  read-more zero some h l = absurd (omega arith)
+  read-more (suc k) some h l =
+      let less : suc k - 1 ≡ k = omega arith in
+      rw (lt-ltb place (length bytes) h, le-ltb (getD bytes place 0) group l, less)
 
 -- ---- numbers that are passed over
 

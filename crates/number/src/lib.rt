@@ -4,7 +4,7 @@ ghost use mathlib.Core.List.{_++_};
 ghost use Prim.Native.Nat.{_+_, _<_, _≤_};
 ghost use lib.ListN.{length, take, drop};
 ghost use Rattle.meaning.specs.Limits.{mostGroups, numberEnd};
-ghost use Rattle.meaning.specs.Number.{refusal as refusalNumber, groups, number, numbersOn, numberBytes};
+ghost use Rattle.meaning.specs.Number.{refusal as refusalNumber, hasPlace, groups, number, bytesRead, numbersOn, numberBytes};
 ghost use Rattle.meaning.specs.File.{inside, item, rising};
 ghost use Rattle.number.specs.Answers.{reasonOf, numberOf};
 
@@ -50,8 +50,8 @@ pub fn refusal(reason: Reason) -> u64
 {
     match reason {
         Reason::Ends => 1,
-        Reason::Padded => 1,
-        Reason::Endless => 1,
+        Reason::Padded => 12,
+        Reason::Endless => 13,
         Reason::Limit => 2,
         Reason::Range => 3,
         Reason::Unordered => 4,
@@ -63,6 +63,28 @@ pub fn refusal(reason: Reason) -> u64
         Reason::Malformed => 9,
         Reason::Gaps => 10,
         Reason::Unequal => 11,
+    }
+}
+
+// Whether a fault for this reason has a place in a file.
+pub fn has_place(reason: Reason) -> bool
+    ensures { λ r. ⌜ r ≡ hasPlace (reasonOf reason) ⌝ }
+{
+    match reason {
+        Reason::Ends => true,
+        Reason::Padded => true,
+        Reason::Endless => true,
+        Reason::Limit => true,
+        Reason::Range => true,
+        Reason::Unordered => true,
+        Reason::LeftOver => false,
+        Reason::Outgrown => false,
+        Reason::Held => false,
+        Reason::Unclosed => false,
+        Reason::Small => false,
+        Reason::Malformed => false,
+        Reason::Gaps => false,
+        Reason::Unequal => false,
     }
 }
 
@@ -130,6 +152,26 @@ pub fn rising_at(bytes: &[u8], at: usize, low: usize, high: usize, least: usize)
         }
         Number::Fault(found, place) => Number::Fault(found, place),
     }
+}
+
+// How many bytes are read of the number at a place.
+pub fn bytes_read(bytes: &[u8], at: usize) -> usize
+    ensures { λ r. ⌜ r ≡ bytesRead (now (bytes .entry)) at ⌝ }
+{
+    let mut next = at;
+    let mut left = MOST_GROUPS;
+    while 0 < left {
+        if bytes.len() <= next {
+            return next - at;
+        }
+        let byte = bytes[next] as usize;
+        if byte < GROUP {
+            return next + 1 - at;
+        }
+        next += 1;
+        left -= 1;
+    }
+    next - at
 }
 
 // The place of the number that stands so many numbers behind the one at a place.

@@ -1,6 +1,7 @@
 -- What a reader faults with is what is judged as numbers are read, or 5: never a reason that is judged after these.
 use Prim.Native.Nat.{ℕ, zero, suc, _+_, _≤_}
 use mathlib.Core.Path.{_≡_, refl, sym}
+use mathlib.Core.Logic.{_⊎_, inl, inr}
 use mathlib.Core.Bool.{Bool, true, false, _||_, true≢false, cond}
 use mathlib.Core.List.{List, [], _∷_}
 use native.Mathlib.Omega.{arith}
@@ -17,15 +18,18 @@ use Rattle.theory.specs.Reading.{not-got}
 abbrev pub asRead : Reason → Bool
 asRead reason = hasPlace reason || eqb (refusal reason) (refusal LeftOver)
 
--- Its number is one from 1 to 5.
-pub as-read-number : (reason : Reason) → asRead reason ≡ true → (1 ≤ refusal reason) × (refusal reason ≤ refusal LeftOver)
-as-read-number Ends e = (omega arith, omega arith)
-as-read-number Padded e = (omega arith, omega arith)
-as-read-number Endless e = (omega arith, omega arith)
-as-read-number Limit e = (omega arith, omega arith)
-as-read-number Range e = (omega arith, omega arith)
-as-read-number Unordered e = (omega arith, omega arith)
-as-read-number LeftOver e = (omega arith, omega arith)
+-- Its number is one from 1 to 5, or 12 or 13.
+abbrev pub ReadNumber : ℕ → Type 0
+ReadNumber n = ((1 ≤ n) × (n ≤ refusal LeftOver)) ⊎ ((refusal Padded ≤ n) × (n ≤ refusal Endless))
+
+pub as-read-number : (reason : Reason) → asRead reason ≡ true → ReadNumber (refusal reason)
+as-read-number Ends e = inl (omega arith, omega arith)
+as-read-number Padded e = inr (omega arith, omega arith)
+as-read-number Endless e = inr (omega arith, omega arith)
+as-read-number Limit e = inl (omega arith, omega arith)
+as-read-number Range e = inl (omega arith, omega arith)
+as-read-number Unordered e = inl (omega arith, omega arith)
+as-read-number LeftOver e = inl (omega arith, omega arith)
 as-read-number Outgrown e = absurd (true≢false (sym e))
 as-read-number Held e = absurd (true≢false (sym e))
 as-read-number Unclosed e = absurd (true≢false (sym e))

@@ -55,6 +55,8 @@ pub mod PartialPairs
 pub mod PartialTask
 pub mod PartialPlans
 pub mod PartialFile
+pub mod Places
+pub mod Shown
 pub mod PartialParts
 pub mod PartialNamed
 pub mod PartialDemands

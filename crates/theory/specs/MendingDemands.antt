@@ -32,7 +32,7 @@ use Rattle.theory.specs.Numbering.{atoms-room}
 use Rattle.theory.specs.Closed.{closed-by-pairs}
 use Rattle.theory.specs.Reading.{not-got, got-value, by-got}
 use Rattle.theory.specs.Spent.{Bytes}
-use Rattle.theory.specs.AsRead.{asRead, AsRead, as-read-number, plain-task}
+use Rattle.theory.specs.AsRead.{asRead, AsRead, ReadNumber, as-read-number, plain-task}
 use Rattle.theory.specs.ReadBack.{read-back, weights-back}
 use Rattle.theory.specs.Accepted as Files
 use Rattle.theory.specs.Mending.{holds-by-pairs, held-holds, Hopeless, Narrowed, hopeless-narrowed, unclosed-hopeless, held-hopeless, listed-below}
@@ -56,15 +56,16 @@ drop-refuses task room = refuses-exactly (drops-only task room) (λ n left. drop
 pub fault-refuses : (task room : List ℕ) → RefusesExactly (FaultsPairs task room) room (Faulty (faultJudged task room))
 fault-refuses task room = refuses-exactly (faults-only task room) (λ n left. faults-refused n left task room)
 
--- "Refusals: the tool gives no 6 or 7." What is left is 1 to 5, and 8.
+-- "Refusals: the tool gives no 6 or 7." What is left is 1 to 5, 12 and 13, and 8.
 pub record NoPairNumber (n : ℕ) : Type 0 where
-  pub one-of : ((1 ≤ n) × (n ≤ 5)) ⊎ (n ≡ 8)
+  pub one-of : ReadNumber n ⊎ (n ≡ 8)
   pub no-6 : n ≢ 6
   pub no-7 : n ≢ 7
 
 -- The two that are excluded follow from the others.
-no-pair-number : (n : ℕ) → ((1 ≤ n) × (n ≤ 5)) ⊎ (n ≡ 8) → NoPairNumber n
-no-pair-number n (inl h) = record { one-of = inl h; no-6 = λ e. omega (arith, h .1, e); no-7 = λ e. omega (arith, h .1, e) }
+no-pair-number : (n : ℕ) → ReadNumber n ⊎ (n ≡ 8) → NoPairNumber n
+no-pair-number n (inl (inl h)) = record { one-of = inl (inl h); no-6 = λ e. omega (arith, h .1, e); no-7 = λ e. omega (arith, h .1, e) }
+no-pair-number n (inl (inr h)) = record { one-of = inl (inr h); no-6 = λ e. omega (arith, h .0, e); no-7 = λ e. omega (arith, h .0, e) }
 no-pair-number n (inr h) = record { one-of = inr h; no-6 = λ e. omega arith; no-7 = λ e. omega arith }
 
 -- Room that is too small is 8.

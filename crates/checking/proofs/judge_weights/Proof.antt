@@ -2,7 +2,8 @@
 use native.Mathlib.Omega.{arith}
 use lib.ListN.{length-take}
 use borrow.Author.Tests.{not-true, not-false}
-use Rattle.checking.specs.Answer.{room-zeros, verdict-alike, verdict-breaks, verdict-follows, then-none}
+use Rattle.layout.specs.Parts.{room-zeros}
+use Rattle.checking.specs.Answer.{verdict-alike, verdict-breaks, verdict-follows, then-none}
 use borrow.Author.Needs.{needs}
 use Rattle.checking.proofs.judge_weights.Statement.{statement}
 use Rattle.checking.proofs.judge_weights.Tie as tie

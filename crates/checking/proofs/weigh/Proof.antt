@@ -2,9 +2,8 @@
 use native.Mathlib.Omega.{arith}
 use lib.ListN.{length-take}
 use borrow.Author.Needs.{needs}
-use Rattle.layout.specs.Parts.{Headed}
+use Rattle.layout.specs.Parts.{Headed, room-zeros}
 use Rattle.task.specs.Answer.{known-room}
-use Rattle.checking.specs.Answer.{room-zeros}
 use Rattle.checking.proofs.weigh.Statement.{statement}
 use Rattle.checking.proofs.weigh.Tie as tie
 

@@ -1,0 +1,87 @@
+-- What is shown of a file: the place of a fault and the bytes that are shown lie within the file that holds them.
+use Prim.Native.Nat.{ℕ, _+_, _≤_}
+use mathlib.Core.Path.{_≡_, refl, subst}
+use mathlib.Core.Bool.{true}
+use mathlib.Core.List.{List, []}
+use native.Mathlib.Omega.{arith}
+use lib.ListN.{length}
+use Rattle.meaning.specs.Feature.{features}
+use Rattle.meaning.specs.Task.{Task}
+use Rattle.meaning.specs.Number.{Reason, hasPlace, Read, got, fault}
+use Rattle.meaning.specs.File.{judgedTask, judgedWeights}
+use Rattle.meaning.specs.Bay.{judgedBay}
+use Rattle.meaning.specs.Partial.{leftOut, judgedPartial}
+use Rattle.meaning.specs.Place.{Spot, nowhere, inTask, inWeights, spotBy, spotAlone, spotBeside, Part, ofTask, ofWeights, partAt, shown, shownPartial, shownBay}
+use Rattle.theory.specs.Truth.{on, off, test}
+use Rattle.theory.specs.Places.{read-within, task-pointed, weights-pointed, partial-pointed, bay-pointed}
+
+-- ---- the place of a fault
+
+-- The place lies within the file that holds it.
+abbrev pub SpotWithin : List ℕ → List ℕ → Spot → Type 0
+SpotWithin task weights nowhere = Unit {0}
+SpotWithin task weights (inTask place) = place ≤ length task
+SpotWithin task weights (inWeights place) = place ≤ length weights
+
+-- A fault that has a place has it within the file.
+abbrev FaultWithin : {A : Type 0} → List ℕ → Read A → Type 0
+FaultWithin bytes r = (reason : Reason) (place : ℕ) → r ≡ fault reason place → hasPlace reason ≡ true → place ≤ length bytes
+
+module _ (task weights : List ℕ) where
+  spot-by : {A : Type 0} (file : ℕ → Spot) (bytes : List ℕ) (r : Read A) (rest : A → Spot) → ((place : ℕ) → place ≤ length bytes → SpotWithin task weights (file place))
+      → FaultWithin bytes r → ((a : A) → SpotWithin task weights (rest a)) → SpotWithin task weights (spotBy file r rest)
+  spot-by file bytes (got a next) rest there h k = k a
+  spot-by file bytes (fault reason place) rest there h k = elim (test (hasPlace reason)) [ on e ↦ rw e (there place (h reason place refl e)) | off e ↦ rw e tt ]
+
+  spot-beside : (r : Read Task) → FaultWithin task r → SpotWithin task weights (spotBeside r weights)
+  spot-beside r h = spot-by inTask task r _ (λ place l. l) h (λ T.
+      spot-by inWeights weights (judgedWeights (features (T .sizes)) weights) _ (λ place l. l)
+      (λ reason place e k. omega (arith, weights-pointed weights reason place (features (T .sizes)) e k .within)) (λ ws. tt))
+
+  pub spot-within : SpotWithin task weights (spotBeside (judgedTask task) weights)
+  spot-within = spot-beside (judgedTask task) (λ reason place e h. omega (arith, task-pointed task reason place e h .within))
+
+  pub spot-partial-within : SpotWithin task weights (spotBeside (judgedPartial leftOut task) weights)
+  spot-partial-within = spot-beside (judgedPartial leftOut task) (λ reason place e h. omega (arith, partial-pointed task reason place leftOut e h .within))
+
+  pub spot-bay-within : SpotWithin task weights (spotAlone (judgedBay task))
+  spot-bay-within = spot-by inTask task (judgedBay task) _ (λ place l. l) (λ reason place e h. omega (arith, bay-pointed task reason place e h .within)) (λ b. tt)
+
+  pub spot-in-task : (place : ℕ) → spotBeside (judgedTask task) weights ≡ inTask place → place ≤ length task
+  spot-in-task place e = subst (SpotWithin task weights) e spot-within
+
+  pub spot-in-weights : (place : ℕ) → spotBeside (judgedTask task) weights ≡ inWeights place → place ≤ length weights
+  spot-in-weights place e = subst (SpotWithin task weights) e spot-within
+
+  pub spot-in-partial : (place : ℕ) → spotBeside (judgedPartial leftOut task) weights ≡ inTask place → place ≤ length task
+  spot-in-partial place e = subst (SpotWithin task weights) e spot-partial-within
+
+  pub spot-in-partial-weights : (place : ℕ) → spotBeside (judgedPartial leftOut task) weights ≡ inWeights place → place ≤ length weights
+  spot-in-partial-weights place e = subst (SpotWithin task weights) e spot-partial-within
+
+pub spot-in-bay : (bay : List ℕ) (place : ℕ) → spotAlone (judgedBay bay) ≡ inTask place → place ≤ length bay
+spot-in-bay bay place e = subst (SpotWithin bay []) e (spot-bay-within bay [])
+
+-- ---- what is shown
+
+-- A part lies within the file that holds it.
+abbrev pub Within : List ℕ → List ℕ → Part → Type 0
+Within task weights (ofTask place many) = place + many ≤ length task
+Within task weights (ofWeights place many) = place + many ≤ length weights
+
+part-within : (task weights : List ℕ) (spot : Spot) → SpotWithin task weights spot → Within task weights (partAt task weights spot)
+part-within task weights nowhere h = omega arith
+part-within task weights (inTask place) h = read-within task place h
+part-within task weights (inWeights place) h = read-within weights place h
+
+pub shown-within : (task weights : List ℕ) → Within task weights (shown task weights)
+unfolding shown
+shown-within task weights = part-within task weights (spotBeside (judgedTask task) weights) (spot-within task weights)
+
+pub shown-partial-within : (partial weights : List ℕ) → Within partial weights (shownPartial partial weights)
+unfolding shownPartial
+shown-partial-within partial weights = part-within partial weights (spotBeside (judgedPartial leftOut partial) weights) (spot-partial-within partial weights)
+
+pub shown-bay-within : (bay : List ℕ) → Within bay [] (shownBay bay)
+unfolding shownBay
+shown-bay-within bay = part-within bay [] (spotAlone (judgedBay bay)) (spot-bay-within bay [])

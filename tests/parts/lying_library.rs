@@ -1,7 +1,9 @@
 //! For tests/tool: a library whose finder finds what its own checker rejects, and whose calls on pair
-//! lists do not fit together. The tool must not say IMPOSSIBLE over it, nor that a list is mended.
+//! lists and on places do not fit together. The tool must not say IMPOSSIBLE over it, nor that a list is
+//! mended, nor show bytes that are not at fault.
 
 mod lying_pairs;
+mod lying_places;
 
 use lying_pairs::{lie, NO_LIE};
 
@@ -22,7 +24,8 @@ pub extern "C" fn florumeja_check(_: *const u8, _: usize, _: *const u8, _: usize
 const ALIKE: [u64; 16] = [2, 2, 2, 0, 1, 0, 1, 0, 0, 0, 0, 0, 0, 0, 0, 0];
 
 /// Opens every task of no bytes as one workspace, and all others as another; a task that asks for a
-/// lie about its pairs is refused 7, and 6 where there is no lie.
+/// lie about its pairs is refused 7, and 6 where there is no lie; one that asks for a lie about a place
+/// says itself by which number it is refused.
 ///
 /// # Safety
 /// The task has to be readable and the room writable, for as many elements as their lengths say.
@@ -33,6 +36,9 @@ pub unsafe extern "C" fn florumeja_open(
     room: *mut u64,
     length: usize,
 ) -> u64 {
+    if let Some(number) = lying_places::refusal(task, task_length) {
+        return REFUSED | number;
+    }
     match lie(task, task_length) {
         Some(NO_LIE) => return REFUSED | 6,
         Some(_) => return REFUSED | 7,
@@ -103,7 +109,7 @@ unsafe fn write(bytes: &[u8], room: *mut u8, length: usize) -> u64 {
     bytes.len() as u64
 }
 
-/// A task of no bytes; for three rows, an answer outside the table of answers.
+/// A task of no bytes; for three rows, an answer outside the table of answers, and four are refused.
 ///
 /// # Safety
 /// The bay has to be readable, for as many bytes as its length says.
@@ -114,9 +120,10 @@ pub unsafe extern "C" fn florumeja_build(
     _: *mut u8,
     _: usize,
 ) -> u64 {
-    match length > 0 && bay.read() == 3 {
-        true => UNKNOWN,
-        false => 0,
+    match std::slice::from_raw_parts(bay, length) {
+        [3, ..] => UNKNOWN,
+        [4, ..] => REFUSED | 2,
+        _ => 0,
     }
 }
 

@@ -11,10 +11,10 @@ use Rattle.finding.specs.declared.Found.the-variants as found
 
 -- The line of the program's answer for an input goes to the front of the room; 8 where the room is too short for it.
 abbrev pub Lines : List ℕ → List ℕ → Outcome ℕ → Type 0
-Lines input = LineOf (meaning.Prints input) meaning.line
+Lines input = LineOf (meaning.Prints input) (meaning.line (meaning.printedSpot input))
 
 pub lines-only : (input room : List ℕ) → AtMostOne (Lines input room)
-lines-only input room = line-of-only (meaning.Prints input) meaning.line room (prints-only input)
+lines-only input room = line-of-only (meaning.Prints input) (meaning.line (meaning.printedSpot input)) room (prints-only input)
 
 -- The program's answer, from that of the finder and the words that it left.
 abbrev pub soughtOf : Found → List ℕ → Answer meaning.Found

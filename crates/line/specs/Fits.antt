@@ -14,13 +14,15 @@ use Rattle.meaning.specs.Task.{Task, Run}
 use Rattle.meaning.specs.Feature.{features}
 use Rattle.meaning.specs.File.{judgedTask}
 use Rattle.meaning.specs.Answer.{Answer, done, refused, Outcome, writes, byRead}
-use Rattle.meaning.specs.Line.{Found as Answered, nothing, separating, Seeks, tooLarge, Prints, word, wordsIn, line}
+use Rattle.meaning.specs.Place.{spotAlone}
+use Rattle.meaning.specs.Line.{Found as Answered, nothing, separating, Seeks, tooLarge, Prints, word, wordsIn, placeText, line, printedSpot}
 use Rattle.theory.specs.Truth.{on, off, test, clash}
 use Rattle.theory.specs.Search.{or-right}
 use Rattle.theory.specs.Run.{run-length}
+use Rattle.theory.specs.Shown.{spot-task-within}
 use Rattle.decimal.specs.Decimal.{wordWidth, word-few, words-few}
 use Rattle.text.specs.Answer.{line-of-written}
-use Rattle.text.specs.Parts.{mostDigits, refused-few, refusal-short}
+use Rattle.text.specs.Parts.{mostDigits, ShortSpot, spot-short, refused-few, refusal-short}
 use Rattle.finding.specs.declared.Found.{Found}
 use Rattle.finding.specs.declared.Found.the-variants.{Separated, Nothing, Refused}
 use Rattle.line.specs.Answer.{Lines, soughtOf}
@@ -64,6 +66,15 @@ prints-short input weights (Refused number) prints = elim (answers input (refuse
   | inr (T, found, e, seeks, few) ↦ absurd (let z : _≡_ {A = ℕ} 0 1 = cc in omega arith)
 ]
 
+-- ---- places
+
+-- A place in an input that is judged has few enough digits for a line.
+pub printed-short : (input : List ℕ) → ShortSpot (printedSpot input)
+printed-short input = elim (test (ltb mostInput (length input))) [
+  | on e ↦ rw e tt
+  | off e ↦ rw e (spot-short input [] (omega (arith, ltb-false mostInput (length input) e)) (omega arith) (spotAlone (judgedTask input)) (spot-task-within input []))
+]
+
 -- ---- the longest line
 
 -- `separated`, the count and the most features, and the line's end.
@@ -76,8 +87,8 @@ features-few input fs prints = elim (answers input (done (separating fs)) prints
   | inr (T, found, e, seeks, few) ↦ let same : found ≡ separating fs = cc in (features (T .sizes), subst (Seeks T) same seeks .0, few)
 ]
 
-pub line-short : (input : List ℕ) (answer : Answer Answered) → Prints input answer → length (line answer) ≤ lineBytes
-unfolding line wordsIn
+pub line-short : (input : List ℕ) (answer : Answer Answered) → Prints input answer → length (line (printedSpot input) answer) ≤ lineBytes
+unfolding line wordsIn placeText
 line-short input (done (separating fs)) prints =
     let (n, run, few) = features-few input fs prints in
     let count = run-length 0 n fs run in
@@ -91,9 +102,9 @@ line-short input (done (separating fs)) prints =
       words-few mostDigits 0 n fs (omega arith) (omega (arith, few)) run,
     )
 line-short input (done nothing) prints = omega arith
-line-short input (refused number) prints = omega (arith, refused-few number (prints-short input [] (Refused number) prints))
+line-short input (refused number) prints = omega (arith, refused-few [] [] (omega arith) (omega arith) number (printedSpot input) (prints-short input [] (Refused number) prints) (printed-short input))
 
 -- A room as long as that is never refused.
 pub lines-written : (input room : List ℕ) → lineBytes ≤ length room → (outcome : Outcome ℕ) → Lines input room outcome
-    → (answer : Answer Answered) × Prints input answer × (outcome ≡ writes (length (line answer)) (line answer) room)
-lines-written input room = line-of-written (Prints input) line room lineBytes (line-short input)
+    → (answer : Answer Answered) × Prints input answer × (outcome ≡ writes (length (line (printedSpot input) answer)) (line (printedSpot input) answer) room)
+lines-written input room = line-of-written (Prints input) (line (printedSpot input)) room lineBytes (line-short input)

@@ -1,9 +1,11 @@
 // The finder program's line: what is found for a task file, as text in lent bytes.
 ghost use mathlib.Core.Path.{_≡_};
 ghost use lib.ListN.{length, replicate};
-ghost use Rattle.meaning.specs.Line.{separating, Prints, line};
+ghost use Rattle.meaning.specs.Place.{nowhere};
+ghost use Rattle.meaning.specs.Line.{separating, Prints, printedSpot, line};
 ghost use Rattle.meaning.specs.Answer.{done};
 ghost use Rattle.decimal.specs.Put.{Put};
+ghost use Rattle.placing.specs.Answers.{spotOf};
 ghost use Rattle.words.specs.Members.{membersIn};
 ghost use Rattle.writer.specs.Answer.{outcomeOf};
 ghost use Rattle.line.specs.Answer.{Lines, soughtOf};
@@ -13,6 +15,7 @@ use finding::Found;
 use limits::MOST_VARIABLES;
 use number::Reason;
 use opening::Opened;
+use placing::Spot;
 use text::WORD_WIDTH;
 use words::WORD_BITS;
 use writer::Written;
@@ -51,7 +54,7 @@ fn seek(input: &[u8], workspace: &mut [u64], weights: &mut [u64]) -> Found
 // Puts the line for weights that separate.
 fn put_separated(text: &mut [u8], weights: &[u64]) -> usize
     requires { ⌜ (length (now text) ≡ lineBytes) × (length (now weights) ≡ weightWords) ⌝ }
-    ensures { λ r. ⌜ Put (now (text .entry)) 0 (line (done (separating (membersIn (now (weights .entry)))))) r (now (text .exit)) ⌝ }
+    ensures { λ r. ⌜ Put (now (text .entry)) 0 (line nowhere (done (separating (membersIn (now (weights .entry)))))) r (now (text .exit)) ⌝ }
 {
     let count = words::count(weights);
     let first = text::put(text, 0, b"separated");
@@ -60,15 +63,25 @@ fn put_separated(text: &mut [u8], weights: &[u64]) -> usize
     text::put(text, third, b"\n")
 }
 
-// Puts the line for what was found.
-fn put_line(text: &mut [u8], found: Found, weights: &[u64]) -> usize
+// Where the first fault of an input stands; one that is too long is not judged.
+fn input_spot(input: &[u8]) -> Spot
+    ensures { λ r. ⌜ spotOf r ≡ printedSpot (now (input .entry)) ⌝ }
+{
+    if MOST_INPUT < input.len() {
+        return Spot::Nowhere;
+    }
+    locating::task_spot(input)
+}
+
+// Puts the line for what was found for an input.
+fn put_line(text: &mut [u8], found: Found, weights: &[u64], input: &[u8]) -> usize
     requires { ⌜ (length (now text) ≡ lineBytes) × (length (now weights) ≡ weightWords) × ShortNumber found ⌝ }
-    ensures { λ r. ⌜ Put (now (text .entry)) 0 (line (soughtOf found (now (weights .entry)))) r (now (text .exit)) ⌝ }
+    ensures { λ r. ⌜ Put (now (text .entry)) 0 (line (printedSpot (now (input .entry))) (soughtOf found (now (weights .entry)))) r (now (text .exit)) ⌝ }
 {
     match found {
         Found::Separated => put_separated(text, weights),
         Found::Nothing => text::put(text, 0, b"none\n"),
-        Found::Refused(number) => text::put_refused(text, number),
+        Found::Refused(number) => text::put_refused(text, number, input_spot(input), b"", b""),
     }
 }
 
@@ -80,6 +93,6 @@ pub fn line(input: &[u8], room: &mut [u8]) -> Written
     let mut weights = [0u64; WEIGHT_WORDS];
     let found = seek(input, &mut workspace, &mut weights);
     let mut text = [0u8; LINE_BYTES];
-    let end = put_line(&mut text, found, &weights);
+    let end = put_line(&mut text, found, &weights, input);
     text::deliver(&text[..end], room)
 }

@@ -20,7 +20,7 @@ use Rattle.meaning.specs.Workspace.{has}
 use Rattle.meaning.specs.Answer.{done, refused, accepted, endsAlike, breaks, fine, faulty, entriesJudged}
 use Rattle.meaning.specs.Bay.{sidesOf, neighbours}
 use Rattle.meaning.specs.Place.{nowhere}
-use Rattle.meaning.specs.Line.{digits, word, fileText, refusedLine, verdictLine}
+use Rattle.meaning.specs.Line.{digits, word, spotText, fileText, refusedLine, verdictLine}
 
 -- States, value by value.
 pub state-none : State [] []
@@ -267,5 +267,5 @@ long-word = refl
 
 -- `refused 7`.
 refused-line : verdictLine nowhere (refused 7) ≡ 114 ∷ 101 ∷ 102 ∷ 117 ∷ 115 ∷ 101 ∷ 100 ∷ 32 ∷ 55 ∷ 10 ∷ []
-unfolding verdictLine refusedLine fileText word digits
+unfolding verdictLine refusedLine fileText spotText word digits
 refused-line = refl

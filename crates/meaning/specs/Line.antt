@@ -63,17 +63,18 @@ wordsIn (n ∷ ns) = word n ++ wordsIn ns
 unfoldable pub atPlace : ℕ → List ℕ
 atPlace place = 32 ∷ 97 ∷ 116 ∷ word place
 
--- Where a fault of a file that comes alone stands, "or as before without one".
-unfoldable pub placeText : Spot → List ℕ
-placeText nowhere = []
-placeText (inTask place) = atPlace place
-placeText (inWeights place) = atPlace place
+-- Where a fault stands, "or as before without one", and the name of the file that holds it.
+unfoldable pub spotText : List ℕ → List ℕ → Spot → List ℕ
+spotText task weights nowhere = []
+spotText task weights (inTask place) = atPlace place ++ task
+spotText task weights (inWeights place) = atPlace place ++ weights
 
--- The same with the file that holds it: ` in task` or ` in weights`.
+-- A file that comes alone is not named; of two files, ` in task` and ` in weights`.
+unfoldable pub placeText : Spot → List ℕ
+placeText = spotText [] []
+
 unfoldable pub fileText : Spot → List ℕ
-fileText nowhere = []
-fileText (inTask place) = atPlace place ++ (32 ∷ 105 ∷ 110 ∷ 32 ∷ 116 ∷ 97 ∷ 115 ∷ 107 ∷ [])
-fileText (inWeights place) = atPlace place ++ (32 ∷ 105 ∷ 110 ∷ 32 ∷ 119 ∷ 101 ∷ 105 ∷ 103 ∷ 104 ∷ 116 ∷ 115 ∷ [])
+fileText = spotText (32 ∷ 105 ∷ 110 ∷ 32 ∷ 116 ∷ 97 ∷ 115 ∷ 107 ∷ []) (32 ∷ 105 ∷ 110 ∷ 32 ∷ 119 ∷ 101 ∷ 105 ∷ 103 ∷ 104 ∷ 116 ∷ 115 ∷ [])
 
 -- "The program prints `refused`, the number, `at` and the place, or as before without one." (Document 01 said: "or `refused` and the number".)
 unfoldable pub refusedLine : ℕ → List ℕ → List ℕ

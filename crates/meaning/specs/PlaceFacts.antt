@@ -11,7 +11,7 @@ use Rattle.meaning.specs.Answer.{done, refused}
 use Rattle.meaning.specs.Bay.{sidesOf, bayOf, occurrences, oneGap, judgedLots, judgedBay}
 use Rattle.meaning.specs.Partial.{partialHeader, partialOf, judgedPartial}
 use Rattle.meaning.specs.Place.{nowhere, inTask, inWeights, ofTask, ofWeights, shown, shownPartial, shownBay, bytesIn, taskHolds, weightsHold, displayed}
-use Rattle.meaning.specs.Line.{digits, word, wordsIn, atPlace, placeText, fileText, refusedLine, line, verdictLine, bayLine}
+use Rattle.meaning.specs.Line.{digits, word, atPlace, spotText, placeText, fileText, refusedLine, line, verdictLine, bayLine}
 
 -- To name this on an `unfolding` line opens what files are judged and faults are shown with.
 unfoldable judging : Unit {0}
@@ -79,22 +79,22 @@ words-displayed = (refl, refl, refl)
 -- `refused 3 at 17`, and `refused 5` as before.
 finder-line : (line (inTask 17) (refused 3) ≡ 114 ∷ 101 ∷ 102 ∷ 117 ∷ 115 ∷ 101 ∷ 100 ∷ 32 ∷ 51 ∷ 32 ∷ 97 ∷ 116 ∷ 32 ∷ 49 ∷ 55 ∷ 10 ∷ [])
     × (line nowhere (refused 5) ≡ 114 ∷ 101 ∷ 102 ∷ 117 ∷ 115 ∷ 101 ∷ 100 ∷ 32 ∷ 53 ∷ 10 ∷ [])
-unfolding line refusedLine placeText atPlace word digits
+unfolding line refusedLine placeText spotText atPlace word digits
 finder-line = (refl, refl)
 
 -- `refused 12 at 0 in task`.
 task-line : verdictLine (inTask 0) (refused 12)
     ≡ 114 ∷ 101 ∷ 102 ∷ 117 ∷ 115 ∷ 101 ∷ 100 ∷ 32 ∷ 49 ∷ 50 ∷ 32 ∷ 97 ∷ 116 ∷ 32 ∷ 48 ∷ 32 ∷ 105 ∷ 110 ∷ 32 ∷ 116 ∷ 97 ∷ 115 ∷ 107 ∷ 10 ∷ []
-unfolding verdictLine refusedLine fileText atPlace word digits
+unfolding verdictLine refusedLine fileText spotText atPlace word digits
 task-line = refl
 
 -- `refused 4 at 2 in weights`.
 weights-line : verdictLine (inWeights 2) (refused 4)
     ≡ 114 ∷ 101 ∷ 102 ∷ 117 ∷ 115 ∷ 101 ∷ 100 ∷ 32 ∷ 52 ∷ 32 ∷ 97 ∷ 116 ∷ 32 ∷ 50 ∷ 32 ∷ 105 ∷ 110 ∷ 32 ∷ 119 ∷ 101 ∷ 105 ∷ 103 ∷ 104 ∷ 116 ∷ 115 ∷ 10 ∷ []
-unfolding verdictLine refusedLine fileText atPlace word digits
+unfolding verdictLine refusedLine fileText spotText atPlace word digits
 weights-line = refl
 
 -- `refused 2 at 1`, for nine rows of nine.
 bay-line : bayLine (9 ∷ 9 ∷ 0 ∷ []) 2 ≡ 114 ∷ 101 ∷ 102 ∷ 117 ∷ 115 ∷ 101 ∷ 100 ∷ 32 ∷ 50 ∷ 32 ∷ 97 ∷ 116 ∷ 32 ∷ 49 ∷ 10 ∷ []
-unfolding judging bayLine refusedLine placeText atPlace word digits
+unfolding judging bayLine refusedLine placeText spotText atPlace word digits
 bay-line = refl

@@ -1,6 +1,6 @@
 -- What is shown of a file: the place of a fault and the bytes that are shown lie within the file that holds them.
 use Prim.Native.Nat.{ℕ, _+_, _≤_}
-use mathlib.Core.Path.{_≡_, refl, subst}
+use mathlib.Core.Path.{_≡_, refl}
 use mathlib.Core.Bool.{true}
 use mathlib.Core.List.{List, []}
 use native.Mathlib.Omega.{arith}
@@ -44,23 +44,12 @@ module _ (task weights : List ℕ) where
   pub spot-partial-within : SpotWithin task weights (spotBeside (judgedPartial leftOut task) weights)
   spot-partial-within = spot-beside (judgedPartial leftOut task) (λ reason place e h. omega (arith, partial-pointed task reason place leftOut e h .within))
 
+  -- Of a task file that comes alone, and of a bay file.
+  pub spot-task-within : SpotWithin task weights (spotAlone (judgedTask task))
+  spot-task-within = spot-by inTask task (judgedTask task) _ (λ place l. l) (λ reason place e h. omega (arith, task-pointed task reason place e h .within)) (λ T. tt)
+
   pub spot-bay-within : SpotWithin task weights (spotAlone (judgedBay task))
   spot-bay-within = spot-by inTask task (judgedBay task) _ (λ place l. l) (λ reason place e h. omega (arith, bay-pointed task reason place e h .within)) (λ b. tt)
-
-  pub spot-in-task : (place : ℕ) → spotBeside (judgedTask task) weights ≡ inTask place → place ≤ length task
-  spot-in-task place e = subst (SpotWithin task weights) e spot-within
-
-  pub spot-in-weights : (place : ℕ) → spotBeside (judgedTask task) weights ≡ inWeights place → place ≤ length weights
-  spot-in-weights place e = subst (SpotWithin task weights) e spot-within
-
-  pub spot-in-partial : (place : ℕ) → spotBeside (judgedPartial leftOut task) weights ≡ inTask place → place ≤ length task
-  spot-in-partial place e = subst (SpotWithin task weights) e spot-partial-within
-
-  pub spot-in-partial-weights : (place : ℕ) → spotBeside (judgedPartial leftOut task) weights ≡ inWeights place → place ≤ length weights
-  spot-in-partial-weights place e = subst (SpotWithin task weights) e spot-partial-within
-
-pub spot-in-bay : (bay : List ℕ) (place : ℕ) → spotAlone (judgedBay bay) ≡ inTask place → place ≤ length bay
-spot-in-bay bay place e = subst (SpotWithin bay []) e (spot-bay-within bay [])
 
 -- ---- what is shown
 

@@ -7,22 +7,22 @@ use Rattle.meaning.specs.Limits.{mostTask}
 use Rattle.meaning.specs.Number.{Small, refusal}
 use Rattle.meaning.specs.File.{judgedTask}
 use Rattle.meaning.specs.Answer.{refused, Outcome, Checks}
-use Rattle.meaning.specs.Line.{ChecksFiles, verdictLine}
+use Rattle.meaning.specs.Line.{ChecksFiles, checkedSpot, filesSpot, verdictLine}
 use Rattle.theory.specs.Determined.{AtMostOne, is-only, if-only, checks-only}
 use Rattle.text.specs.Answer.{LineOf, line-of-only}
 
 -- The line of the checker's answer goes to the front of the room; 8 where the room is too short for it.
 abbrev pub VerdictLines : List ℕ → List ℕ → List ℕ → Outcome ℕ → Type 0
-VerdictLines task weights = LineOf (Checks task weights) verdictLine
+VerdictLines task weights = LineOf (Checks task weights) (verdictLine (checkedSpot task weights))
 
 pub verdict-lines-only : (task weights room : List ℕ) → AtMostOne (VerdictLines task weights room)
-verdict-lines-only task weights room = line-of-only (Checks task weights) verdictLine room (checks-only (judgedTask task) weights)
+verdict-lines-only task weights room = line-of-only (Checks task weights) (verdictLine (checkedSpot task weights)) room (checks-only (judgedTask task) weights)
 
 -- The same for the program's answer.
 abbrev pub FileLines : List ℕ → List ℕ → List ℕ → Outcome ℕ → Type 0
-FileLines task weights = LineOf (ChecksFiles task weights) verdictLine
+FileLines task weights = LineOf (ChecksFiles task weights) (verdictLine (filesSpot task weights))
 
 pub file-lines-only : (task weights room : List ℕ) → AtMostOne (FileLines task weights room)
 file-lines-only task weights room =
-    line-of-only (ChecksFiles task weights) verdictLine room
+    line-of-only (ChecksFiles task weights) (verdictLine (filesSpot task weights)) room
     (if-only (ltb mostTask (length task)) _ _ (is-only (refused (refusal Small))) (checks-only (judgedTask task) weights))

@@ -1,6 +1,7 @@
 -- The numbers of the checker's answers are short, and every line of it fits into so many bytes.
 use Prim.Native.Nat.{ℕ, _+_, _^_, _<_, _≤_}
 use mathlib.Core.Path.{_≡_}
+use mathlib.Core.Bool.{Bool, true, false, cond}
 use mathlib.Core.List.{List, [], _∷_}
 use native.Mathlib.Omega.{arith}
 use lib.Dec.{ltb}
@@ -12,12 +13,14 @@ use Rattle.meaning.specs.Feature.{features}
 use Rattle.meaning.specs.Number.{Reason, Small, refusal, Read, got}
 use Rattle.meaning.specs.File.{judgedTask, judgedWeights, Writable}
 use Rattle.meaning.specs.Answer.{Answer, done, refused, Outcome, writes, Verdict, accepted, endsAlike, breaks, Judges, ChecksAs, Checks}
-use Rattle.meaning.specs.Line.{word, ChecksFiles, verdictLine}
+use Rattle.meaning.specs.Place.{Spot, nowhere}
+use Rattle.meaning.specs.Line.{word, fileText, refusedLine, ChecksFiles, checkedSpot, filesSpot, verdictLine}
 use Rattle.theory.specs.Accepted as theory
-use Rattle.decimal.specs.Decimal.{wordWidth, word-few}
-use Rattle.text.specs.Allowed.{is-good, if-good, read-good}
+use Rattle.theory.specs.Shown.{spot-within}
+use Rattle.decimal.specs.Decimal.{word-few}
+use Rattle.text.specs.Allowed.{is-good, read-good}
 use Rattle.text.specs.Answer.{line-of-written}
-use Rattle.text.specs.Parts.{mostDigits, refused-few, refusal-short}
+use Rattle.text.specs.Parts.{mostDigits, placeDigits, refusedBytes, ShortSpot, spot-short, refused-few, refusal-short}
 use Rattle.verdicts.specs.Answer.{VerdictLines, FileLines}
 
 -- ---- numbers
@@ -49,29 +52,45 @@ checks-as-short judging writable weights =
 pub checks-short : (task weights : List ℕ) (answer : Answer Verdict) → Checks task weights answer → Short answer
 checks-short task = checks-as-short (judgedTask task) (theory.accepted task)
 
-pub files-short : (task weights : List ℕ) (answer : Answer Verdict) → ChecksFiles task weights answer → Short answer
-files-short task weights =
-    if-good Short (ltb mostTask (length task)) _ _ (is-good Short (refused (refusal Small)) (refusal-short Small)) (checks-short task weights)
-
 -- ---- the longest line
 
--- `rejected operator`, its number, and the line's end.
+-- One for a refusal with a place.
 abbrev pub verdictBytes : ℕ
-verdictBytes = 17 + wordWidth mostDigits + 1
+verdictBytes = refusedBytes
 
-pub verdict-few : (answer : Answer Verdict) → Short answer → length (verdictLine answer) ≤ verdictBytes
+pub refusal-few : (number : ℕ) (spot : Spot) → number < 10 ^ mostDigits → ShortSpot spot → length (refusedLine number (fileText spot)) ≤ verdictBytes
+unfolding fileText
+refusal-few = refused-few _ _ (omega arith) (omega arith)
+
+pub verdict-few : (spot : Spot) (answer : Answer Verdict) → ShortSpot spot → Short answer → length (verdictLine spot answer) ≤ verdictBytes
 unfolding verdictLine
-verdict-few (done accepted) short = omega arith
-verdict-few (done endsAlike) short = omega arith
-verdict-few (done (breaks j)) short = omega (arith, length-append (word j) (10 ∷ []), word-few mostDigits j (omega arith) short)
-verdict-few (refused number) short = omega (arith, refused-few number short)
+verdict-few spot (done accepted) near short = omega arith
+verdict-few spot (done endsAlike) near short = omega arith
+verdict-few spot (done (breaks j)) near short = omega (arith, length-append (word j) (10 ∷ []), word-few mostDigits j (omega arith) short)
+verdict-few spot (refused number) near short = refusal-few number spot short near
 
--- A room as long as that is never refused.
-module _ (task weights room : List ℕ) (long : verdictBytes ≤ length room) where
-  pub verdict-lines-written : (outcome : Outcome ℕ) → VerdictLines task weights room outcome
-      → (answer : Answer Verdict) × Checks task weights answer × (outcome ≡ writes (length (verdictLine answer)) (verdictLine answer) room)
-  verdict-lines-written = line-of-written (Checks task weights) verdictLine room verdictBytes (λ answer h. verdict-few answer (checks-short task weights answer h)) long
+-- Files that are no longer than any slice: their places have few enough digits, and a room as long as that is never refused.
+module _ (task weights : List ℕ) (few : length task < 10 ^ placeDigits) (few′ : length weights < 10 ^ placeDigits) where
+  pub checked-near : ShortSpot (checkedSpot task weights)
+  checked-near = spot-short task weights few few′ (checkedSpot task weights) (spot-within task weights)
 
-  pub file-lines-written : (outcome : Outcome ℕ) → FileLines task weights room outcome
-      → (answer : Answer Verdict) × ChecksFiles task weights answer × (outcome ≡ writes (length (verdictLine answer)) (verdictLine answer) room)
-  file-lines-written = line-of-written (ChecksFiles task weights) verdictLine room verdictBytes (λ answer h. verdict-few answer (files-short task weights answer h)) long
+  pub line-few : (answer : Answer Verdict) → Checks task weights answer → length (verdictLine (checkedSpot task weights) answer) ≤ verdictBytes
+  line-few answer h = verdict-few (checkedSpot task weights) answer checked-near (checks-short task weights answer h)
+
+  pub verdict-lines-written : (room : List ℕ) → verdictBytes ≤ length room → (outcome : Outcome ℕ) → VerdictLines task weights room outcome
+      → (answer : Answer Verdict) × Checks task weights answer
+      × (outcome ≡ writes (length (verdictLine (checkedSpot task weights) answer)) (verdictLine (checkedSpot task weights) answer) room)
+  verdict-lines-written room = line-of-written (Checks task weights) (verdictLine (checkedSpot task weights)) room verdictBytes line-few
+
+  -- The same of the program's line.
+  files-few : (answer : Answer Verdict) → ChecksFiles task weights answer → length (verdictLine (filesSpot task weights) answer) ≤ verdictBytes
+  files-few answer = by (ltb mostTask (length task))
+    where
+      by : (long : Bool) → cond long (answer ≡ refused (refusal Small)) (Checks task weights answer) → length (verdictLine (cond long nowhere (checkedSpot task weights)) answer) ≤ verdictBytes
+      by true h = rw h (verdict-few nowhere (refused (refusal Small)) tt (refusal-short Small))
+      by false h = line-few answer h
+
+  pub file-lines-written : (room : List ℕ) → verdictBytes ≤ length room → (outcome : Outcome ℕ) → FileLines task weights room outcome
+      → (answer : Answer Verdict) × ChecksFiles task weights answer
+      × (outcome ≡ writes (length (verdictLine (filesSpot task weights) answer)) (verdictLine (filesSpot task weights) answer) room)
+  file-lines-written room = line-of-written (ChecksFiles task weights) (verdictLine (filesSpot task weights)) room verdictBytes files-few

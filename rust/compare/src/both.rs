@@ -5,6 +5,7 @@ use crate::library;
 use crate::tally::{answer, shown, Comparison, Outcome, Tally};
 use reference::bay::read_bay;
 use reference::calls;
+use reference::places::{read_bay_file, read_both, read_both_partial, Fault, File, Part};
 use reference::workspace::Record;
 
 /// Runs calls on the reference and on the library, and tallies how they compare.
@@ -30,15 +31,20 @@ fn guarded<Kind: Item>(
     (Outcome { number, memory }, lent.guards_stand())
 }
 
-/// The line's first word, with the next where it is refused or rejected.
+/// The line's first word, with the next where it is refused or rejected; a place isn't told, but
+/// that there is one, and its file.
 fn line_answer(outcome: &Outcome<u8>) -> String {
     if outcome.number >> 32 != 0 {
         return answer(outcome.number);
     }
     let line = String::from_utf8_lossy(&outcome.memory[..outcome.number as usize]);
-    let words = if line.starts_with("re") { 2 } else { 1 };
-    let first: Vec<&str> = line.split_whitespace().take(words).collect();
-    format!("line {}", first.join(" "))
+    let words: Vec<&str> = line.split_whitespace().collect();
+    match words[..] {
+        ["refused", number, "at", _] => format!("line refused {number} at"),
+        ["refused", number, "at", _, "in", file] => format!("line refused {number} at in {file}"),
+        [first @ ("refused" | "rejected"), second, ..] => format!("line {first} {second}"),
+        _ => format!("line {}", words[0]),
+    }
 }
 
 /// The answer, or words of its own where so much was due.
@@ -49,6 +55,33 @@ fn where_due(length: usize, words: &'static str) -> impl Fn(&Outcome<u8>) -> Str
         } else {
             answer(outcome.number)
         }
+    }
+}
+
+/// What is shown, by the refusal's number and where it is, unless the room is refused.
+fn shown_answer<Read>(read: Result<Read, Fault>) -> impl Fn(&Outcome<u64>) -> String {
+    let words = match read {
+        Ok(_) => "nothing".to_string(),
+        Err(fault) => format!("{} {}", fault.refusal.number(), whereabouts(fault.part)),
+    };
+    move |outcome| {
+        if outcome.number > calls::in_weights() {
+            answer(outcome.number)
+        } else {
+            words.clone()
+        }
+    }
+}
+
+fn whereabouts(part: Option<Part>) -> &'static str {
+    let Some(part) = part else {
+        return "nowhere";
+    };
+    match (part.file, part.bytes.is_empty()) {
+        (File::Task, false) => "in task",
+        (File::Task, true) => "at end of task",
+        (File::Weights, false) => "in weights",
+        (File::Weights, true) => "at end of weights",
     }
 }
 
@@ -138,6 +171,37 @@ impl Both<'_> {
         expected
     }
 
+    /// A call that reads two files and writes into room, with answers in words of their own.
+    fn written_in_words<Into: Item>(
+        &mut self,
+        kind: &'static str,
+        [(name, one), (other_name, other)]: [(&'static str, &[u8]); 2],
+        room: &[Into],
+        reference: fn(&[u8], &[u8], &mut [Into]) -> u64,
+        library: fn(&Lent<u8>, &Lent<u8>, &mut Lent<Into>) -> u64,
+        words: impl Fn(&Outcome<Into>) -> String,
+    ) -> Outcome<Into> {
+        let expected = Outcome::of(room, |room| reference(one, other, room));
+        let lent = (Lent::new(one), Lent::new(other));
+        let (found, guards) = guarded(room, |room| library(&lent.0, &lent.1, room));
+        let inputs = || {
+            vec![
+                (name, shown(one)),
+                (other_name, shown(other)),
+                ("room", shown(room)),
+            ]
+        };
+        let comparison = Comparison {
+            kind,
+            answer: words(&expected),
+            source: &self.source,
+            inputs: &inputs,
+            outside_kept: guards && lent.0.still_holds(one) && lent.1.still_holds(other),
+        };
+        self.tally.judge(&comparison, &expected, &found);
+        expected
+    }
+
     pub fn check(&mut self, task: &[u8], weights: &[u8]) -> u64 {
         let names = ["task", "weights"];
         self.judged(
@@ -219,25 +283,9 @@ impl Both<'_> {
     }
 
     pub fn check_line(&mut self, task: &[u8], weights: &[u8], room: &[u8]) -> Outcome<u8> {
-        let expected = Outcome::of(room, |room| calls::check_line(task, weights, room));
-        let lent = (Lent::new(task), Lent::new(weights));
-        let (found, guards) = guarded(room, |room| library::check_line(&lent.0, &lent.1, room));
-        let inputs = || {
-            vec![
-                ("task", shown(task)),
-                ("weights", shown(weights)),
-                ("room", shown(room)),
-            ]
-        };
-        let comparison = Comparison {
-            kind: "check_line",
-            answer: line_answer(&expected),
-            source: &self.source,
-            inputs: &inputs,
-            outside_kept: guards && lent.0.still_holds(task) && lent.1.still_holds(weights),
-        };
-        self.tally.judge(&comparison, &expected, &found);
-        expected
+        let (reference, library) = (calls::check_line, library::check_line);
+        let files = [("task", task), ("weights", weights)];
+        self.written_in_words("check_line", files, room, reference, library, line_answer)
     }
 
     pub fn open_partial(&mut self, partial: &[u8], room: &[u64]) -> Outcome<u64> {
@@ -286,19 +334,10 @@ impl Both<'_> {
     }
 
     pub fn silence(&mut self, task: &[u8], marks: &[u8], room: &[u8]) -> Outcome<u8> {
-        let expected = Outcome::of(room, |room| calls::silence(task, marks, room));
-        let lent = (Lent::new(task), Lent::new(marks));
-        let (found, guards) = guarded(room, |room| library::silence(&lent.0, &lent.1, room));
-        let kept = guards && lent.0.still_holds(task) && lent.1.still_holds(marks);
-        let inputs = || {
-            vec![
-                ("task", shown(task)),
-                ("marks", shown(marks)),
-                ("room", shown(room)),
-            ]
-        };
-        self.judge("silence", &inputs, &expected, &found, kept);
-        expected
+        let (reference, library) = (calls::silence, library::silence);
+        let files = [("task", task), ("marks", marks)];
+        let words = |outcome: &Outcome<u8>| answer(outcome.number);
+        self.written_in_words("silence", files, room, reference, library, words)
     }
 
     pub fn mend(&mut self, task: &[u8], room: &[u8]) -> Outcome<u8> {
@@ -318,6 +357,32 @@ impl Both<'_> {
         let (reference, library) = (calls::pair_fault, library::pair_fault);
         let task = ("task", task);
         self.filled_in_words("pair_fault", task, room, reference, library, fault_answer)
+    }
+
+    pub fn display(&mut self, task: &[u8], weights: &[u8], room: &[u64]) -> Outcome<u64> {
+        let (reference, library) = (calls::display, library::display);
+        let files = [("task", task), ("weights", weights)];
+        let words = shown_answer(read_both(task, weights));
+        self.written_in_words("display", files, room, reference, library, words)
+    }
+
+    pub fn display_partial(
+        &mut self,
+        partial: &[u8],
+        weights: &[u8],
+        room: &[u64],
+    ) -> Outcome<u64> {
+        let (reference, library) = (calls::display_partial, library::display_partial);
+        let files = [("partial", partial), ("weights", weights)];
+        let words = shown_answer(read_both_partial(partial, weights));
+        self.written_in_words("display_partial", files, room, reference, library, words)
+    }
+
+    pub fn display_bay(&mut self, bay: &[u8], room: &[u64]) -> Outcome<u64> {
+        let (reference, library) = (calls::display_bay, library::display_bay);
+        let words = shown_answer(read_bay_file(bay));
+        let bay = ("bay", bay);
+        self.filled_in_words("display_bay", bay, room, reference, library, words)
     }
 
     /// Whether the library opens a task to exactly the words that edits led to.

@@ -117,6 +117,28 @@ extern "C" {
         room: *mut u64,
         room_length: usize,
     ) -> u64;
+    fn florumeja_display(
+        task: *const u8,
+        task_length: usize,
+        weights: *const u8,
+        weights_length: usize,
+        room: *mut u64,
+        room_length: usize,
+    ) -> u64;
+    fn florumeja_display_partial(
+        partial: *const u8,
+        partial_length: usize,
+        weights: *const u8,
+        weights_length: usize,
+        room: *mut u64,
+        room_length: usize,
+    ) -> u64;
+    fn florumeja_display_bay(
+        bay: *const u8,
+        bay_length: usize,
+        room: *mut u64,
+        room_length: usize,
+    ) -> u64;
 }
 
 /// A call that reads two slices of bytes.
@@ -126,7 +148,8 @@ type Judging = unsafe extern "C" fn(*const u8, usize, *const u8, usize) -> u64;
 type Filling<From, Into> = unsafe extern "C" fn(*const From, usize, *mut Into, usize) -> u64;
 
 /// A call that reads two slices of bytes and writes into a third.
-type Writing = unsafe extern "C" fn(*const u8, usize, *const u8, usize, *mut u8, usize) -> u64;
+type Writing<Into> =
+    unsafe extern "C" fn(*const u8, usize, *const u8, usize, *mut Into, usize) -> u64;
 
 fn judged(call: Judging, one: &Lent<u8>, other: &Lent<u8>) -> u64 {
     // SAFETY: both slices are alive, and the call only reads them.
@@ -149,7 +172,12 @@ fn filled<From: Item, Into: Item>(
     }
 }
 
-fn written(call: Writing, one: &Lent<u8>, other: &Lent<u8>, room: &mut Lent<u8>) -> u64 {
+fn written<Into: Item>(
+    call: Writing<Into>,
+    one: &Lent<u8>,
+    other: &Lent<u8>,
+    room: &mut Lent<Into>,
+) -> u64 {
     // SAFETY: all slices are alive and apart; only the room is lent for writing.
     unsafe {
         call(
@@ -268,4 +296,16 @@ pub fn dropped(task: &Lent<u8>, room: &mut Lent<u8>) -> u64 {
 
 pub fn pair_fault(task: &Lent<u8>, room: &mut Lent<u64>) -> u64 {
     filled(florumeja_pair_fault, task, room)
+}
+
+pub fn display(task: &Lent<u8>, weights: &Lent<u8>, room: &mut Lent<u64>) -> u64 {
+    written(florumeja_display, task, weights, room)
+}
+
+pub fn display_partial(partial: &Lent<u8>, weights: &Lent<u8>, room: &mut Lent<u64>) -> u64 {
+    written(florumeja_display_partial, partial, weights, room)
+}
+
+pub fn display_bay(bay: &Lent<u8>, room: &mut Lent<u64>) -> u64 {
+    filled(florumeja_display_bay, bay, room)
 }

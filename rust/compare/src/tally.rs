@@ -5,7 +5,7 @@ use std::collections::BTreeMap;
 use std::fmt::Write;
 
 /// The kinds of comparison, in the order of the report.
-pub const KINDS: [&str; 20] = [
+pub const KINDS: [&str; 23] = [
     "check",
     "open",
     "find",
@@ -26,46 +26,140 @@ pub const KINDS: [&str; 20] = [
     "mend",
     "dropped",
     "pair_fault",
+    "display",
+    "display_partial",
+    "display_bay",
 ];
 
 /// Answers that a run of all groups has to meet, or it says nothing of them.
-pub const DUE: [(&str, &str); 36] = [
-    ("build", "done"),
-    ("build", "refused 1"),
-    ("build", "refused 2"),
-    ("build", "refused 3"),
-    ("build", "refused 5"),
-    ("build", "refused 8"),
-    ("build", "refused 10"),
-    ("build", "refused 11"),
-    ("build_lots", "done"),
-    ("build_lots", "refused 8"),
-    ("mend", "done"),
-    ("mend", "unchanged"),
-    ("mend", "refused 1"),
-    ("mend", "refused 2"),
-    ("mend", "refused 3"),
-    ("mend", "refused 4"),
-    ("mend", "refused 5"),
-    ("mend", "refused 8"),
-    ("dropped", "done"),
-    ("dropped", "nothing"),
-    ("dropped", "refused 1"),
-    ("dropped", "refused 2"),
-    ("dropped", "refused 3"),
-    ("dropped", "refused 4"),
-    ("dropped", "refused 5"),
-    ("dropped", "refused 8"),
-    ("pair_fault", "good"),
-    ("pair_fault", "held"),
-    ("pair_fault", "unclosed at first operator"),
-    ("pair_fault", "unclosed at later operator"),
-    ("pair_fault", "refused 1"),
-    ("pair_fault", "refused 2"),
-    ("pair_fault", "refused 3"),
-    ("pair_fault", "refused 4"),
-    ("pair_fault", "refused 5"),
-    ("pair_fault", "refused 8"),
+pub const DUE: [(&str, &[&str]); 21] = [
+    ("check", FORMS),
+    ("open", FORMS),
+    (
+        "build",
+        &[
+            "done",
+            "refused 1",
+            "refused 12",
+            "refused 13",
+            "refused 2",
+            "refused 3",
+            "refused 5",
+            "refused 8",
+            "refused 10",
+            "refused 11",
+        ],
+    ),
+    ("build_lots", &["done", "refused 8"]),
+    (
+        "line",
+        &[
+            "line refused 1 at",
+            "line refused 12 at",
+            "line refused 13 at",
+            "line refused 2 at",
+            "line refused 3 at",
+            "line refused 4 at",
+            "line refused 5",
+            "line refused 6",
+            "line refused 7",
+            "line refused 8",
+        ],
+    ),
+    (
+        "check_line",
+        &[
+            "line refused 1 at in task",
+            "line refused 12 at in task",
+            "line refused 13 at in task",
+            "line refused 2 at in task",
+            "line refused 3 at in task",
+            "line refused 4 at in task",
+            "line refused 1 at in weights",
+            "line refused 12 at in weights",
+            "line refused 13 at in weights",
+            "line refused 3 at in weights",
+            "line refused 4 at in weights",
+            "line refused 5",
+            "line refused 6",
+            "line refused 7",
+        ],
+    ),
+    ("open_partial", FORMS),
+    ("check_partial", FORMS),
+    ("build_partial", FORMS),
+    ("build_partial_lean", FORMS),
+    ("silence", FORMS),
+    ("mend", &["done", "unchanged"]),
+    ("mend", AS_READ),
+    ("dropped", &["done", "nothing"]),
+    ("dropped", AS_READ),
+    (
+        "pair_fault",
+        &[
+            "good",
+            "held",
+            "unclosed at first operator",
+            "unclosed at later operator",
+        ],
+    ),
+    ("pair_fault", AS_READ),
+    ("display", SHOWN),
+    ("display_partial", SHOWN),
+    ("display_partial", &["2 nowhere"]),
+    (
+        "display_bay",
+        &[
+            "nothing",
+            "1 in task",
+            "1 at end of task",
+            "12 in task",
+            "13 in task",
+            "2 in task",
+            "3 in task",
+            "5 nowhere",
+            "10 nowhere",
+            "11 nowhere",
+            "refused 8",
+        ],
+    ),
+];
+
+/// A number may end too early, be too long for what it says, or have no end.
+const FORMS: &[&str] = &["refused 1", "refused 12", "refused 13"];
+
+/// What is refused in a task file before its pairs are judged, and room.
+const AS_READ: &[&str] = &[
+    "refused 1",
+    "refused 12",
+    "refused 13",
+    "refused 2",
+    "refused 3",
+    "refused 4",
+    "refused 5",
+    "refused 8",
+];
+
+/// What is shown of a task or a partial file, and of weights beside it.
+const SHOWN: &[&str] = &[
+    "nothing",
+    "1 in task",
+    "1 at end of task",
+    "12 in task",
+    "13 in task",
+    "2 in task",
+    "3 in task",
+    "4 in task",
+    "5 nowhere",
+    "6 nowhere",
+    "7 nowhere",
+    "1 in weights",
+    "1 at end of weights",
+    "12 in weights",
+    "13 in weights",
+    "3 in weights",
+    "4 in weights",
+    "refused 8",
 ];
 
 /// More items than this are shown only where they differ.
@@ -200,12 +294,14 @@ impl Tally {
 
     /// Counts each answer that is due and was never met as a difference.
     pub fn demand(&mut self) {
-        for (kind, answer) in DUE {
+        for (kind, answers) in DUE {
             let count = self.counts.entry(kind).or_default();
-            if !count.answers.contains_key(answer) {
-                count.failed += 1;
-                if !self.silent {
-                    println!("{kind}: never answered {answer}");
+            for answer in answers {
+                if !count.answers.contains_key(*answer) {
+                    count.failed += 1;
+                    if !self.silent {
+                        println!("{kind}: never answered {answer}");
+                    }
                 }
             }
         }

@@ -24,7 +24,11 @@ pub struct Bay {
 
 /// Reads a bay file; the first fault in the documents' order decides.
 pub fn read_bay(bytes: &[u8]) -> Result<Bay, Refusal> {
-    let bay = read_lists(bytes)?;
+    bay_from(&mut Reader::new(bytes))
+}
+
+pub(crate) fn bay_from(reader: &mut Reader) -> Result<Bay, Refusal> {
+    let bay = lists_from(reader)?;
     bay.judge_gaps()?;
     bay.judge_lots()?;
     Ok(bay)
@@ -32,15 +36,18 @@ pub fn read_bay(bytes: &[u8]) -> Result<Bay, Refusal> {
 
 /// Reads a bay file up to its last byte; what its lists hold isn't judged yet.
 pub fn read_lists(bytes: &[u8]) -> Result<Bay, Refusal> {
-    let mut reader = Reader::new(bytes);
+    lists_from(&mut Reader::new(bytes))
+}
+
+fn lists_from(reader: &mut Reader) -> Result<Bay, Refusal> {
     let rows = reader.number_within(&(1..MOST_SIDE + 1), Refusal::Limit)?;
     let columns = reader.number_within(&(1..MOST_SIDE + 1), Refusal::Limit)?;
     let slots = rows * columns;
     if !(LEAST_SLOTS..=MOST_SLOTS).contains(&slots) {
         return Err(Refusal::Limit);
     }
-    let start = read_labels(&mut reader, slots)?;
-    let goal = read_labels(&mut reader, slots)?;
+    let start = read_labels(reader, slots)?;
+    let goal = read_labels(reader, slots)?;
     reader.finish()?;
     Ok(Bay {
         rows,

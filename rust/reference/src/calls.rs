@@ -5,8 +5,9 @@ use crate::feature_set::{words_for, FeatureSet};
 use crate::line::{check_line as checker_line, line as finder_line};
 use crate::mending::{dropped as dropped_pairs, first_fault, mended, PairFault};
 use crate::partial::{read_built, silenced, LeftOut};
+use crate::places::{read_bay_file, read_both, read_both_partial, shown, File, Part};
 use crate::refusal::Refusal;
-use crate::separation::{judged, judged_task, Verdict};
+use crate::separation::{judged, judged_partial, Verdict};
 use crate::task::{read_numbers, read_task, Task, MOST_FEATURES};
 use crate::weights::weight_file as file_of;
 use crate::workspace::{Record, Workspace};
@@ -34,6 +35,11 @@ pub fn held() -> u64 {
     CASE
 }
 
+/// What is shown lies in the weights.
+pub fn in_weights() -> u64 {
+    CASE
+}
+
 /// A pair is unclosed; its operator is told in lent words.
 pub fn unclosed() -> u64 {
     2 * CASE
@@ -44,8 +50,8 @@ pub fn refused(refusal: Refusal) -> u64 {
 }
 
 /// The number of a result or of its refusal.
-pub fn settle(result: Result<u64, Refusal>) -> u64 {
-    result.unwrap_or_else(refused)
+pub fn settle(result: Result<u64, impl Into<Refusal>>) -> u64 {
+    result.unwrap_or_else(|refusal| refused(refusal.into()))
 }
 
 /// Copies what is due into lent room, leaves the rest of the room, and tells how much was due.
@@ -136,8 +142,7 @@ pub fn open_partial(partial: &[u8], room: &mut [u64]) -> u64 {
 }
 
 pub fn check_partial(partial: &[u8], weights: &[u8]) -> u64 {
-    let built = read_built(partial, LeftOut::ByLetter);
-    settle(built.and_then(|task| judged_task(&task, weights).map(told)))
+    settle(judged_partial(partial, weights).map(told))
 }
 
 pub fn build_partial(partial: &[u8], room: &mut [u8]) -> u64 {
@@ -183,6 +188,31 @@ fn try_pair_fault(task: &[u8], room: &mut [u64]) -> Result<u64, Refusal> {
             (*first, *second) = (pair as u64, operator as u64);
             unclosed()
         }
+    })
+}
+
+pub fn display(task: &[u8], weights: &[u8], room: &mut [u64]) -> u64 {
+    settle(show(&shown(read_both(task, weights)), room))
+}
+
+pub fn display_partial(partial: &[u8], weights: &[u8], room: &mut [u64]) -> u64 {
+    settle(show(&shown(read_both_partial(partial, weights)), room))
+}
+
+pub fn display_bay(bay: &[u8], room: &mut [u64]) -> u64 {
+    settle(show(&shown(read_bay_file(bay)), room))
+}
+
+/// Tells where a part begins and how long it is, in the first two of the lent words.
+fn show(part: &Part, room: &mut [u64]) -> Result<u64, Refusal> {
+    let [beginning, length, ..] = room else {
+        return Err(Refusal::Room);
+    };
+    *beginning = part.bytes.start as u64;
+    *length = part.bytes.len() as u64;
+    Ok(match part.file {
+        File::Task => done(0),
+        File::Weights => in_weights(),
     })
 }
 

@@ -14,6 +14,7 @@ pub mod mending;
 pub mod numbers;
 pub mod operators;
 pub mod partial;
+pub mod places;
 pub mod refusal;
 pub mod sample;
 pub mod search;

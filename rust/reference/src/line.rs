@@ -2,30 +2,34 @@
 
 use crate::feature_set::FeatureSet;
 use crate::features::count_features;
+use crate::places::{read_task_file, Fault, File};
 use crate::refusal::Refusal;
 use crate::separation::{judged, Verdict};
-use crate::task::read_task;
 use crate::weights::weight_numbers;
 use crate::workspace::Workspace;
 
 pub const MOST_BYTES: usize = 8_192;
 pub const MOST_FEATURES: usize = 640;
 
-fn answer(input: &[u8]) -> Result<Option<FeatureSet>, Refusal> {
+fn answer(input: &[u8]) -> Result<Option<FeatureSet>, Fault> {
     // Too much input is judged before anything in it.
     if input.len() > MOST_BYTES {
-        return Err(Refusal::Room);
+        return Err(Refusal::Room.into());
     }
-    let task = read_task(input)?;
+    let task = read_task_file(input)?;
     if count_features(&task.sizes) > MOST_FEATURES {
-        return Err(Refusal::Room);
+        return Err(Refusal::Room.into());
     }
     Ok(Workspace::of(&task).find())
 }
 
-/// The line of a refusal, in both programs.
-fn refused(refusal: Refusal) -> String {
-    format!("refused {}\n", refusal.number())
+/// What both programs say of a refusal: its number, and its place where it has one.
+fn refused(fault: &Fault) -> String {
+    let number = fault.refusal.number();
+    match &fault.part {
+        Some(part) => format!("refused {number} at {}", part.bytes.start),
+        None => format!("refused {number}"),
+    }
 }
 
 /// The finder's line with its line feed.
@@ -37,16 +41,23 @@ pub fn line(input: &[u8]) -> String {
             format!("separated {}\n", words.join(" "))
         }
         Ok(None) => "none\n".to_string(),
-        Err(refusal) => refused(refusal),
+        Err(fault) => refused(&fault) + "\n",
     }
 }
 
-/// The checker's line with its line feed.
+/// The checker's line with its line feed; it reads two files, so a place has its file named.
 pub fn check_line(task: &[u8], weights: &[u8]) -> String {
     match judged(task, weights) {
         Ok(Verdict::Accepted) => "accepted\n".to_string(),
         Ok(Verdict::EndsAlike) => "rejected ends alike\n".to_string(),
         Ok(Verdict::Operator(place)) => format!("rejected operator {place}\n"),
-        Err(refusal) => refused(refusal),
+        Err(fault) => {
+            let file = match fault.part.as_ref().map(|part| part.file) {
+                Some(File::Task) => " in task",
+                Some(File::Weights) => " in weights",
+                None => "",
+            };
+            format!("{}{file}\n", refused(&fault))
+        }
     }
 }

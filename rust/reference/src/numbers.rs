@@ -10,31 +10,38 @@ pub const LARGEST: u64 = 16_383;
 pub struct Reader<'a> {
     bytes: &'a [u8],
     place: usize,
+    /// Where the number being read begins.
+    begun: Option<usize>,
 }
 
 impl<'a> Reader<'a> {
     pub fn new(bytes: &'a [u8]) -> Self {
-        Reader { bytes, place: 0 }
+        Reader {
+            bytes,
+            place: 0,
+            begun: None,
+        }
     }
 
     fn byte(&mut self) -> Result<u8, Refusal> {
-        let byte = *self.bytes.get(self.place).ok_or(Refusal::Input)?;
+        let byte = *self.bytes.get(self.place).ok_or(Refusal::InputEnds)?;
         self.place += 1;
         Ok(byte)
     }
 
     /// The next number, whatever its size.
     pub fn number(&mut self) -> Result<u64, Refusal> {
+        self.begun = Some(self.place);
         let low = self.byte()?;
         if low < 128 {
             return Ok(u64::from(low));
         }
         let high = self.byte()?;
-        // A high group of 0 has a shorter form; 128 or more would ask for a third byte.
-        if high == 0 || high >= 128 {
-            return Err(Refusal::Input);
+        match high {
+            0 => Err(Refusal::NotShortest),
+            128.. => Err(Refusal::MoreFollows),
+            _ => Ok(u64::from(low) - 128 + 128 * u64::from(high)),
         }
-        Ok(u64::from(low) - 128 + 128 * u64::from(high))
     }
 
     /// The next number, refused with the given reason outside the range.
@@ -66,8 +73,16 @@ impl<'a> Reader<'a> {
         Ok(list)
     }
 
+    /// The bytes of the number being read, as far as they were read. It is so until the next one
+    /// begins, and a limit over several numbers is judged before that.
+    pub fn being_read(&self) -> Option<Range<usize>> {
+        self.begun.map(|begun| begun..self.place)
+    }
+
     /// Refuses bytes that follow what is due.
-    pub fn finish(self) -> Result<(), Refusal> {
+    pub fn finish(&mut self) -> Result<(), Refusal> {
+        // From here on no single number is judged.
+        self.begun = None;
         if self.place == self.bytes.len() {
             Ok(())
         } else {

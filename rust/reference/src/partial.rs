@@ -140,13 +140,16 @@ impl Partial {
 
 /// Reads a partial file up to its last byte; pairs aren't judged yet.
 pub fn read_partial(bytes: &[u8]) -> Result<Partial, Refusal> {
-    let mut reader = Reader::new(bytes);
-    let sizes = read_sizes(&mut reader)?;
+    partial_from(&mut Reader::new(bytes))
+}
+
+fn partial_from(reader: &mut Reader) -> Result<Partial, Refusal> {
+    let sizes = read_sizes(reader)?;
     let mut marks = Vec::new();
     for _ in &sizes {
         marks.push(reader.number_within(&(0..2), Refusal::Range)?);
     }
-    let start = read_state(&mut reader, &sizes)?;
+    let start = read_state(reader, &sizes)?;
     let mut goal = Vec::new();
     for (mark, size) in marks.iter().zip(&sizes) {
         goal.push(match mark {
@@ -156,7 +159,7 @@ pub fn read_partial(bytes: &[u8]) -> Result<Partial, Refusal> {
     }
     let singles: usize = sizes.iter().sum();
     let pairs = reader.increasing_list(&(singles..count_features(&sizes)))?;
-    let operators = read_operators(&mut reader, &sizes)?;
+    let operators = read_operators(reader, &sizes)?;
     reader.finish()?;
     Ok(Partial {
         sizes,
@@ -191,7 +194,11 @@ fn judge_limits(sizes: &[usize]) -> Result<(), Refusal> {
 
 /// The built task of a partial file, wholly judged: the count of operators first, then pairs.
 pub fn read_built(bytes: &[u8], left_out: LeftOut) -> Result<Task, Refusal> {
-    let built = read_partial(bytes)?.built(left_out);
+    built_from(&mut Reader::new(bytes), left_out)
+}
+
+pub(crate) fn built_from(reader: &mut Reader, left_out: LeftOut) -> Result<Task, Refusal> {
+    let built = partial_from(reader)?.built(left_out);
     if built.operators.len() as u64 > LARGEST {
         return Err(Refusal::Limit);
     }

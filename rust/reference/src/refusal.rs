@@ -3,8 +3,8 @@
 /// Why a call is refused; the discriminants are the documents' numbers.
 #[derive(Clone, Copy, Debug, PartialEq, Eq, PartialOrd, Ord)]
 pub enum Refusal {
-    /// Input ends inside what is due, or a number is badly formed.
-    Input = 1,
+    /// Input ends inside what is due.
+    InputEnds = 1,
     /// The number of variables, a size, N, or a bay dimension breaks its limit.
     Limit = 2,
     /// A value, variable, entry count, feature or label is outside its range.
@@ -25,6 +25,10 @@ pub enum Refusal {
     Gap = 10,
     /// A bay's start and goal hold some label unequally often.
     Lots = 11,
+    /// A number isn't in shortest form.
+    NotShortest = 12,
+    /// The last byte that a number may have says that more follows.
+    MoreFollows = 13,
 }
 
 impl Refusal {

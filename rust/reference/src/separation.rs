@@ -1,13 +1,12 @@
 //! When weights separate, and the checker's verdict.
 
 use crate::feature_set::FeatureSet;
-use crate::features::{count_features, Features};
+use crate::features::Features;
 use crate::operators::{
     changes_from, combined_states, deviating_states, few_states, Operator, Pairing,
 };
-use crate::refusal::Refusal;
-use crate::task::{read_task, Task};
-use crate::weights::read_weights;
+use crate::places::{read_both, read_both_partial, Fault};
+use crate::task::Task;
 
 /// The checker's answer for an accepted task and weight file.
 #[derive(Clone, Copy, Debug, PartialEq, Eq)]
@@ -72,13 +71,14 @@ pub fn separates(task: &Task, weights: &FeatureSet) -> bool {
     verdict(task, weights) == Verdict::Accepted
 }
 
-/// The verdict on two files: the weights are read after a fully accepted task.
-pub fn judged(task: &[u8], weights: &[u8]) -> Result<Verdict, Refusal> {
-    judged_task(&read_task(task)?, weights)
+/// The verdict on a task file and a weight file.
+pub fn judged(task: &[u8], weights: &[u8]) -> Result<Verdict, Fault> {
+    let (task, weights) = read_both(task, weights)?;
+    Ok(verdict(&task, &weights))
 }
 
-/// The verdict of an accepted task on a weight file.
-pub fn judged_task(task: &Task, weights: &[u8]) -> Result<Verdict, Refusal> {
-    let weights = read_weights(weights, count_features(&task.sizes))?;
-    Ok(verdict(task, &weights))
+/// The verdict on a partial file, built by the letter, and a weight file.
+pub fn judged_partial(partial: &[u8], weights: &[u8]) -> Result<Verdict, Fault> {
+    let (task, weights) = read_both_partial(partial, weights)?;
+    Ok(verdict(&task, &weights))
 }

@@ -55,20 +55,27 @@ pub(crate) fn tail_numbers(pairs: &[usize], operators: &[Operator]) -> Vec<usize
 
 /// Reads a task file; the first fault in document 01's order decides.
 pub fn read_task(bytes: &[u8]) -> Result<Task, Refusal> {
-    let task = read_numbers(bytes)?;
+    task_from(&mut Reader::new(bytes))
+}
+
+pub(crate) fn task_from(reader: &mut Reader) -> Result<Task, Refusal> {
+    let task = numbers_from(reader)?;
     judge_pairs(&task)?;
     Ok(task)
 }
 
 /// Reads a task file up to its last byte; pairs aren't judged yet.
 pub fn read_numbers(bytes: &[u8]) -> Result<Task, Refusal> {
-    let mut reader = Reader::new(bytes);
-    let sizes = read_sizes(&mut reader)?;
-    let start = read_state(&mut reader, &sizes)?;
-    let goal = read_state(&mut reader, &sizes)?;
+    numbers_from(&mut Reader::new(bytes))
+}
+
+fn numbers_from(reader: &mut Reader) -> Result<Task, Refusal> {
+    let sizes = read_sizes(reader)?;
+    let start = read_state(reader, &sizes)?;
+    let goal = read_state(reader, &sizes)?;
     let singles: usize = sizes.iter().sum();
     let pairs = reader.increasing_list(&(singles..count_features(&sizes)))?;
-    let operators = read_operators(&mut reader, &sizes)?;
+    let operators = read_operators(reader, &sizes)?;
     reader.finish()?;
     Ok(Task {
         sizes,

@@ -6,7 +6,10 @@ use crate::refusal::Refusal;
 
 /// Reads a weight file for a task of so many features.
 pub fn read_weights(bytes: &[u8], count: usize) -> Result<FeatureSet, Refusal> {
-    let mut reader = Reader::new(bytes);
+    weights_from(&mut Reader::new(bytes), count)
+}
+
+pub(crate) fn weights_from(reader: &mut Reader, count: usize) -> Result<FeatureSet, Refusal> {
     let listed = reader.increasing_list(&(0..count))?;
     reader.finish()?;
     Ok(FeatureSet::of(count, &listed))

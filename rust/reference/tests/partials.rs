@@ -100,8 +100,11 @@ fn refusal(bytes: &[u8]) -> u64 {
 
 #[test]
 fn numbers_are_judged_as_read() {
-    let judged: [(&[u8], u64); 40] = [
+    let judged: [(&[u8], u64); 43] = [
         (&[], 1),
+        (&[0x80], 1),
+        (&[0x80, 0x80], 13),
+        (&[1, 0x82, 0x00], 12),
         (&[0], 2),
         (&[65], 2),
         (&[1], 1),
@@ -119,7 +122,7 @@ fn numbers_are_judged_as_read() {
         (&[2, 63, 61, 1, 1], 1),
         (&[1, 2, 2], 3),
         (&[1, 2, 0x80, 0x01], 3),
-        (&[1, 2, 0x80, 0x00], 1),
+        (&[1, 2, 0x80, 0x00], 12),
         (&[2, 2, 2, 1], 1),
         // "Unknown" is neither a start value nor a named goal value.
         (&[1, 2, 1, 2], 3),

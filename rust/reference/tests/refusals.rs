@@ -19,10 +19,47 @@ fn number(bytes: &[u8]) -> Result<u64, Refusal> {
 fn numbers_as_printed() {
     assert_eq!(number(&[0x80, 0x01]), Ok(128));
     assert_eq!(number(&[0xFF, 0x7F]), Ok(16_383));
-    assert_eq!(number(&[0x80, 0x00]), Err(Refusal::Input));
-    assert_eq!(number(&[0x80, 0x80, 0x01]), Err(Refusal::Input));
-    assert_eq!(number(&[]), Err(Refusal::Input));
-    assert_eq!(number(&[0x80]), Err(Refusal::Input));
+    assert_eq!(number(&[0x80, 0x00]), Err(Refusal::NotShortest));
+    assert_eq!(number(&[0x80, 0x80, 0x01]), Err(Refusal::MoreFollows));
+    assert_eq!(number(&[]), Err(Refusal::InputEnds));
+    assert_eq!(number(&[0x80]), Err(Refusal::InputEnds));
+}
+
+/// A second byte decides alone: 0 has a shorter form, and 128 or more asks for a third.
+#[test]
+fn forms_that_are_refused() {
+    for first in 128..=255u8 {
+        assert_eq!(number(&[first]), Err(Refusal::InputEnds));
+        assert_eq!(number(&[first, 0]), Err(Refusal::NotShortest));
+        for second in 128..=255u8 {
+            for third in [&[][..], &[0], &[1], &[128]] {
+                let bytes = [&[first, second], third].concat();
+                assert_eq!(number(&bytes), Err(Refusal::MoreFollows));
+            }
+        }
+    }
+}
+
+#[test]
+fn refusals_have_their_numbers() {
+    let numbers = [
+        (Refusal::InputEnds, 1),
+        (Refusal::Limit, 2),
+        (Refusal::Range, 3),
+        (Refusal::Order, 4),
+        (Refusal::LeftOver, 5),
+        (Refusal::StartHoldsPair, 6),
+        (Refusal::NotClosed, 7),
+        (Refusal::Room, 8),
+        (Refusal::Workspace, 9),
+        (Refusal::Gap, 10),
+        (Refusal::Lots, 11),
+        (Refusal::NotShortest, 12),
+        (Refusal::MoreFollows, 13),
+    ];
+    for (refusal, number) in numbers {
+        assert_eq!(refusal.number(), number);
+    }
 }
 
 #[test]
@@ -57,12 +94,17 @@ fn task_refusal(bytes: &[u8]) -> u64 {
 
 #[test]
 fn task_numbers_are_judged_as_read() {
-    let judged: [(&[u8], u64); 30] = [
+    let judged: [(&[u8], u64); 34] = [
         (&[], 1),
         (&[0], 2),
         (&[65], 2),
-        (&[0x80, 0x00], 1),
+        (&[0x80, 0x00], 12),
         (&[0x80, 0x01], 2),
+        (&[0x80, 0x80], 13),
+        (&[0x80], 1),
+        // A number's form comes before its limit, and a limit before the next number's form.
+        (&[0xC1, 0x00], 12),
+        (&[65, 0x80, 0x00], 2),
         (&[1], 1),
         (&[1, 0], 2),
         (&[1, 65], 2),
@@ -100,8 +142,11 @@ fn task_numbers_are_judged_as_read() {
 #[test]
 fn entries_are_judged_as_read() {
     let head = [2, 2, 2, 0, 0, 0, 0, 0, 1];
-    let judged: [(&[u8], u64); 9] = [
+    let judged: [(&[u8], u64); 12] = [
         (&[3], 3),
+        (&[0x83, 0x00], 12),
+        (&[1, 0x80, 0x80], 13),
+        (&[1, 0, 0x80], 1),
         (&[2, 0, 0, 0, 0], 4),
         (&[2, 0, 0, 0, 2], 3),
         (&[2, 1, 0, 0, 0, 9, 9], 4),
@@ -145,9 +190,13 @@ fn plain() -> Vec<u8> {
 
 #[test]
 fn weights_are_read_after_the_task() {
-    let judged: [(&[u8], u64); 8] = [
+    let judged: [(&[u8], u64); 12] = [
         (&[], REFUSED + 1),
         (&[1], REFUSED + 1),
+        (&[0x80], REFUSED + 1),
+        (&[0x80, 0x00], REFUSED + 12),
+        (&[1, 0x82, 0x00], REFUSED + 12),
+        (&[1, 0x82, 0x82, 0x01], REFUSED + 13),
         (&[1, 8], REFUSED + 3),
         (&[2, 2, 2], REFUSED + 4),
         (&[2, 2, 1], REFUSED + 4),
@@ -297,12 +346,14 @@ fn edits_against_pairs() {
 
 #[test]
 fn bays_are_judged_as_read() {
-    let judged: [(&[u8], u64); 34] = [
+    let judged: [(&[u8], u64); 36] = [
         (&[], 1),
         (&[0], 2),
         (&[10], 2),
         (&[0x80, 0x01], 2),
-        (&[0x80, 0x00], 1),
+        (&[0x80, 0x00], 12),
+        (&[1, 0x82, 0x80], 13),
+        (&[1, 0x82], 1),
         (&[1], 1),
         (&[1, 0], 2),
         (&[1, 10], 2),
@@ -334,7 +385,7 @@ fn bays_are_judged_as_read() {
         (&[1, 3, 0, 1, 2, 0, 1, 3], 3),
         (&[1, 3, 0, 1, 1, 1, 1, 0], 8),
         (&[1, 2, 0, 1, 0, 1], 8),
-        (&[1, 2, 0, 1, 0, 0x81, 0], 1),
+        (&[1, 2, 0, 1, 0, 0x81, 0], 12),
     ];
     for (bytes, expected) in judged {
         let mut room = [3; 24];
@@ -371,7 +422,7 @@ fn line_judges_bytes_first_and_features_last() {
     assert_eq!(line(&full), "separated 1 2\n");
     assert_eq!(line(&task_of_length(8_193)), "refused 8\n");
     assert_eq!(line(&vec![0; 8_193]), "refused 8\n");
-    assert_eq!(line(&vec![0; 8_192]), "refused 2\n");
+    assert_eq!(line(&vec![0; 8_192]), "refused 2 at 0\n");
     let wide = |sizes: &[usize], pairs: Vec<usize>| Task {
         sizes: sizes.to_vec(),
         start: vec![0; sizes.len()],
@@ -395,9 +446,12 @@ fn line_needs_room() {
     assert_eq!(room, [1; 14]);
     assert_eq!(calls::line(&input, &mut room), 14);
     assert_eq!(&room, b"separated 1 2\n");
-    let mut room = *b"xxxxxxxxxxxx";
-    assert_eq!(calls::line(&[], &mut room), 10);
-    assert_eq!(&room, b"refused 1\nxx");
+    let mut room = *b"xxxxxxxxxxxxxxxxx";
+    assert_eq!(calls::line(&[], &mut room), 15);
+    assert_eq!(&room, b"refused 1 at 0\nxx");
+    let mut room = [1; 14];
+    assert_eq!(calls::line(&[], &mut room), REFUSED + 8);
+    assert_eq!(room, [1; 14]);
 }
 
 /// Features of 0 to 4,095 are written; others are refused before the room is judged.

@@ -3,6 +3,7 @@
 use crate::characters::is_plain;
 use crate::json::Json;
 use crate::pair_list::Culprit;
+use crate::place::Place;
 
 /// How much of a long line is shown, and how much of it before the place.
 const WIDEST_PART: usize = 70;
@@ -24,6 +25,8 @@ pub enum Fault {
     Refused(u32),
     /// The same, and what may help.
     Explained(u32, String),
+    /// The library refused a binary file at this place, and what may help.
+    Placed(Box<Place>, Option<String>),
     /// The library refused a pair list, and this pair is behind it.
     Pair(Culprit),
     /// Files, the command line, or answers that do not fit together.
@@ -47,22 +50,28 @@ impl Fault {
     pub fn about(self, bytes: &[u8]) -> Fault {
         let typed = |character: char| is_plain(character) || character.is_ascii_whitespace();
         let text = std::str::from_utf8(bytes);
-        match self {
-            Fault::Refused(number)
-                if text.is_ok_and(|text| !text.is_empty() && text.chars().all(typed)) =>
-            {
-                Fault::Explained(number, TEXT.to_string())
-            }
-            other => other,
+        match text.is_ok_and(|text| !text.is_empty() && text.chars().all(typed)) {
+            true => self.explained(TEXT),
+            false => self,
         }
     }
 
     /// Says of a partial file that limits and pairs are judged on the task that is built of it.
     pub fn of_partial(self) -> Fault {
+        match self.refusal() {
+            Some(2) => self.explained(ONE_MORE_VALUE),
+            Some(6) => self.explained(NOT_MENDED),
+            Some(7) => self.explained(&format!("{NO_LONGER_IDLE}; {NOT_MENDED}")),
+            _ => self,
+        }
+    }
+
+    /// Adds to a refusal what may help, unless something does already.
+    pub fn explained(self, words: &str) -> Fault {
+        let words = words.to_string();
         match self {
-            Fault::Refused(2) => Fault::Explained(2, ONE_MORE_VALUE.to_string()),
-            Fault::Refused(6) => Fault::Explained(6, NOT_MENDED.to_string()),
-            Fault::Refused(7) => Fault::Explained(7, format!("{NO_LONGER_IDLE}; {NOT_MENDED}")),
+            Fault::Refused(number) => Fault::Explained(number, words),
+            Fault::Placed(place, None) => Fault::Placed(place, Some(words)),
             other => other,
         }
     }
@@ -73,11 +82,27 @@ impl Fault {
             Fault::Text(fault) => fault.words(),
             Fault::Refused(number) => refusal_words(*number),
             Fault::Explained(number, words) => format!("{} ({words})", refusal_words(*number)),
+            Fault::Placed(place, help) => {
+                let help = help.as_ref().map(|words| format!(" ({words})"));
+                let refused = format!("refused {}: {}", place.refusal, place.words());
+                refused + &help.unwrap_or_default()
+            }
             Fault::Pair(culprit) => {
                 let refusal = refusal_words(culprit.refusal());
                 format!("{refusal} ({}; {MEND})", culprit.words())
             }
             Fault::Failure(words) => words.clone(),
+        }
+    }
+
+    // The number, where it was the library that refused.
+    fn refusal(&self) -> Option<u32> {
+        match self {
+            Fault::Text(fault) => fault.refusal,
+            Fault::Refused(number) | Fault::Explained(number, _) => Some(*number),
+            Fault::Placed(place, _) => Some(place.refusal),
+            Fault::Pair(culprit) => Some(culprit.refusal()),
+            Fault::Failure(_) => None,
         }
     }
 
@@ -89,14 +114,15 @@ impl Fault {
         }
     }
 
-    /// All that is known, for a person: the words, then the line of the text with a mark below.
+    /// All that is known, for a person: the words, then the line of the text or the bytes around the
+    /// place, with a mark below.
     pub fn message(&self, name: &str) -> String {
-        match self {
-            Fault::Text(fault) => {
-                format!("{name}: {}{}", fault.words(), fault.pointer())
-            }
-            _ => format!("{name}: {}", self.words()),
-        }
+        let pointer = match self {
+            Fault::Text(fault) => fault.pointer(),
+            Fault::Placed(place, _) => place.pointer().to_string(),
+            _ => String::new(),
+        };
+        format!("{name}: {}{pointer}", self.words())
     }
 
     /// The same for a program.
@@ -107,16 +133,13 @@ impl Fault {
             ("answer", Json::Text(answer)),
             ("message", Json::Text(self.words())),
         ];
+        let refusal = self.refusal().map(refusal_json);
+        fields.extend(refusal.map(|refusal| ("refusal", refusal)));
         match self {
             Fault::Text(fault) => fields.extend(fault.fields()),
-            Fault::Refused(number) | Fault::Explained(number, _) => {
-                fields.push(("refusal", refusal_json(*number)))
-            }
-            Fault::Pair(culprit) => {
-                fields.push(("refusal", refusal_json(culprit.refusal())));
-                fields.push(("pair", culprit.json()));
-            }
-            Fault::Failure(_) => {}
+            Fault::Placed(place, _) => fields.extend(place.fields()),
+            Fault::Pair(culprit) => fields.push(("pair", culprit.json())),
+            Fault::Refused(_) | Fault::Explained(..) | Fault::Failure(_) => {}
         }
         Json::Object(fields)
     }
@@ -146,23 +169,19 @@ impl TextFault {
     }
 
     fn fields(&self) -> Vec<(&'static str, Json)> {
-        let mut fields = vec![
+        vec![
             ("line", Json::number(self.line)),
             ("column", Json::number(self.column)),
             ("expected", Json::text(&self.expected)),
             ("found", Json::text(&self.found)),
-        ];
-        if let Some(number) = self.refusal {
-            fields.push(("refusal", refusal_json(number)));
-        }
-        fields
+        ]
     }
 }
 
 /// A refusal by number and in words.
 pub fn refusal_words(number: u32) -> String {
     let meaning = match number {
-        1 => "input ends inside what is due, or a number is badly formed",
+        1 => "input ends inside what is due",
         2 => "the count of variables, a size, the count of features, or a bay dimension breaks its limit",
         3 => "a value, variable, entry count, feature, label or mark is outside its range, or a list of new values or marks has the wrong length",
         4 => "entries, pairs or weights do not increase",
@@ -173,6 +192,8 @@ pub fn refusal_words(number: u32) -> String {
         9 => "a workspace is not well formed",
         10 => "a bay has no gap or more than one",
         11 => "start and goal do not hold each label equally often",
+        12 => "a number is not in its shortest form",
+        13 => "the second byte of a number says that more follows",
         _ => "a number that this tool has no words for",
     };
     format!("refused {number}: {meaning}")

@@ -42,6 +42,21 @@ impl Feature {
     }
 }
 
+/// How many features of one atom a task with these sizes has.
+pub fn single_count(sizes: &[usize]) -> usize {
+    sizes.iter().sum()
+}
+
+/// How many features such a task has in all; unlike a list of them, it can be had of any sizes.
+pub fn count(sizes: &[usize]) -> usize {
+    let (mut before, mut pairs) = (0, 0);
+    for size in sizes {
+        pairs += before * size;
+        before += size;
+    }
+    before + pairs
+}
+
 /// All features of a task with these sizes, by number.
 pub struct Features {
     sizes: Vec<usize>,
@@ -97,10 +112,22 @@ mod tests {
 
     #[test]
     fn counts_follow_the_limits_of_the_rules() {
-        assert_eq!(Features::new(vec![2, 2]).count(), 8);
-        assert_eq!(Features::new(vec![64, 62]).count(), 4094);
-        assert_eq!(Features::new(vec![1; 64]).count(), 2080);
-        assert_eq!(Features::new(vec![9; 9]).count(), 2997);
+        let due = [
+            (vec![2, 2], 8),
+            (vec![64, 62], 4094),
+            (vec![1; 64], 2080),
+            (vec![9; 9], 2997),
+            (vec![], 0),
+        ];
+        for (sizes, total) in due {
+            assert_eq!(count(&sizes), total, "{sizes:?}");
+            let singles = single_count(&sizes);
+            let features = Features::new(sizes);
+            assert_eq!(features.count(), total);
+            let single = |number: &usize| matches!(features.get(*number), Feature::Single(_));
+            assert_eq!((0..total).filter(single).count(), singles);
+        }
+        assert_eq!(count(&[16_383; 2]), 268_435_455);
     }
 
     // Seven atoms, then the pairs of variables 0 and 1 (six), 0 and 2 (four), 1 and 2 (six).

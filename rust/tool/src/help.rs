@@ -3,6 +3,7 @@
 use crate::args::HELP;
 use crate::commands::partial::{self, PARTIAL};
 use crate::commands::{Command, COMMANDS};
+use crate::place;
 
 /// The help of the tool as a whole.
 pub fn tool() -> String {
@@ -47,10 +48,11 @@ pub fn command(command: &Command) -> String {
 
 fn about(command: &Command) -> String {
     let mut options = command.options.iter();
-    match options.any(|choice| choice.long == PARTIAL.long) {
-        true => format!("{}\n\n{}", command.about, partial::ABOUT),
-        false => command.about.to_string(),
-    }
+    let partial = options.any(|choice| choice.long == PARTIAL.long);
+    let partial = partial.then_some(partial::ABOUT);
+    let place = command.binary.then_some(place::ABOUT);
+    let parts = [Some(command.about), partial, place].into_iter().flatten();
+    parts.collect::<Vec<_>>().join("\n\n")
 }
 
 fn usage(command: &Command) -> String {

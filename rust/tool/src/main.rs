@@ -19,6 +19,7 @@ mod numbers;
 mod output;
 mod pair_list;
 mod picture;
+mod place;
 mod progress;
 mod question;
 mod report;

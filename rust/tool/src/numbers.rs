@@ -19,17 +19,43 @@ pub fn put_list(bytes: &mut Vec<u8>, list: &[usize]) {
     list.iter().for_each(|&number| put(bytes, number));
 }
 
+/// What stands at the front of some bytes, where a number is due.
+#[derive(Clone, Copy, PartialEq, Eq, Debug)]
+pub enum Form {
+    /// A number in its shortest form.
+    Number(usize),
+    /// The bytes end inside a number, or before it.
+    Ends,
+    /// A number that has a shorter form.
+    Padded,
+    /// A number whose last allowed byte says that more follows.
+    Endless,
+}
+
+/// Reads what stands at the front of the bytes, and tells how many of them were read.
+pub fn read(bytes: &[u8]) -> (Form, usize) {
+    match *bytes {
+        [] => (Form::Ends, 0),
+        [low @ 0..=127, ..] => (Form::Number(usize::from(low)), 1),
+        [_] => (Form::Ends, 1),
+        [_, 0, ..] => (Form::Padded, 2),
+        [low, high @ 1..=127, ..] => {
+            let number = usize::from(low) + 128 * usize::from(high) - 128;
+            (Form::Number(number), 2)
+        }
+        [_, _, ..] => (Form::Endless, 2),
+    }
+}
+
 /// Takes a number off the front of the bytes; none if no number stands there in its shortest form.
 pub fn take(bytes: &mut &[u8]) -> Option<usize> {
-    let (number, rest) = match *bytes {
-        [low @ 0..=127, rest @ ..] => (usize::from(*low), rest),
-        [low, high @ 1..=127, rest @ ..] => {
-            (usize::from(*low) + 128 * usize::from(*high) - 128, rest)
+    match read(bytes) {
+        (Form::Number(number), length) => {
+            *bytes = &bytes[length..];
+            Some(number)
         }
-        _ => return None,
-    };
-    *bytes = rest;
-    Some(number)
+        _ => None,
+    }
 }
 
 /// Takes so many numbers.
@@ -70,6 +96,24 @@ mod tests {
         let mut left = bytes.as_slice();
         assert_eq!(take_list(&mut left).unwrap(), numbers);
         assert_eq!(left, [9]);
+    }
+
+    #[test]
+    fn every_form_is_told_from_the_others() {
+        let due: [(&[u8], Form, usize); 9] = [
+            (&[], Form::Ends, 0),
+            (&[127, 9], Form::Number(127), 1),
+            (&[0x80], Form::Ends, 1),
+            (&[0x80, 0, 9], Form::Padded, 2),
+            (&[0xff, 0], Form::Padded, 2),
+            (&[0x80, 1, 9], Form::Number(128), 2),
+            (&[0xff, 0x7f], Form::Number(LARGEST), 2),
+            (&[0x80, 0x80], Form::Endless, 2),
+            (&[0xff, 0xff, 9], Form::Endless, 2),
+        ];
+        for (bytes, form, length) in due {
+            assert_eq!(read(bytes), (form, length), "{bytes:?}");
+        }
     }
 
     #[test]

@@ -18,6 +18,24 @@ pub fn joined(words: &[String]) -> String {
     }
 }
 
+/// Which one of a list, from 1, as in "1st", "2nd" and "12th".
+pub fn ordinal(number: usize) -> String {
+    let ending = match (number % 100, number % 10) {
+        (11..=13, _) => "th",
+        (_, 1) => "st",
+        (_, 2) => "nd",
+        (_, 3) => "rd",
+        _ => "th",
+    };
+    format!("{number}{ending}")
+}
+
+/// Bytes in hexadecimal, as in "02 c1 01".
+pub fn hexadecimal(bytes: &[u8]) -> String {
+    let digits: Vec<String> = bytes.iter().map(|byte| format!("{byte:02x}")).collect();
+    digits.join(" ")
+}
+
 /// The word for a count's parity.
 pub fn parity(count: usize) -> &'static str {
     if count % 2 == 1 {
@@ -43,5 +61,26 @@ pub fn reason(error: &io::Error) -> String {
     match words.split_once(" (os error") {
         Some((plain, _)) => plain.to_string(),
         None => words,
+    }
+}
+
+#[cfg(test)]
+mod tests {
+    use super::*;
+
+    #[test]
+    fn ordinals_end_as_they_are_spoken() {
+        let numbers = [1, 2, 3, 4, 10, 11, 12, 13, 21, 102, 111, 113, 1003];
+        let due = [
+            "1st", "2nd", "3rd", "4th", "10th", "11th", "12th", "13th", "21st", "102nd", "111th",
+            "113th", "1003rd",
+        ];
+        assert_eq!(numbers.map(ordinal), due);
+    }
+
+    #[test]
+    fn each_byte_has_two_digits() {
+        assert_eq!(hexadecimal(&[0, 9, 0xc1, 0xff]), "00 09 c1 ff");
+        assert_eq!(hexadecimal(&[]), "");
     }
 }

@@ -226,11 +226,163 @@ pub enum Fault {
     NamingRoomFirst,
     /// Where what is at fault can't be told, the words are cleared.
     NamingSpoilsRefused,
+    /// A number not in shortest form is refused as one that has no end.
+    LongAsEndless,
+    /// A number whose second byte says that more follows is refused as not in shortest form.
+    EndlessAsLong,
+    /// Input that ends is refused as a number not in shortest form.
+    EndsAsLong,
+    /// Input that ends is refused as a number that has no end.
+    EndsAsEndless,
+    /// Input that ends inside a number is refused as a number that has no end.
+    CutAsEndless,
+    /// A number whose second byte says that more follows is refused as input that ends if nothing does.
+    EndlessWaitsForMore,
+    /// A number whose second byte says that more follows is refused as not in shortest form if 0 does.
+    EndlessZeroAsLong,
+    /// Badly formed numbers of a task or weight file are refused 1, as before.
+    FormsAsBefore,
+    /// Badly formed numbers of a bay file are refused 1, as before.
+    BayFormsAsBefore,
+    /// Badly formed numbers of a partial file are refused 1, as before.
+    PartialFormsAsBefore,
+    /// Badly formed numbers of a task file to silence are refused 1, as before.
+    SilencingFormsAsBefore,
+    /// Badly formed numbers of a task file to mend are refused 1, as before.
+    MendingFormsAsBefore,
+    /// The place is one byte further.
+    PlaceOneByteOn,
+    /// The place and the bytes are those of the number before.
+    PlaceOneNumberEarly,
+    /// The place counts numbers.
+    PlaceInNumbers,
+    /// The place is told in sixteen bits.
+    PlaceInSixteenBits,
+    /// The place is where the number ends.
+    PlaceBehindPart,
+    /// The length is one too many.
+    LengthOneMore,
+    /// The length is 0.
+    NoLength,
+    /// At most one byte is shown.
+    OneByteShown,
+    /// All that follows is shown too.
+    ShownToTheEnd,
+    /// The second word is where the part ends.
+    EndForLength,
+    /// The two words are the other way round.
+    LengthFirst,
+    /// Of a number not in shortest form the 0 isn't shown.
+    ZeroByteUnshown,
+    /// Of a number that has no end a third byte is shown.
+    ThirdByteShown,
+    /// Of a number that has no end one byte is shown.
+    FirstByteOfEndless,
+    /// What is there of a number that is cut isn't shown.
+    CutNumberUnshown,
+    /// A number that is cut has its place at the end of the file.
+    CutNumberAtEnd,
+    /// Where the file ends before a number begins, the last one is shown.
+    LastNumberShown,
+    /// Where a number doesn't increase, the one before is shown.
+    OrderAtNumberBefore,
+    /// Where a number doesn't increase, the one before is shown too.
+    OrderWithNumberBefore,
+    /// Too many features have their place behind the sizes.
+    FeaturesBehindSizes,
+    /// Too many features have their place at the count of variables.
+    FeaturesAtCount,
+    /// Of too many features all sizes are shown.
+    FeaturesAtAllSizes,
+    /// Too many slots or too few have their place at the rows.
+    SlotsAtRows,
+    /// Too many slots or too few have their place behind the columns.
+    SlotsBehindSides,
+    /// Left-over bytes have a place.
+    LeftOverPlaced,
+    /// Pairs at fault have a place.
+    PairsPlaced,
+    /// Too many kept operators have a place.
+    CountPlaced,
+    /// Labels at fault have a place.
+    LabelsPlaced,
+    /// Without a place the part is empty at the task's end.
+    UnplacedAtEnd,
+    /// With nothing refused the part is empty at the task's end.
+    GoodAtEnd,
+    /// With nothing refused the whole task is shown.
+    GoodShowsAll,
+    /// Without a place the part lies in the weights.
+    UnplacedInWeights,
+    /// Where the weights are refused without a place, the part lies in them.
+    UnplacedWeightsThere,
+    /// Without a place the words stay as they are.
+    UnplacedStays,
+    /// What is shown of the task is said to lie in the weights.
+    TaskShownInWeights,
+    /// What is shown of the weights is said to lie in the task.
+    WeightsShownInTask,
+    /// Places in the weights count from the task's start.
+    WeightsBehindTask,
+    /// Nothing is shown of a task that is too long for the finder.
+    LongInputUnshown,
+    /// The weights are judged before the task.
+    WeightsShownFirst,
+    /// The weights are judged beside a task that is refused without a place.
+    WeightsBesideUnplaced,
+    /// Weights beside a partial file are shown by its own features.
+    ShownByOwnSizes,
+    /// What is shown of a partial file goes by the lean call.
+    ShownLean,
+    /// What is shown of a bay is said to lie in weights.
+    BayShownInWeights,
+    /// One word is room enough for what is shown.
+    OneWordTaken,
+    /// Without a place no room is needed.
+    RoomForPlacesAlone,
+    /// With nothing refused no room is needed.
+    RoomForFaultsAlone,
+    /// Room that is too short for what is shown is cleared.
+    ShortRoomCleared,
+    /// The word behind the two is cleared.
+    ThirdWordCleared,
+    /// The last of many words is cleared.
+    LastWordCleared,
+    /// Showing what is at fault is refused for it.
+    DisplayRefuses,
+    /// The refusal's number is the value of what is shown.
+    NumberInValue,
+    /// The length is the value of what is shown.
+    LengthInValue,
+    /// Showing what is at fault writes a word outside the room.
+    DisplayWritesOutside,
+    /// Showing what is at fault writes a byte of the weights.
+    DisplayWritesWeights,
+    /// The finder's line has no place.
+    LineWithoutPlace,
+    /// The finder's line counts places from 1.
+    LinePlaceFromOne,
+    /// The finder's line names a file.
+    LineNamesFile,
+    /// The finder's line has a place for left-over bytes.
+    LinePlacesLeftOver,
+    /// The finder's line has a place for input that is too long.
+    LinePlacesLongInput,
+    /// The checker's line has no place.
+    CheckLineWithoutPlace,
+    /// The checker's line has a place without its file.
+    CheckLineWithoutFile,
+    /// The checker's line names the other file.
+    CheckLineOtherFile,
+    /// The checker's line names no file where it is the weights.
+    CheckLineNamesTaskAlone,
+    /// The checker's line has a place for left-over bytes.
+    CheckLinePlacesLeftOver,
 }
 
 use Fault::*;
 
-pub const FAULTS: [Fault; 110] = [
+pub const FAULTS: [Fault; 186] = [
     AcceptsAlike,
     CountsLiveOperators,
     LastOperator,
@@ -341,6 +493,82 @@ pub const FAULTS: [Fault; 110] = [
     NamingGoodInNoWord,
     NamingRoomFirst,
     NamingSpoilsRefused,
+    LongAsEndless,
+    EndlessAsLong,
+    EndsAsLong,
+    EndsAsEndless,
+    CutAsEndless,
+    EndlessWaitsForMore,
+    EndlessZeroAsLong,
+    FormsAsBefore,
+    BayFormsAsBefore,
+    PartialFormsAsBefore,
+    SilencingFormsAsBefore,
+    MendingFormsAsBefore,
+    PlaceOneByteOn,
+    PlaceOneNumberEarly,
+    PlaceInNumbers,
+    PlaceInSixteenBits,
+    PlaceBehindPart,
+    LengthOneMore,
+    NoLength,
+    OneByteShown,
+    ShownToTheEnd,
+    EndForLength,
+    LengthFirst,
+    ZeroByteUnshown,
+    ThirdByteShown,
+    FirstByteOfEndless,
+    CutNumberUnshown,
+    CutNumberAtEnd,
+    LastNumberShown,
+    OrderAtNumberBefore,
+    OrderWithNumberBefore,
+    FeaturesBehindSizes,
+    FeaturesAtCount,
+    FeaturesAtAllSizes,
+    SlotsAtRows,
+    SlotsBehindSides,
+    LeftOverPlaced,
+    PairsPlaced,
+    CountPlaced,
+    LabelsPlaced,
+    UnplacedAtEnd,
+    GoodAtEnd,
+    GoodShowsAll,
+    UnplacedInWeights,
+    UnplacedWeightsThere,
+    UnplacedStays,
+    TaskShownInWeights,
+    WeightsShownInTask,
+    WeightsBehindTask,
+    LongInputUnshown,
+    WeightsShownFirst,
+    WeightsBesideUnplaced,
+    ShownByOwnSizes,
+    ShownLean,
+    BayShownInWeights,
+    OneWordTaken,
+    RoomForPlacesAlone,
+    RoomForFaultsAlone,
+    ShortRoomCleared,
+    ThirdWordCleared,
+    LastWordCleared,
+    DisplayRefuses,
+    NumberInValue,
+    LengthInValue,
+    DisplayWritesOutside,
+    DisplayWritesWeights,
+    LineWithoutPlace,
+    LinePlaceFromOne,
+    LineNamesFile,
+    LinePlacesLeftOver,
+    LinePlacesLongInput,
+    CheckLineWithoutPlace,
+    CheckLineWithoutFile,
+    CheckLineOtherFile,
+    CheckLineNamesTaskAlone,
+    CheckLinePlacesLeftOver,
 ];
 
 thread_local! {

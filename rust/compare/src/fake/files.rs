@@ -1,14 +1,16 @@
 //! The checker and openings with faults.
 
 use super::faults::{planted, planted_fault, Fault::*};
-use reference::calls::{self, broken, done, refused};
+use super::forms::misread;
+use reference::calls::{self, broken, denied, done, refused};
 use reference::feature_set::FeatureSet;
-use reference::features::{count_features, Atom, Feature};
+use reference::features::{Atom, Feature};
 use reference::forced::slots;
 use reference::numbers::{encode, Reader};
 use reference::operators::{
     changes_from, combined_states, conditions, deviating_states, few_states, Operator, Pairing,
 };
+use reference::places::read_both;
 use reference::refusal::Refusal;
 use reference::separation::{keeps_by_changes, verdict, Verdict};
 use reference::task::{read_numbers, read_task, Task};
@@ -86,17 +88,15 @@ pub fn check(task: &[u8], weights: &[u8]) -> u64 {
             return refused(refusal);
         }
     }
-    let result = calls::check(task, weights);
-    let Ok(task) = read_task(task) else {
-        return result;
-    };
-    let Ok(weights) = read_weights(weights, count_features(&task.sizes)) else {
-        return result;
+    let (task, weights) = match read_both(task, weights) {
+        Ok(both) => both,
+        Err(fault) => return refused(misread([task, weights], &fault)),
     };
     match verdict(&task, &weights) {
+        Verdict::Accepted => done(0),
         Verdict::EndsAlike if planted(AcceptsAlike) => done(0),
+        Verdict::EndsAlike => denied(),
         Verdict::Operator(place) => broken(place_of_break(&task, &weights, place)),
-        _ => result,
     }
 }
 

@@ -3,8 +3,10 @@
 mod bays;
 mod faults;
 mod files;
+mod forms;
 mod mending;
 mod partials;
+mod places;
 mod words;
 mod written;
 
@@ -15,8 +17,10 @@ pub use faults::{plant, Fault, FAULTS};
 use bays::build;
 use faults::{planted, Fault::*};
 use files::{check, open};
+use forms::misnumbered;
 use mending::{dropped, mend, pair_fault};
 use partials::{build_partial, build_partial_lean, check_partial, open_partial, silence};
+use places::{display, display_bay, display_partial};
 use reference::workspace::Record;
 use words::{add_operator, find, replace_goal, replace_start};
 use written::{print, print_check, weight_file};
@@ -51,7 +55,7 @@ unsafe extern "C" fn florumeja_check(
     if planted(WritesInput) && task_length > 0 {
         task.cast_mut().write_volatile(0);
     }
-    result
+    misnumbered(result, FormsAsBefore)
 }
 
 #[no_mangle]
@@ -61,7 +65,8 @@ unsafe extern "C" fn florumeja_open(
     room: *mut u64,
     room_length: usize,
 ) -> u64 {
-    open(lent(task, task_length), lent_for_writing(room, room_length))
+    let result = open(lent(task, task_length), lent_for_writing(room, room_length));
+    misnumbered(result, FormsAsBefore)
 }
 
 #[no_mangle]
@@ -135,7 +140,8 @@ unsafe extern "C" fn florumeja_build(
     room: *mut u8,
     room_length: usize,
 ) -> u64 {
-    build(lent(bay, bay_length), lent_for_writing(room, room_length))
+    let result = build(lent(bay, bay_length), lent_for_writing(room, room_length));
+    misnumbered(result, BayFormsAsBefore)
 }
 
 #[no_mangle]
@@ -187,10 +193,11 @@ unsafe extern "C" fn florumeja_open_partial(
     room: *mut u64,
     room_length: usize,
 ) -> u64 {
-    open_partial(
+    let result = open_partial(
         lent(partial, partial_length),
         lent_for_writing(room, room_length),
-    )
+    );
+    misnumbered(result, PartialFormsAsBefore)
 }
 
 #[no_mangle]
@@ -200,7 +207,8 @@ unsafe extern "C" fn florumeja_check_partial(
     weights: *const u8,
     weights_length: usize,
 ) -> u64 {
-    check_partial(lent(partial, partial_length), lent(weights, weights_length))
+    let result = check_partial(lent(partial, partial_length), lent(weights, weights_length));
+    misnumbered(result, PartialFormsAsBefore)
 }
 
 #[no_mangle]
@@ -210,10 +218,11 @@ unsafe extern "C" fn florumeja_build_partial(
     room: *mut u8,
     room_length: usize,
 ) -> u64 {
-    build_partial(
+    let result = build_partial(
         lent(partial, partial_length),
         lent_for_writing(room, room_length),
-    )
+    );
+    misnumbered(result, PartialFormsAsBefore)
 }
 
 #[no_mangle]
@@ -223,10 +232,11 @@ unsafe extern "C" fn florumeja_build_partial_lean(
     room: *mut u8,
     room_length: usize,
 ) -> u64 {
-    build_partial_lean(
+    let result = build_partial_lean(
         lent(partial, partial_length),
         lent_for_writing(room, room_length),
-    )
+    );
+    misnumbered(result, PartialFormsAsBefore)
 }
 
 #[no_mangle]
@@ -238,11 +248,12 @@ unsafe extern "C" fn florumeja_silence(
     room: *mut u8,
     room_length: usize,
 ) -> u64 {
-    silence(
+    let result = silence(
         lent(task, task_length),
         lent(marks, marks_length),
         lent_for_writing(room, room_length),
-    )
+    );
+    misnumbered(result, SilencingFormsAsBefore)
 }
 
 #[no_mangle]
@@ -252,7 +263,8 @@ unsafe extern "C" fn florumeja_mend(
     room: *mut u8,
     room_length: usize,
 ) -> u64 {
-    mend(lent(task, task_length), lent_for_writing(room, room_length))
+    let result = mend(lent(task, task_length), lent_for_writing(room, room_length));
+    misnumbered(result, MendingFormsAsBefore)
 }
 
 #[no_mangle]
@@ -262,7 +274,8 @@ unsafe extern "C" fn florumeja_dropped(
     room: *mut u8,
     room_length: usize,
 ) -> u64 {
-    dropped(lent(task, task_length), lent_for_writing(room, room_length))
+    let result = dropped(lent(task, task_length), lent_for_writing(room, room_length));
+    misnumbered(result, MendingFormsAsBefore)
 }
 
 #[no_mangle]
@@ -272,5 +285,55 @@ unsafe extern "C" fn florumeja_pair_fault(
     room: *mut u64,
     room_length: usize,
 ) -> u64 {
-    pair_fault(lent(task, task_length), lent_for_writing(room, room_length))
+    let result = pair_fault(lent(task, task_length), lent_for_writing(room, room_length));
+    misnumbered(result, MendingFormsAsBefore)
+}
+
+#[no_mangle]
+unsafe extern "C" fn florumeja_display(
+    task: *const u8,
+    task_length: usize,
+    weights: *const u8,
+    weights_length: usize,
+    room: *mut u64,
+    room_length: usize,
+) -> u64 {
+    let result = display(
+        lent(task, task_length),
+        lent(weights, weights_length),
+        lent_for_writing(room, room_length),
+    );
+    if planted(DisplayWritesOutside) {
+        room.add(room_length).write_volatile(0);
+    }
+    if planted(DisplayWritesWeights) && weights_length > 0 {
+        weights.cast_mut().write_volatile(0xAA);
+    }
+    result
+}
+
+#[no_mangle]
+unsafe extern "C" fn florumeja_display_partial(
+    partial: *const u8,
+    partial_length: usize,
+    weights: *const u8,
+    weights_length: usize,
+    room: *mut u64,
+    room_length: usize,
+) -> u64 {
+    display_partial(
+        lent(partial, partial_length),
+        lent(weights, weights_length),
+        lent_for_writing(room, room_length),
+    )
+}
+
+#[no_mangle]
+unsafe extern "C" fn florumeja_display_bay(
+    bay: *const u8,
+    bay_length: usize,
+    room: *mut u64,
+    room_length: usize,
+) -> u64 {
+    display_bay(lent(bay, bay_length), lent_for_writing(room, room_length))
 }

@@ -22,7 +22,7 @@ fn lenient_partial(bytes: &[u8]) -> Result<Partial, Refusal> {
         (NamesUnknown, Err(Refusal::Range)) => with_unknown_goals(bytes),
         (FeaturesByOwnSizes, Err(Refusal::Limit)) if fits_by_own_sizes(bytes) => {
             // Reading goes on, and whatever it comes to is another answer.
-            return Err(Refusal::Input);
+            return Err(Refusal::InputEnds);
         }
         _ => None,
     };

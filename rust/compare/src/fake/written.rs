@@ -1,6 +1,6 @@
 //! The lines and weight files with faults.
 
-use super::faults::{planted, Fault::*};
+use super::faults::{planted, planted_fault, Fault::*};
 use super::NO_ROOM;
 use reference::calls::{self, done};
 use reference::features::count_features;
@@ -26,7 +26,47 @@ fn faulty_line(input: &[u8]) -> String {
     if planted(NoLineFeed) {
         return text.trim_end().to_string();
     }
-    text
+    faulty_place(input, text)
+}
+
+/// The finder's line with another place, if it is one of a refusal.
+fn faulty_place(input: &[u8], text: String) -> String {
+    let placed = text.trim_end().split_once(" at ");
+    let last = input.len().saturating_sub(1);
+    match (planted_fault(), placed) {
+        (LineWithoutPlace, Some((refused, _))) => format!("{refused}\n"),
+        (LinePlaceFromOne, Some((refused, place))) => {
+            let place: usize = place.parse().expect("a number");
+            format!("{refused} at {}\n", place + 1)
+        }
+        (LineNamesFile, Some((refused, place))) => format!("{refused} at {place} in task\n"),
+        (LinePlacesLeftOver, None) if text == "refused 5\n" => format!("refused 5 at {last}\n"),
+        (LinePlacesLongInput, None) if last >= line::MOST_BYTES => {
+            format!("refused 8 at {}\n", line::MOST_BYTES)
+        }
+        _ => text,
+    }
+}
+
+/// The checker's line with another place or file, if it is one of a refusal.
+fn faulty_file(text: String) -> String {
+    let placed = text.trim_end().split_once(" at ");
+    let named = placed.and_then(|(refused, rest)| Some((refused, rest.split_once(" in ")?)));
+    match (planted_fault(), named) {
+        (CheckLineWithoutPlace, Some((refused, _))) => format!("{refused}\n"),
+        (CheckLineWithoutFile, Some((refused, (place, _)))) => format!("{refused} at {place}\n"),
+        (CheckLineNamesTaskAlone, Some((refused, (place, "weights")))) => {
+            format!("{refused} at {place}\n")
+        }
+        (CheckLineOtherFile, Some((refused, (place, file)))) => {
+            let other = if file == "task" { "weights" } else { "task" };
+            format!("{refused} at {place} in {other}\n")
+        }
+        (CheckLinePlacesLeftOver, None) if text == "refused 5\n" => {
+            "refused 5 at 0 in task\n".to_string()
+        }
+        _ => text,
+    }
 }
 
 fn faulty_check_line(task: &[u8], weights: &[u8]) -> String {
@@ -39,7 +79,7 @@ fn faulty_check_line(task: &[u8], weights: &[u8]) -> String {
             let place: usize = place.parse().expect("a number");
             format!("rejected operator {}\n", place + 1)
         }
-        _ => text,
+        _ => faulty_file(text),
     }
 }
 

@@ -1,6 +1,6 @@
 //! Partial files whose kept operators are about as many as a number counts.
 
-use super::ample_room;
+use super::{ample_room, room};
 use crate::both::Both;
 use reference::numbers::LARGEST;
 use reference::operators::{Entry, Operator};
@@ -27,6 +27,9 @@ pub(super) fn staying(generator: &mut Generator, sizes: &[usize]) -> Operator {
 fn judge_count(both: &mut Both, generator: &mut Generator, partial: &Partial, left_out: LeftOut) {
     let file = partial.file();
     both.check_partial(&file, &[1, 0]);
+    // Bad weights show whether the count was judged at all.
+    let words = room(generator, 2);
+    both.display_partial(&file, &[2, 0, 0], &words);
     // Forgetting operators and longer numbers don't make the file twice as long.
     let room = generator.bytes(2 * file.len());
     match left_out {

@@ -12,7 +12,7 @@ use reference::sample::Generator;
 use reference::task::Task;
 
 /// The line in all kinds of room.
-fn print(both: &mut Both, generator: &mut Generator, input: &[u8]) {
+pub(super) fn print(both: &mut Both, generator: &mut Generator, input: &[u8]) {
     let due = line(input).len();
     let room = byte_room(generator, due);
     both.line(input, &room);

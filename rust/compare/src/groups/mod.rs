@@ -8,6 +8,7 @@ mod large;
 mod lines;
 mod mended;
 mod partials;
+mod places;
 mod sets;
 mod silenced;
 mod words;
@@ -26,7 +27,7 @@ pub struct Group {
 }
 
 /// The counts make an optimised run take less than two minutes.
-pub const GROUPS: [Group; 40] = [
+pub const GROUPS: [Group; 52] = [
     Group {
         name: "weights",
         cases: 40_000,
@@ -226,6 +227,66 @@ pub const GROUPS: [Group; 40] = [
         name: "every-small-list",
         cases: 1,
         run: mended::every,
+    },
+    Group {
+        name: "places-in-tasks",
+        cases: 80_000,
+        run: places::tasks,
+    },
+    Group {
+        name: "places-in-weights",
+        cases: 20_000,
+        run: places::weights,
+    },
+    Group {
+        name: "places-in-partials",
+        cases: 60_000,
+        run: places::partial_files,
+    },
+    Group {
+        name: "places-in-partial-weights",
+        cases: 10_000,
+        run: places::partial_weights,
+    },
+    Group {
+        name: "places-in-bays",
+        cases: 60_000,
+        run: places::bays,
+    },
+    Group {
+        name: "every-length",
+        cases: 3_000,
+        run: places::every_length,
+    },
+    Group {
+        name: "every-form",
+        cases: 700,
+        run: places::every_form,
+    },
+    Group {
+        name: "every-byte",
+        cases: 100,
+        run: places::every_byte,
+    },
+    Group {
+        name: "every-shape",
+        cases: 1,
+        run: places::every_shape,
+    },
+    Group {
+        name: "limits-of-places",
+        cases: 4_000,
+        run: places::limits,
+    },
+    Group {
+        name: "late-places",
+        cases: 400,
+        run: places::late_operators,
+    },
+    Group {
+        name: "late-places-in-weights",
+        cases: 200,
+        run: places::late_weights,
     },
 ];
 

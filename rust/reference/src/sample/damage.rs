@@ -46,7 +46,7 @@ const FORMS: [&[u8]; 5] = [
 
 fn damage_bytes(generator: &mut Generator, bytes: &mut Vec<u8>) {
     let place = generator.below(bytes.len() + 1);
-    match generator.below(6) {
+    match generator.below(7) {
         0 => bytes.truncate(place),
         1 => {
             let count = generator.between(1, 3);
@@ -64,20 +64,50 @@ fn damage_bytes(generator: &mut Generator, bytes: &mut Vec<u8>) {
             bytes[place] |= 0x80;
             bytes.insert(place + 1, 0);
         }
+        5 if place < bytes.len() => {
+            bytes.remove(place);
+        }
         _ if place < bytes.len() => bytes[place] ^= 1 << generator.below(8),
         _ => bytes.push(0),
     }
 }
 
+/// Bad forms of a number: with a needless group, with a group too many, cut behind its first.
+pub fn bad_forms(number: usize) -> [Vec<u8>; 4] {
+    let low = 0x80 | (number % 128) as u8;
+    let high = 0x80 | (number / 128) as u8;
+    [
+        vec![low, 0x00],
+        vec![low, high],
+        vec![low, high, 0x01],
+        vec![low],
+    ]
+}
+
+/// A file of these numbers up to one in a bad form; behind it the file goes on or ends.
+fn misformed_file(generator: &mut Generator, numbers: &[usize]) -> Vec<u8> {
+    let place = generator.below(numbers.len());
+    let form = generator.choose(&bad_forms(numbers[place]));
+    let rest = if generator.once_in(2) {
+        encode(&numbers[place + 1..])
+    } else {
+        Vec::new()
+    };
+    [encode(&numbers[..place]), form, rest].concat()
+}
+
 /// A file of these numbers with one fault or several at once.
 pub fn damaged_file(generator: &mut Generator, numbers: &[usize]) -> Vec<u8> {
+    let kind = generator.below(4);
+    if kind == 0 {
+        return misformed_file(generator, numbers);
+    }
     let mut numbers = numbers.to_vec();
-    let kind = generator.below(3);
-    if kind != 0 {
+    if kind != 1 {
         damage_numbers(generator, &mut numbers);
     }
     let mut bytes = encode(&numbers);
-    if kind != 1 {
+    if kind != 2 {
         for _ in 0..generator.between(1, 2) {
             damage_bytes(generator, &mut bytes);
         }

@@ -8,6 +8,7 @@ use crate::files;
 use crate::json::Json;
 use crate::library;
 use crate::output::Status;
+use crate::place::{self, Kind};
 
 pub const COMMAND: Command = Command {
     name: "build",
@@ -19,6 +20,7 @@ Reads a bay file (the binary one: rows, columns, start labels, goal labels) and
 builds its task; or, with --partial, a partial file. Pallets of one label are
 alike. Without -o it only says how long the task file would be. For a bay as
 plain text use ask --task.",
+    binary: true,
     options: &[&OUTPUT, &PARTIAL, &LEAN, &JSON],
     statuses: &["built"],
     run,
@@ -35,7 +37,8 @@ fn build(arguments: &Arguments) -> Result<(), Fault> {
     let name = &arguments.files[0];
     let file = files::read(name)?;
     let task = match Reading::of(arguments) {
-        Reading::Task => library::build(&file).map_err(|fault| fault.about(&file))?,
+        Reading::Task => library::build(&file)
+            .map_err(|fault| place::told(fault, Kind::Bay, &file).about(&file))?,
         partial => partial.task(&file)?,
     };
     let line = format!("built {} bytes", task.len());

@@ -22,6 +22,7 @@ rejected ends alike (start and goal have the same parity); or rejected operator
 N (the least operator that can change the parity, counted from 0). It is the
 line that the library's own checker program prints.
 A rejection does not mean that the goal can be reached.",
+    binary: true,
     options: &[&PARTIAL, &LEAN, &JSON],
     statuses: &["accepted", "rejected"],
     run,
@@ -50,9 +51,12 @@ fn check<'a>(
     let task_bytes = files::read(task).map_err(|fault| (task.as_os_str(), fault))?;
     let weight_bytes = files::read(weights).map_err(|fault| (weights.as_os_str(), fault))?;
     let verdict = reading.check(&task_bytes, &weight_bytes);
-    // The task is judged first, so the weights are at fault exactly where it opens by itself.
-    verdict.map_err(|fault| match reading.open(&task_bytes) {
-        Ok(_) => (weights.as_os_str(), fault.about(&weight_bytes)),
+    // The task is judged first, so the weights are at fault exactly where it is taken by itself.
+    verdict.map_err(|fault| match reading.judge(&task_bytes) {
+        Ok(()) => {
+            let fault = reading.told_of_weights(fault, &task_bytes, &weight_bytes);
+            (weights.as_os_str(), fault)
+        }
         Err(fault) => (task.as_os_str(), fault),
     })
 }

@@ -23,6 +23,7 @@ cannot be reached. None does not mean that it can.
 
 With -o the weights are also written as a weight file, for check. For a bay as
 plain text use ask.",
+    binary: true,
     options: &[&OUTPUT, &PARTIAL, &LEAN, &JSON],
     statuses: &["separated", "none"],
     run,

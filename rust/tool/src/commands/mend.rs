@@ -1,5 +1,6 @@
 //! `mend`: drops what cannot stay in the pair list of a task file.
 
+use super::partial::Reading;
 use super::{deliver, refuse, Command, OUTPUT};
 use crate::args::{Arguments, Choice, JSON};
 use crate::fault::Fault;
@@ -40,6 +41,7 @@ of the first 64 steps have a reason. Without -o nothing is written.
 A task file does not say that it was built of a bay. With --bay, rows and columns
 as in 2x3, variables are named as slots, by row and column from 1, and values as
 labels. It is refused if the task cannot be such a bay's.",
+    binary: true,
     options: &[&BAY, &OUTPUT, &JSON],
     statuses: &["mended, or good as it was"],
     run,
@@ -72,7 +74,7 @@ fn read_shape(given: Option<&OsStr>) -> Result<Option<Shape>, &'static str> {
 fn mend(arguments: &Arguments, shape: Option<Shape>) -> Result<(), Fault> {
     let name = &arguments.files[0];
     let task = files::read(name)?;
-    let mended = pair_list::mend(&task).map_err(|fault| fault.about(&task))?;
+    let mended = pair_list::mend(&task).map_err(|fault| Reading::Task.told(fault, &task))?;
     let naming = Naming::new(shape, &mended.sizes)?;
     let json = json(&name.to_string_lossy(), &mended, &naming);
     deliver(arguments, &mended.file, &words(&mended, &naming), &json)

@@ -28,6 +28,8 @@ pub struct Command {
     pub count: (usize, usize),
     pub summary: &'static str,
     pub about: &'static str,
+    /// Whether it reads binary files, in which a refusal has a place.
+    pub binary: bool,
     pub options: &'static [&'static Choice],
     /// What exit statuses 0 and 1 mean; 2 always means refused or an error.
     pub statuses: &'static [&'static str],

@@ -20,6 +20,7 @@ Reads a task file, opens it and says how many words the workspace has, and how
 many variables, features, listed pairs and conditions (slots that are not empty)
 are in it. With -o the workspace is written, each word as eight bytes, the low
 byte first.",
+    binary: true,
     options: &[&OUTPUT, &PARTIAL, &LEAN, &JSON],
     statuses: &["opened"],
     run,

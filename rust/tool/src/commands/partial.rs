@@ -2,8 +2,9 @@
 
 use crate::args::{Arguments, Choice};
 use crate::fault::Fault;
-use crate::library::{self, Verdict, Workspace};
+use crate::library::{self, Verdict, Workspace, NO_WEIGHTS};
 use crate::pair_list;
+use crate::place::{self, Kind};
 
 pub const PARTIAL: Choice = Choice {
     long: "--partial",
@@ -27,6 +28,10 @@ has at the goal. By the letter of the rules every named variable can be forgotte
 too, so start and goal mostly both lead to \"all unknown\" and seldom have a proof.
 With --lean the built task has no operators that forget a named variable; it
 loses no plan either, so a proof means the same.";
+
+/// What a limit that is judged behind a partial file's last byte has found.
+const OUTGROWN: &str =
+    "with those that forget, the built task has more operators than a file can count";
 
 /// What a file stands for on this command line.
 #[derive(Clone, Copy)]
@@ -72,10 +77,32 @@ impl Reading {
         task.map_err(|fault| self.told(fault, file))
     }
 
-    fn told(self, fault: Fault, file: &[u8]) -> Fault {
+    /// Refuses the file as a check does before it reads the weights.
+    pub fn judge(self, file: &[u8]) -> Result<(), Fault> {
+        let verdict = library::check(&self.task(file)?, NO_WEIGHTS);
+        verdict.map(|_| ()).map_err(|fault| self.told(fault, file))
+    }
+
+    /// Says of a file that was refused where it is at fault, and what may help.
+    pub fn told(self, fault: Fault, file: &[u8]) -> Fault {
         match self {
-            Reading::Task => pair_list::told(fault.about(file), file),
-            _ => fault.about(file).of_partial(),
+            Reading::Task => {
+                pair_list::told(place::told(fault, Kind::Task, file).about(file), file)
+            }
+            _ => match place::told(fault, Kind::Partial, file).about(file) {
+                fault @ Fault::Refused(2) => fault.explained(OUTGROWN),
+                other => other.of_partial(),
+            },
         }
+    }
+
+    /// The same of weights for a file that was taken.
+    pub fn told_of_weights(self, fault: Fault, file: &[u8], weights: &[u8]) -> Fault {
+        let told = match (self, self.task(file)) {
+            (_, Err(fault)) => return fault,
+            (Reading::Letter, Ok(_)) => place::told(fault, Kind::PartialWeights(file), weights),
+            (_, Ok(task)) => place::told(fault, Kind::Weights(&task), weights),
+        };
+        told.about(weights)
     }
 }

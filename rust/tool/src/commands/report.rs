@@ -26,6 +26,7 @@ the version, the date (that of SOURCE_DATE_EPOCH, if it is set) and the digests
 of the task and of the weights. It needs -o, as in
 
     florumeja report FILE -o page.html",
+    binary: false,
     options: &[&OUTPUT, &JSON],
     statuses: &["IMPOSSIBLE: the order cannot be done", "no parity proof"],
     run,

@@ -1,5 +1,6 @@
 //! `silence`: makes a partial file from a task file and marks.
 
+use super::partial::Reading;
 use super::{deliver, refuse, Command, OUTPUT};
 use crate::args::{Arguments, Choice, JSON};
 use crate::fault::Fault;
@@ -7,7 +8,6 @@ use crate::files;
 use crate::json::Json;
 use crate::library;
 use crate::output::{complain, Status};
-use crate::pair_list;
 use crate::words::counted;
 use std::ffi::OsStr;
 
@@ -34,6 +34,7 @@ Without -o it only says how long the partial file would be. What silence makes
 of a good task can be refused 7 when it is read: an operator that was idle for
 want of a possible value no longer is, as \"unknown\" is always possible. Then
 the answer says so. For a bay as plain text write ? and use ask.",
+    binary: true,
     options: &[&MARKS, &OUTPUT, &JSON],
     statuses: &["silenced"],
     run,
@@ -98,7 +99,7 @@ fn give(arguments: &Arguments, marks: &[u8], partial: &[u8]) -> Result<(), Fault
 // A task that opens by itself is not at fault: then it is the marks, or the limits of what is built.
 fn told(fault: Fault, task: &[u8], marks: &[u8]) -> Fault {
     let Ok(workspace) = library::open(task) else {
-        return pair_list::told(fault.about(task), task);
+        return Reading::Task.told(fault, task);
     };
     let variables = workspace.features().sizes().len();
     match fault {

@@ -90,4 +90,26 @@ extern "C" {
         room: *mut u64,
         room_length: usize,
     ) -> u64;
+    pub fn florumeja_display(
+        task: *const u8,
+        task_length: usize,
+        weights: *const u8,
+        weights_length: usize,
+        room: *mut u64,
+        room_length: usize,
+    ) -> u64;
+    pub fn florumeja_display_partial(
+        partial: *const u8,
+        partial_length: usize,
+        weights: *const u8,
+        weights_length: usize,
+        room: *mut u64,
+        room_length: usize,
+    ) -> u64;
+    pub fn florumeja_display_bay(
+        bay: *const u8,
+        bay_length: usize,
+        room: *mut u64,
+        room_length: usize,
+    ) -> u64;
 }

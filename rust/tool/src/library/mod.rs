@@ -2,11 +2,13 @@
 
 mod face;
 mod pairs;
+mod places;
 mod workspace;
 
 use crate::fault::Fault;
 use face::*;
 pub use pairs::{dropped, mend, pair_fault, Reason};
+pub use places::{display, display_bay, display_partial, Holder, Part, NO_WEIGHTS};
 pub use workspace::Workspace;
 
 // Room for the largest results that the rules' limits allow: 64 variables, 4,096 features, and in

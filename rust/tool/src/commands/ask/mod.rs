@@ -56,6 +56,7 @@ done. What follows florumeja ask FILE && is done for impossible orders only.
 FILE may be - for standard input, and a folder stands for the files in it, and
 in folders inside it, that end in .txt. For many files there is one line each
 and a summary, and the exit status is the highest that one of them gives.",
+    binary: false,
     options: &[&WEIGHTS, &TASK, &JSON],
     statuses: &["IMPOSSIBLE: the order cannot be done", "no parity proof"],
     run,

@@ -1,0 +1,37 @@
+//! Badly formed numbers that are refused under another number than is due.
+
+use super::faults::{planted_fault, Fault, Fault::*};
+use reference::calls::refused;
+use reference::places::{Fault as Refused, File};
+use reference::refusal::Refusal::{self, InputEnds, MoreFollows, NotShortest};
+
+/// An answer under another number; where the given fault is planted, as document 01 had it.
+pub fn misnumbered(answer: u64, as_before: Fault) -> u64 {
+    let is = |refusal| answer == refused(refusal);
+    match planted_fault() {
+        LongAsEndless if is(NotShortest) => refused(MoreFollows),
+        EndlessAsLong if is(MoreFollows) => refused(NotShortest),
+        EndsAsLong if is(InputEnds) => refused(NotShortest),
+        EndsAsEndless if is(InputEnds) => refused(MoreFollows),
+        fault if fault == as_before && (is(NotShortest) || is(MoreFollows)) => refused(InputEnds),
+        _ => answer,
+    }
+}
+
+/// The number of a refusal that depends on what follows, where it shouldn't.
+pub fn misread([task, weights]: [&[u8]; 2], refused: &Refused) -> Refusal {
+    let Some(part) = &refused.part else {
+        return refused.refusal;
+    };
+    let bytes = match part.file {
+        File::Task => task,
+        File::Weights => weights,
+    };
+    let next = bytes.get(part.bytes.end);
+    match (planted_fault(), refused.refusal) {
+        (CutAsEndless, InputEnds) if !part.bytes.is_empty() => MoreFollows,
+        (EndlessWaitsForMore, MoreFollows) if next.is_none() => InputEnds,
+        (EndlessZeroAsLong, MoreFollows) if next == Some(&0) => NotShortest,
+        (_, refusal) => refusal,
+    }
+}

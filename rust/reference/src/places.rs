@@ -1,0 +1,102 @@
+//! Where files are at fault, and the bytes that are shown of it.
+
+use crate::bay::{bay_from, Bay};
+use crate::feature_set::FeatureSet;
+use crate::features::count_features;
+use crate::numbers::Reader;
+use crate::partial::{built_from, LeftOut};
+use crate::refusal::Refusal;
+use crate::task::{task_from, Task};
+use crate::weights::weights_from;
+use std::ops::Range;
+
+/// The files that may be at fault; a partial file, or a bay, stands in the task's place.
+#[derive(Clone, Copy, Debug, PartialEq, Eq)]
+pub enum File {
+    Task,
+    Weights,
+}
+
+/// Some bytes of one of the files.
+#[derive(Clone, Debug, PartialEq, Eq)]
+pub struct Part {
+    pub file: File,
+    pub bytes: Range<usize>,
+}
+
+/// Why files are refused, and what was read of the number at fault; its beginning is the place.
+#[derive(Clone, Debug, PartialEq, Eq)]
+pub struct Fault {
+    pub refusal: Refusal,
+    pub part: Option<Part>,
+}
+
+impl From<Refusal> for Fault {
+    fn from(refusal: Refusal) -> Self {
+        Fault {
+            refusal,
+            part: None,
+        }
+    }
+}
+
+impl From<Fault> for Refusal {
+    fn from(fault: Fault) -> Self {
+        fault.refusal
+    }
+}
+
+/// The part to show; without a place it is empty at the task's start.
+pub fn shown<Read>(read: Result<Read, Fault>) -> Part {
+    let part = read.err().and_then(|fault| fault.part);
+    part.unwrap_or(Part {
+        file: File::Task,
+        bytes: 0..0,
+    })
+}
+
+/// Reads a file; where it is refused at a number, that number is the part.
+fn read<Read>(
+    file: File,
+    bytes: &[u8],
+    reading: impl FnOnce(&mut Reader) -> Result<Read, Refusal>,
+) -> Result<Read, Fault> {
+    let mut reader = Reader::new(bytes);
+    reading(&mut reader).map_err(|refusal| Fault {
+        refusal,
+        part: reader.being_read().map(|bytes| Part { file, bytes }),
+    })
+}
+
+pub fn read_task_file(bytes: &[u8]) -> Result<Task, Fault> {
+    read(File::Task, bytes, task_from)
+}
+
+/// The task that is built of a partial file.
+pub fn read_partial_file(bytes: &[u8], left_out: LeftOut) -> Result<Task, Fault> {
+    read(File::Task, bytes, |reader| built_from(reader, left_out))
+}
+
+pub fn read_bay_file(bytes: &[u8]) -> Result<Bay, Fault> {
+    read(File::Task, bytes, bay_from)
+}
+
+/// Reads a weight file for a task of so many features.
+pub fn read_weight_file(bytes: &[u8], count: usize) -> Result<FeatureSet, Fault> {
+    read(File::Weights, bytes, |reader| weights_from(reader, count))
+}
+
+/// Reads weights for a task that was wholly judged before.
+fn beside(task: Task, weights: &[u8]) -> Result<(Task, FeatureSet), Fault> {
+    let weights = read_weight_file(weights, count_features(&task.sizes))?;
+    Ok((task, weights))
+}
+
+pub fn read_both(task: &[u8], weights: &[u8]) -> Result<(Task, FeatureSet), Fault> {
+    beside(read_task_file(task)?, weights)
+}
+
+/// The task that is built by the letter, and weights for it.
+pub fn read_both_partial(partial: &[u8], weights: &[u8]) -> Result<(Task, FeatureSet), Fault> {
+    beside(read_partial_file(partial, LeftOut::ByLetter)?, weights)
+}

@@ -1,0 +1,178 @@
+//! Places found a second way, by cutting files short, on random damaged files of every kind.
+
+use reference::calls;
+use reference::places::{read_bay_file, read_both, read_both_partial, read_task_file, Fault, File};
+use reference::sample::bays::{bay, mislabel, shapes};
+use reference::sample::damage::damaged_file;
+use reference::sample::partials::{self, loose_partial};
+use reference::sample::tasks::{accepted_task, loose_task, loose_weights, sizes, MEDIUM, SMALL};
+use reference::sample::Generator;
+use reference::weights::weight_numbers;
+use std::collections::BTreeMap;
+use std::ops::Range;
+
+/// Where numbers of two bytes at most begin, the next one at the end of the bytes included.
+fn beginnings(bytes: &[u8]) -> Vec<usize> {
+    let mut beginnings = vec![0];
+    let mut place = 0;
+    while let Some(first) = bytes.get(place) {
+        place += if *first < 128 { 1 } else { 2 };
+        beginnings.push(place);
+    }
+    beginnings.retain(|place| *place <= bytes.len());
+    beginnings
+}
+
+/// The part at fault, from nothing but numbers of refusals: cut anywhere before the number at fault
+/// is read, a file is refused 1.
+fn by_cutting(bytes: &[u8], refusal: impl Fn(&[u8]) -> u64) -> Option<Range<usize>> {
+    let number = refusal(bytes);
+    // What is judged behind the last number is judged behind left-over bytes.
+    if number == 0 || refusal(&[bytes, &[0]].concat()) == 5 {
+        return None;
+    }
+    let beginnings = beginnings(bytes);
+    if number == 1 {
+        return Some(*beginnings.last()?..bytes.len());
+    }
+    let end = (0..bytes.len()).find(|length| refusal(&bytes[..length + 1]) != 1)? + 1;
+    let mut before = beginnings.into_iter().rev();
+    Some(before.find(|place| *place < end)?..end)
+}
+
+/// How often each refusal was met, with a place and without.
+type Met = BTreeMap<(u64, bool), usize>;
+
+fn number_of<Read>(read: &Result<Read, Fault>) -> u64 {
+    read.as_ref()
+        .map_or_else(|fault| fault.refusal.number(), |_| 0)
+}
+
+/// Holds what a reader says of a file against what cutting says.
+fn hold<Read>(
+    met: &mut Met,
+    file: File,
+    bytes: &[u8],
+    reader: impl Fn(&[u8]) -> Result<Read, Fault>,
+) {
+    let read = reader(bytes);
+    let number = number_of(&read);
+    let expected = by_cutting(bytes, |cut| number_of(&reader(cut)));
+    let part = read.err().and_then(|fault| fault.part);
+    assert!(part.iter().all(|part| part.file == file));
+    let found = part.map(|part| part.bytes);
+    assert_eq!(found, expected, "refused {number}: {bytes:x?}");
+    *met.entry((number, found.is_some())).or_default() += 1;
+}
+
+fn assert_met(met: &Met, due: &[(u64, bool)]) {
+    for kind in due {
+        let count = met.get(kind).copied().unwrap_or(0);
+        assert!(count >= 10, "{kind:?}: {met:?}");
+    }
+    let other = met.keys().find(|kind| !due.contains(kind));
+    assert_eq!(other, None, "{met:?}");
+}
+
+const ROUNDS: usize = 6_000;
+
+#[test]
+fn tasks() {
+    let mut generator = Generator::new(0x9B01);
+    let mut met = Met::new();
+    for _ in 0..ROUNDS {
+        let scale = generator.choose(&[SMALL, SMALL, MEDIUM]);
+        let sizes = sizes(&mut generator, scale);
+        let task = loose_task(&mut generator, &sizes, 4);
+        let file = if generator.once_in(10) {
+            task.file()
+        } else {
+            damaged_file(&mut generator, &task.numbers())
+        };
+        hold(&mut met, File::Task, &file, read_task_file);
+    }
+    let placed = [1, 2, 3, 4, 12, 13].map(|number| (number, true));
+    let unplaced = [0, 5, 6, 7].map(|number| (number, false));
+    assert_met(&met, &[&placed[..], &unplaced].concat());
+}
+
+#[test]
+fn weights() {
+    let mut generator = Generator::new(0x9B02);
+    let mut met = Met::new();
+    for _ in 0..ROUNDS {
+        let scale = generator.choose(&[SMALL, MEDIUM]);
+        let sizes = sizes(&mut generator, scale);
+        let task = accepted_task(&mut generator, &sizes, 2);
+        let weights = loose_weights(&mut generator, task.pairing().features.count());
+        let file = damaged_file(&mut generator, &weight_numbers(&weights));
+        let task = task.file();
+        hold(&mut met, File::Weights, &file, |cut| read_both(&task, cut));
+    }
+    let placed = [1, 3, 4, 12, 13].map(|number| (number, true));
+    assert_met(&met, &[&placed[..], &[(0, false), (5, false)]].concat());
+}
+
+#[test]
+fn partial_files() {
+    let mut generator = Generator::new(0x9B03);
+    let mut met = Met::new();
+    for _ in 0..ROUNDS {
+        let sizes = partials::sizes(&mut generator, SMALL);
+        let partial = loose_partial(&mut generator, &sizes, 4);
+        let file = if generator.once_in(10) {
+            partial.file()
+        } else {
+            damaged_file(&mut generator, &partial.numbers())
+        };
+        hold(&mut met, File::Task, &file, |cut| {
+            read_both_partial(cut, &[0])
+        });
+    }
+    let placed = [1, 2, 3, 4, 12, 13].map(|number| (number, true));
+    let unplaced = [0, 5, 6, 7].map(|number| (number, false));
+    assert_met(&met, &[&placed[..], &unplaced].concat());
+}
+
+#[test]
+fn bays() {
+    let mut generator = Generator::new(0x9B04);
+    let mut met = Met::new();
+    for _ in 0..ROUNDS {
+        let shape = generator.choose(&shapes());
+        let mut bay = bay(&mut generator, shape);
+        if generator.once_in(3) {
+            mislabel(&mut generator, &mut bay);
+        }
+        let file = if generator.once_in(3) {
+            bay.file()
+        } else {
+            damaged_file(&mut generator, &bay.numbers())
+        };
+        hold(&mut met, File::Task, &file, read_bay_file);
+    }
+    let placed = [1, 2, 3, 12, 13].map(|number| (number, true));
+    let unplaced = [0, 5, 10, 11].map(|number| (number, false));
+    assert_met(&met, &[&placed[..], &unplaced].concat());
+}
+
+/// Case B with its weights cut at every length: what is there of the number that is cut is shown.
+#[test]
+fn every_length() {
+    let task = [
+        2, 2, 2, 0, 0, 0, 1, 0, 4, 2, 0, 0, 1, 1, 0, 1, 2, 0, 0, 1, 1, 1, 0, 2, 0, 1, 0, 1, 1, 0,
+        2, 0, 1, 0, 1, 0, 1,
+    ];
+    let mut room = [9; 2];
+    for length in 0..task.len() {
+        assert_eq!(calls::display(&task[..length], &[2, 0, 2], &mut room), 0);
+        assert_eq!(room, [length as u64, 0]);
+    }
+    for length in 0..3 {
+        let weights = &[2, 0, 2][..length];
+        assert_eq!(calls::display(&task, weights, &mut room), 1 << 32);
+        assert_eq!(room, [length as u64, 0]);
+    }
+    assert_eq!(calls::display(&task, &[2, 0, 2], &mut room), 0);
+    assert_eq!(room, [0, 0]);
+}

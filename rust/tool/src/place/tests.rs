@@ -1,0 +1,380 @@
+//! Files cut, mistyped and misread at every number, held against what the library takes there.
+
+use super::walk::Bounds;
+use super::*;
+use crate::library::{self, NO_WEIGHTS};
+
+/// Sizes 2 and 64, so that numbers stand on both sides of 128; three pairs, two operators.
+const TASK: &[u8] = &[
+    2, 2, 64, 0, 1, 1, 0, 3, 67, 0x80, 1, 0xc1, 1, 2, 1, 0, 0, 1, 2, 0, 1, 0, 1, 5, 63,
+];
+/// Three variables of sizes 2, 3 and 2, the second of them silent; one pair, one operator.
+const PARTIAL: &[u8] = &[
+    3, 2, 3, 2, 1, 0, 1, 0, 2, 1, 1, 0, 1, 9, 1, 2, 0, 0, 1, 2, 1, 0,
+];
+const BAY: &[u8] = &[2, 3, 1, 2, 3, 4, 5, 0, 1, 2, 3, 5, 4, 0];
+const WEIGHTS: &[u8] = &[3, 0, 2, 3];
+/// Document 01's case A: two variables of size 2, and no more; it is accepted.
+const SMALL: &[u8] = &[2, 2, 2, 0, 0, 0, 1, 0, 0];
+/// A partial file of which the same is true.
+const SMALL_PARTIAL: &[u8] = &[2, 2, 2, 0, 1, 0, 0, 1, 0, 0];
+
+const KINDS: [(Kind, &[u8]); 5] = [
+    (Kind::Task, TASK),
+    (Kind::Partial, PARTIAL),
+    (Kind::Bay, BAY),
+    (Kind::Weights(SMALL), WEIGHTS),
+    (Kind::PartialWeights(SMALL_PARTIAL), WEIGHTS),
+];
+
+/// The places at which numbers of a file begin, and its end.
+fn places(file: &[u8]) -> Vec<usize> {
+    let mut places = vec![0];
+    while let Some(place) = places.last().filter(|place| **place < file.len()) {
+        places.push(place + numbers::read(&file[*place..]).1);
+    }
+    places
+}
+
+fn names(kind: Kind, file: &[u8]) -> Vec<String> {
+    let names = places(file).into_iter();
+    let names = names.map(|place| walk::due(kind, file, place).map(|due| due.name));
+    names.map(Option::unwrap_or_default).collect()
+}
+
+fn refusal(kind: Kind, file: &[u8]) -> Option<Fault> {
+    match kind {
+        Kind::Task => library::check(file, NO_WEIGHTS).err(),
+        Kind::Partial => library::check_partial(file, NO_WEIGHTS).err(),
+        Kind::Bay => library::build(file).err(),
+        Kind::Weights(task) => library::check(task, file).err(),
+        Kind::PartialWeights(partial) => library::check_partial(partial, file).err(),
+    }
+}
+
+fn words(kind: Kind, file: &[u8]) -> String {
+    told(refusal(kind, file).unwrap(), kind, file).words()
+}
+
+#[test]
+fn every_number_of_a_task_has_a_name() {
+    let due = [
+        "the count of variables",
+        "the size of variable 0",
+        "the size of variable 1",
+        "the start value of variable 0",
+        "the start value of variable 1",
+        "the goal value of variable 0",
+        "the goal value of variable 1",
+        "the count of listed pairs",
+        "the 1st of 3 listed pairs",
+        "the 2nd of 3 listed pairs",
+        "the 3rd of 3 listed pairs",
+        "the count of operators",
+        "the count of entries of operator 0",
+        "the variable of the 1st entry of operator 0",
+        "the value of variable 0 before operator 0",
+        "the value of variable 0 after operator 0",
+        "the count of entries of operator 1",
+        "the variable of the 1st entry of operator 1",
+        "the value of variable 0 before operator 1",
+        "the value of variable 0 after operator 1",
+        "the variable of the 2nd entry of operator 1",
+        "the value of variable 1 before operator 1",
+        "the value of variable 1 after operator 1",
+        // Behind the last number nothing is due.
+        "",
+    ];
+    assert_eq!(names(Kind::Task, TASK), due);
+}
+
+#[test]
+fn every_number_of_the_other_files_has_a_name() {
+    let partial = names(Kind::Partial, PARTIAL);
+    let due = [
+        "the size of variable 2",
+        "the mark of variable 0",
+        "the mark of variable 1",
+        "the mark of variable 2",
+        "the start value of variable 0",
+        "the start value of variable 1",
+        "the start value of variable 2",
+        "the goal value of variable 0",
+        "the goal value of variable 2",
+        "the count of listed pairs",
+        "the only listed pair",
+        "the count of operators",
+    ];
+    assert_eq!(partial[3..15], due);
+    let bay = names(Kind::Bay, BAY);
+    assert_eq!(
+        bay[..3],
+        [
+            "the count of rows",
+            "the count of columns",
+            "the start label of slot 0"
+        ]
+    );
+    assert_eq!(
+        bay[7..9],
+        ["the start label of slot 5", "the goal label of slot 0"]
+    );
+    let weights = [
+        "the count of weights",
+        "the 1st of 3 weights",
+        "the 2nd of 3 weights",
+    ];
+    assert_eq!(names(Kind::Weights(SMALL), WEIGHTS)[..3], weights);
+}
+
+#[test]
+fn a_place_that_no_number_leads_to_has_no_name() {
+    assert!(walk::due(Kind::Task, TASK, 10).is_none());
+    assert!(walk::due(Kind::Task, TASK, TASK.len()).is_none());
+    assert!(walk::due(Kind::Task, &[2, 0x80, 0, 3], 3).is_none());
+    assert!(walk::due(Kind::Task, &[2, 2, 2, 0, 0, 0, 0, 0, 1, 1, 7, 0], 11).is_none());
+    assert!(walk::due(Kind::Weights(&[2, 2]), WEIGHTS, 1).is_none());
+}
+
+// The ends of a range are all that is asked of the library; here it is asked of many numbers.
+#[test]
+fn ranges_are_the_numbers_that_the_library_takes() {
+    let tried: Vec<usize> = (0..=300).chain([4095, 4096, 16_382, 16_383]).collect();
+    for (kind, file) in KINDS {
+        let places = places(file);
+        for place in &places[..places.len() - 1] {
+            let front = &file[..*place];
+            let due = walk::due(kind, file, *place).unwrap();
+            let taken = Taken::behind(front, kind, &due.bounds);
+            let taken = taken.unwrap_or_else(|| panic!("{} is not borne out", due.name));
+            for number in &tried {
+                let mut file = front.to_vec();
+                numbers::put(&mut file, *number);
+                let part = kind.part(&file).unwrap();
+                let refused = part.is_some_and(|part| part.beginning == *place);
+                assert_eq!(taken.has(*number), !refused, "{} {number}", due.name);
+            }
+        }
+    }
+}
+
+#[test]
+fn ranges_that_the_library_does_not_bear_out_are_not_said() {
+    let taken = |start, end| {
+        let bounds = Bounds::Before(std::ops::Range { start, end });
+        Taken::behind(&TASK[..3], Kind::Task, &bounds)
+    };
+    assert_eq!(taken(0, 2).unwrap().ends, Some((0, 1)));
+    for (start, end) in [
+        (0, 1),
+        (0, 3),
+        (1, 2),
+        (1, 3),
+        (0, 0),
+        (1, 1),
+        (2, 2),
+        (3, 2),
+    ] {
+        assert_eq!(taken(start, end), None, "{start} {end}");
+    }
+    assert_eq!(taken(4, 3).unwrap().ends, None);
+    // These bytes are at fault before the number that is tried.
+    let taken = Taken::behind(&[2, 0], Kind::Task, &Bounds::Limit);
+    assert_eq!(taken, None);
+}
+
+// A file that ends at a number is refused 1, one that goes on badly 12 or 13, at the same place and
+// with the same number due.
+#[test]
+fn the_number_that_is_due_does_not_depend_on_what_stands_there() {
+    for (kind, file) in KINDS {
+        let places = places(file);
+        for place in &places[..places.len() - 1] {
+            let front = &file[..*place];
+            let name = walk::due(kind, file, *place).unwrap().name;
+            let with = |bytes: &[u8]| words(kind, &[front, bytes].concat());
+            let due = |start: String| format!("{start}, where {name} is due, ");
+            let told = [
+                (
+                    with(&[]),
+                    format!("refused 1: the file ends at byte {place}"),
+                ),
+                (
+                    with(&[0x80]),
+                    format!("refused 1: the file ends behind 80 at byte {place}"),
+                ),
+                (
+                    with(&[0x85, 0, 7]),
+                    format!(
+                        "refused 12: at byte {place} stands 85 00, which is not the shortest form"
+                    ),
+                ),
+                (
+                    with(&[0xff, 0x80, 7]),
+                    format!(
+                        "refused 13: at byte {place} stands ff 80, which says that more follows"
+                    ),
+                ),
+            ];
+            for (words, start) in told {
+                assert!(words.starts_with(&due(start)), "{words}");
+            }
+        }
+    }
+}
+
+// Whatever byte is mistyped, the file is taken, or refused without a place, or all is told of the place.
+#[test]
+fn every_mistyped_byte_is_told_with_what_is_due() {
+    let mut placed = 0;
+    for (kind, file) in KINDS {
+        for place in 0..file.len() {
+            for byte in 0..=255 {
+                let mut file = file.to_vec();
+                file[place] = byte;
+                match refusal(kind, &file).map(|refusal| told(refusal, kind, &file)) {
+                    None | Some(Fault::Refused(5 | 6 | 7 | 10 | 11)) => {}
+                    Some(Fault::Placed(at, None)) => {
+                        let expected = at.expected.as_ref().unwrap();
+                        assert!(expected.taken.is_some(), "{file:?}");
+                        placed += 1;
+                    }
+                    Some(other) => panic!("{file:?} {}", other.words()),
+                }
+            }
+        }
+    }
+    assert!(placed > 10_000, "{placed}");
+}
+
+#[test]
+fn numbers_outside_their_range_are_told() {
+    let due: [(Kind, &[u8], &str); 9] = [
+        (
+            Kind::Task,
+            &[65, 9],
+            "refused 2: at byte 0 stands 41, which is 65, where the count of variables is due, \
+             from 1 to 64; bytes counted from 0",
+        ),
+        (
+            Kind::Task,
+            &[2, 64, 63],
+            "refused 2: at byte 2 stands 3f, which is 63, where the size of variable 1 is due, \
+             from 1 to 62, as the features in all have a limit too; bytes and variables counted \
+             from 0",
+        ),
+        (
+            Kind::Task,
+            &[3, 64, 62, 1],
+            "refused 2: at byte 3 stands 01, which is 1, where the size of variable 2 is due, and \
+             no number will do, as the features in all have a limit too; bytes and variables \
+             counted from 0",
+        ),
+        (
+            Kind::Task,
+            &[2, 2, 64, 0, 0xc1, 1],
+            "refused 3: at byte 4 stands c1 01, which is 193, where the start value of variable 1 \
+             is due, from 0 to 63; bytes and variables counted from 0",
+        ),
+        (
+            Kind::Task,
+            &[2, 2, 2, 0, 0, 0, 1, 2, 5, 5],
+            "refused 4: at byte 9 stands 05, which is 5 and does not increase, where the 2nd of 2 \
+             listed pairs is due, from 6 to 7; bytes counted from 0",
+        ),
+        (
+            Kind::Task,
+            &[2, 2, 2, 0, 0, 0, 1, 0, 1, 2, 1, 0, 0, 1],
+            "refused 4: at byte 13 stands 01, which is 1 and does not increase, where the variable \
+             of the 2nd entry of operator 0 is due, and no number will do; bytes, variables and \
+             operators counted from 0",
+        ),
+        (
+            Kind::Partial,
+            &[2, 63, 63],
+            "refused 2: at byte 2 stands 3f, which is 63, where the size of variable 1 is due, \
+             from 1 to 61, as the features in all have a limit too; bytes and variables counted \
+             from 0",
+        ),
+        (
+            Kind::Bay,
+            &[5, 2],
+            "refused 2: at byte 1 stands 02, which is 2, where the count of columns is due, and \
+             only 1 will do, as the slots in all have a limit too; bytes counted from 0",
+        ),
+        (
+            Kind::PartialWeights(SMALL_PARTIAL),
+            &[1, 15],
+            "refused 3: at byte 1 stands 0f, which is 15, where the only weight is due, from 0 to \
+             14; bytes counted from 0",
+        ),
+    ];
+    for (kind, file, expected) in due {
+        assert_eq!(words(kind, file), expected);
+    }
+}
+
+#[test]
+fn a_refusal_without_a_place_stays_as_it_is() {
+    let mut outgrown = vec![1, 1, 0, 0, 0, 0xff, 0x7f];
+    outgrown.extend([1, 0, 0, 0].repeat(numbers::LARGEST));
+    let due: [(Kind, &[u8], u32); 7] = [
+        (Kind::Task, &[2, 2, 2, 0, 0, 0, 1, 0, 0, 7], 5),
+        (Kind::Task, &[2, 2, 2, 1, 1, 0, 0, 1, 7, 0], 6),
+        (Kind::Task, &[2, 2, 2, 0, 0, 1, 0, 1, 7, 1, 1, 0, 0, 1], 7),
+        (Kind::Bay, &[1, 2, 0, 0, 0, 1], 10),
+        (Kind::Bay, &[1, 3, 0, 1, 1, 0, 1, 2], 11),
+        (Kind::Weights(SMALL), &[0, 7], 5),
+        (Kind::Partial, &outgrown, 2),
+    ];
+    for (kind, file, number) in due {
+        let told = told(refusal(kind, file).unwrap(), kind, file);
+        assert!(
+            matches!(told, Fault::Refused(told) if told == number),
+            "{number}"
+        );
+    }
+}
+
+#[test]
+fn a_refusal_that_the_bytes_do_not_bear_out_is_not_passed_on() {
+    let ended: &[u8] = &[2, 2];
+    let padded: &[u8] = &[2, 0x80, 0];
+    let endless: &[u8] = &[2, 0x80, 0x80];
+    let beyond: &[u8] = &[2, 65];
+    let lies = [
+        (ended, [2, 3, 12, 13, 5]),
+        (padded, [1, 2, 3, 13, 5]),
+        (endless, [1, 2, 4, 12, 7]),
+        (beyond, [1, 12, 13, 5, 8]),
+        (SMALL, [1, 3, 4, 12, 13]),
+    ];
+    for (file, numbers) in lies {
+        for number in numbers {
+            let told = told(Fault::Refused(number), Kind::Task, file);
+            assert_eq!(told.heading(), "ERROR", "{number} {}", told.words());
+        }
+    }
+    // The task is at fault here, and not the weights.
+    let told = told(Fault::Refused(3), Kind::Weights(beyond), WEIGHTS);
+    assert_eq!(told.heading(), "ERROR", "{}", told.words());
+}
+
+#[test]
+fn a_program_is_told_the_same() {
+    let json = |kind: Kind, file: &[u8]| {
+        let told = told(refusal(kind, file).unwrap(), kind, file);
+        let json = told.json("x").to_string();
+        json.split_once("\"place\"").unwrap().1.to_string()
+    };
+    assert_eq!(
+        json(Kind::Task, &[2, 2, 64, 0, 0xc1, 1]),
+        ": 4, \"bytes\": \"c1 01\", \"expected\": \"the start value of variable 1, from 0 to 63\", \
+         \"least\": 0, \"most\": 63}"
+    );
+    assert_eq!(
+        json(Kind::Task, &[3, 64, 62]),
+        ": 3, \"bytes\": \"\", \"expected\": \"the size of variable 2, and no number will do, as \
+         the features in all have a limit too\"}"
+    );
+}

@@ -1,12 +1,38 @@
-// The bay builder as a program: a bay file on standard input, its task file on standard output.
+// The bay builder as a program: a bay file on standard input, its task file on standard output; or a line on standard error that says why there is none.
+ghost use mathlib.Core.Path.{_≡_};
+ghost use Prim.Native.Nat.{_^_, _<_};
+ghost use lib.ListN.{length};
+ghost use Rattle.meaning.specs.Line.{bayLine};
+ghost use Rattle.decimal.specs.Put.{Put};
+ghost use Rattle.text.specs.Parts.{mostDigits, refusedBytes};
+use libc::STDERR_FILENO;
+use libc::STDOUT_FILENO;
+use text::REFUSED_BYTES;
 use writer::Written;
 
-// An accepted bay file has at most 2 + 2 * 9 numbers of one byte each. So whatever stands behind these bytes changes no answer: a longer file is
+// An accepted bay file has at most 2 + 2 * 9 numbers of one byte each. So whatever stands behind these bytes changes no answer and no place: a longer file is
 // refused for a fault in front of it, or because bytes are left over.
 const INPUT_BYTES: usize = 64;
 
 // Room for the longest task file of a bay, that of three by three, which has 2,019 bytes.
 const TASK_BYTES: usize = 2048;
+
+// Puts the line for a bay file that is refused by a number.
+fn put_refused(text: &mut [u8], bay: &[u8], number: u64) -> usize
+    requires { ⌜ (length (now text) ≡ refusedBytes) × (number < 10 ^ mostDigits) ⌝ }
+    ensures { λ r. ⌜ Put (now (text .entry)) 0 (bayLine (now (bay .entry)) number) r (now (text .exit)) ⌝ }
+{
+    text::put_refused(text, number, building::spot(bay), b"", b"")
+}
+
+// Prints that line.
+fn print_refused(bay: &[u8], number: u64)
+    requires { ⌜ number < 10 ^ mostDigits ⌝ }
+{
+    let mut text = [0u8; REFUSED_BYTES];
+    let end = put_refused(&mut text, bay, number);
+    io::write_all(STDERR_FILENO, &text[..end]);
+}
 
 fn main() {
     let mut input = [0u8; INPUT_BYTES];
@@ -14,12 +40,10 @@ fn main() {
     let mut task = [0u8; TASK_BYTES];
     match building::build(&input[..n], &mut task) {
         Written::Done(end) => {
-            io::write_all(1, &task[..end]);
+            io::write_all(STDOUT_FILENO, &task[..end]);
         }
         Written::Refused(number) => {
-            io::write_all(2, b"refused ");
-            io::print_decimal(2, number);
-            io::write_all(2, b"\n");
+            print_refused(&input[..n], number);
         }
     }
 }

@@ -1,5 +1,6 @@
-// The checker as a program: a task file and a weight file named as arguments, and one line with the verdict. A task file of more than 1,048,576
-// bytes is refused as 8, whatever its bytes are; accepted ones may be longer, and the library's own call takes them.
+// The checker as a program: a task file and a weight file named as arguments, one line with the verdict, and on standard error the bytes at fault of a file that is
+// refused for a number in it. A task file of more than 1,048,576 bytes is refused as 8, whatever its bytes are; accepted ones may be longer, and the library's own
+// call takes them.
 ghost use mathlib.Core.Path.{_≡_};
 ghost use Rattle.io.specs.Counts.{Counts};
 use libc::STDERR_FILENO;
@@ -14,7 +15,7 @@ const ARGUMENTS: usize = 3;
 const TASK_BYTES: usize = MOST_TASK + 1;
 
 // An accepted weight file has at most 2 + 2 * 4,096 bytes. A longer file is refused for a fault that stands within this room, or because bytes are
-// left over: what is not read changes no answer.
+// left over: what is not read changes no answer, and no place.
 const WEIGHT_BYTES: usize = 16384;
 
 // How many bytes a file has, as far as there is room for them, if it could be read.
@@ -67,11 +68,33 @@ fn load(argument: usize, bytes: &mut [u8]) -> Loaded
     loaded
 }
 
-// Prints the line for the two files.
-fn print(task: &[u8], weights: &[u8]) {
+// Shows the bytes at fault on standard error, in hexadecimal, if there are any.
+fn show<'a>(task: &'a [u8], weights: &'a [u8]) {
+    let part = showing::display(task, weights);
+    if part.len() == 0 {
+        return;
+    }
+    io::write_all(STDERR_FILENO, b"bytes");
+    let mut i = 0;
+    while i < part.len() {
+        io::write_all(STDERR_FILENO, b" ");
+        io::print_hex(STDERR_FILENO, part[i] as u64, 2);
+        i += 1;
+    }
+    io::write_all(STDERR_FILENO, b"\n");
+}
+
+// Prints the line for the two files, and shows the bytes at fault. Files that were accepted have none, and a task file that is too long is not judged.
+fn print<'a>(task: &'a [u8], weights: &'a [u8]) {
     let mut room = [0u8; VERDICT_BYTES];
     let printed = verdicts::program_line(task, weights, &mut room);
     io::write_all(STDOUT_FILENO, text::line_in(printed, &room));
+    if room[0] == b'a' {
+        return;
+    }
+    if task.len() <= MOST_TASK {
+        show(task, weights);
+    }
 }
 
 // Checks the second file against the first, in the room that each has.

@@ -6,8 +6,9 @@ use native.Mathlib.Omega.{arith}
 use lib.Dec.{eqb}
 use Rattle.meaning.specs.Answer.{Answer, done, refused, Outcome, Verdict, accepted, endsAlike, breaks, none, separated}
 use Rattle.meaning.specs.Mend.{PairFault, noFault, startHolds, operatorBreaks}
+use Rattle.meaning.specs.Place.{taskHolds, weightsHold}
 use Rattle.theory.specs.Determined.{AtMostOne}
-use Rattle.codes.specs.Code.{valueEnd, Code, code, numberOf, refusedCase, answerCode, verdictCode, lengthCode, findingCode, editCode, faultCode, Coded, Left, Leaves, Fits, FitsIn}
+use Rattle.codes.specs.Code.{valueEnd, Code, code, numberOf, refusedCase, answerCode, verdictCode, lengthCode, findingCode, editCode, faultCode, holderCode, Coded, Left, Leaves, Fits, FitsIn}
 
 -- ---- a number and its code
 
@@ -93,6 +94,13 @@ fault-table = record {
     faultAt zero = noFault
     faultAt (suc zero) = startHolds
     faultAt (suc (suc k)) = operatorBreaks
+
+pub holder-table : Table holderCode
+holder-table = record {
+  result = λ c. cond (eqb (c .case) 0) taskHolds weightsHold;
+  result-back = λ h. elim h [ taskHolds ↦ refl | weightsHold ↦ refl ];
+  no-refusal = λ h. elim h [ taskHolds ↦ refl | weightsHold ↦ refl ];
+}
 
 -- ---- one number and one memory
 

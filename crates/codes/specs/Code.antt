@@ -4,6 +4,7 @@ use mathlib.Core.Path.{_≡_}
 use mathlib.Core.List.{List}
 use Rattle.meaning.specs.Answer.{Answer, done, refused, Outcome, Verdict, accepted, endsAlike, breaks, Finding, none, separated}
 use Rattle.meaning.specs.Mend.{PairFault, noFault, startHolds, operatorBreaks}
+use Rattle.meaning.specs.Place.{Holder, taskHolds, weightsHold}
 
 -- Every value is below this number.
 abbrev pub valueEnd : ℕ
@@ -50,6 +51,11 @@ abbrev pub faultCode : PairFault → Code
 faultCode noFault = code 0 0
 faultCode startHolds = code 1 0
 faultCode operatorBreaks = code 2 0
+
+-- Which file holds the part; its beginning and its length are in the lent words.
+abbrev pub holderCode : Holder → Code
+holderCode taskHolds = code 0 0
+holderCode weightsHold = code 1 0
 
 -- ---- what a call of the face says
 

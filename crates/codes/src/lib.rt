@@ -6,13 +6,15 @@ ghost use Rattle.opening.specs.Answer.{openedOf};
 ghost use Rattle.finding.specs.Found.{foundOf};
 ghost use Rattle.editing.specs.Answers.{editedOf};
 ghost use Rattle.mending.specs.Answer.{faultOf};
+ghost use Rattle.showing.specs.Answer.{displayedOf};
 ghost use Rattle.writer.specs.Answer.{writtenOf};
-ghost use Rattle.codes.specs.Code.{valueEnd, code, numberOf, answerCode, verdictCode, lengthCode, findingCode, editCode, faultCode, Fits};
+ghost use Rattle.codes.specs.Code.{valueEnd, code, numberOf, answerCode, verdictCode, lengthCode, findingCode, editCode, faultCode, holderCode, Fits};
 use checking::Verdict;
 use editing::Edited;
 use finding::Found;
 use mending::PairFault;
 use opening::Opened;
+use showing::Displayed;
 use writer::Written;
 
 // Every value is below this number.
@@ -82,6 +84,17 @@ pub fn fault_number(fault: PairFault) -> u64
         PairFault::Held => coded(1, 0),
         PairFault::Unclosed => coded(2, 0),
         PairFault::Refused(n) => coded(REFUSED, n),
+    }
+}
+
+pub fn displayed_number(displayed: Displayed) -> u64
+    requires { ⌜ Fits holderCode (displayedOf displayed) ⌝ }
+    ensures { λ r. ⌜ r ≡ numberOf (answerCode holderCode (displayedOf displayed)) ⌝ }
+{
+    match displayed {
+        Displayed::Task => coded(0, 0),
+        Displayed::Weights => coded(1, 0),
+        Displayed::Refused(n) => coded(REFUSED, n),
     }
 }
 

@@ -7,14 +7,15 @@ use Rattle.meaning.specs.Answer.{Checks, Opens, Finds, Edit, Edits}
 use Rattle.meaning.specs.Bay.{Builds}
 use Rattle.meaning.specs.Partial.{Partial, judgedPartial, leftOut, OpensPartial, ChecksPartial, BuildsBy, Silences}
 use Rattle.meaning.specs.Mend.{Mends, Drops, FaultsPairs}
+use Rattle.meaning.specs.Place.{shown, shownPartial, shownBay, displayed, Displays, DisplaysPartial, DisplaysBay}
 use Rattle.theory.specs.Determined.{AtMostOne, is-only, checks-only, opens-only, finds-only, edits-only, builds-only, builds-by-only, silences-only, mends-only, drops-only, faults-only}
 use Rattle.line.specs.Answer.{Lines, lines-only}
 use Rattle.words.specs.Members.{membersIn}
 use Rattle.writer.specs.Weights.{weightsWritten, Writes}
 use Rattle.verdicts.specs.Answer.{VerdictLines, verdict-lines-only}
-use Rattle.codes.specs.Code.{verdictCode, lengthCode, findingCode, editCode, faultCode, Coded, Left, Leaves}
-use Rattle.codes.specs.Back.{answerIn, read-allowed, outcomeIn, outcome-allowed, verdict-table, length-table, finding-table, edit-table, fault-table, coded-only, leaves-only}
-use Rattle.florumeja.specs.Fits.{checks-fit, checks-partial-fit, opens-fit, opens-partial-fit, finds-fit, edits-fit, builds-fit, builds-partial-fit, silences-fit, mends-fit, drops-fit, faults-fit, lines-fit, verdict-lines-fit, writes-fit}
+use Rattle.codes.specs.Code.{verdictCode, lengthCode, findingCode, editCode, faultCode, holderCode, Coded, Left, Leaves}
+use Rattle.codes.specs.Back.{answerIn, read-allowed, outcomeIn, outcome-allowed, verdict-table, length-table, finding-table, edit-table, fault-table, holder-table, coded-only, leaves-only}
+use Rattle.florumeja.specs.Fits.{checks-fit, checks-partial-fit, opens-fit, opens-partial-fit, finds-fit, edits-fit, builds-fit, builds-partial-fit, silences-fit, mends-fit, drops-fit, faults-fit, lines-fit, Slices, verdict-lines-fit, displays-fit, writes-fit}
 
 -- ---- the answer that is read in a call's number is the call's answer
 
@@ -63,9 +64,20 @@ pub weight-file-read : (words room : List ℕ) (left : Left) → Leaves lengthCo
     → Writes (membersIn words) room (outcomeIn length-table left)
 weight-file-read words room = outcome-allowed length-table (Writes (membersIn words) room) (writes-fit (membersIn words) room)
 
-pub check-line-read : (task weights room : List ℕ) (left : Left) → Leaves lengthCode (VerdictLines task weights room) left
+-- The line gives a place in the files, so these are no longer than any slice.
+pub check-line-read : (task weights room : List ℕ) → Slices task weights → (left : Left) → Leaves lengthCode (VerdictLines task weights room) left
     → VerdictLines task weights room (outcomeIn length-table left)
-check-line-read task weights room = outcome-allowed length-table (VerdictLines task weights room) (verdict-lines-fit task weights room)
+check-line-read task weights room few = outcome-allowed length-table (VerdictLines task weights room) (verdict-lines-fit task weights room few)
+
+pub display-read : (task weights room : List ℕ) (left : Left) → Leaves holderCode (Displays task weights room) left → Displays task weights room (outcomeIn holder-table left)
+display-read task weights room = outcome-allowed holder-table (Displays task weights room) (displays-fit (shown task weights) room)
+
+pub display-partial-read : (partial weights room : List ℕ) (left : Left) → Leaves holderCode (DisplaysPartial partial weights room) left
+    → DisplaysPartial partial weights room (outcomeIn holder-table left)
+display-partial-read partial weights room = outcome-allowed holder-table (DisplaysPartial partial weights room) (displays-fit (shownPartial partial weights) room)
+
+pub display-bay-read : (bay room : List ℕ) (left : Left) → Leaves holderCode (DisplaysBay bay room) left → DisplaysBay bay room (outcomeIn holder-table left)
+display-bay-read bay room = outcome-allowed holder-table (DisplaysBay bay room) (displays-fit (shownBay bay) room)
 
 -- ---- each call leaves one number and one memory
 
@@ -113,3 +125,12 @@ weight-file-only words room = leaves-only lengthCode (Writes (membersIn words) r
 
 pub check-line-only : (task weights room : List ℕ) → AtMostOne (Leaves lengthCode (VerdictLines task weights room))
 check-line-only task weights room = leaves-only lengthCode (VerdictLines task weights room) (verdict-lines-only task weights room)
+
+pub display-only : (task weights room : List ℕ) → AtMostOne (Leaves holderCode (Displays task weights room))
+display-only task weights room = leaves-only holderCode (Displays task weights room) (is-only (displayed (shown task weights) room))
+
+pub display-partial-only : (partial weights room : List ℕ) → AtMostOne (Leaves holderCode (DisplaysPartial partial weights room))
+display-partial-only partial weights room = leaves-only holderCode (DisplaysPartial partial weights room) (is-only (displayed (shownPartial partial weights) room))
+
+pub display-bay-only : (bay room : List ℕ) → AtMostOne (Leaves holderCode (DisplaysBay bay room))
+display-bay-only bay room = leaves-only holderCode (DisplaysBay bay room) (is-only (displayed (shownBay bay) room))

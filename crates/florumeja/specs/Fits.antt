@@ -1,14 +1,14 @@
 -- Every value that a call can answer fits: it is below 2^32.
-use Prim.Native.Nat.{ℕ, _*_, _<_, _≤_}
+use Prim.Native.Nat.{ℕ, _*_, _^_, _<_, _≤_}
 use mathlib.Core.Path.{_≡_, refl}
 use mathlib.Core.Logic.{_⊎_, inl, inr}
-use mathlib.Core.Bool.{Bool}
+use mathlib.Core.Bool.{Bool, true, false, cond}
 use mathlib.Core.List.{List, [], _∷_}
 use native.Mathlib.Omega.{arith}
 use native.Mathlib.Nat.{mul-le-mul}
 use lib.Dec.{ltb}
 use lib.ListN.{length}
-use Rattle.meaning.specs.Limits.{mostFeatures, faultWords}
+use Rattle.meaning.specs.Limits.{mostFeatures, faultWords, placeWords}
 use Rattle.meaning.specs.Task.{Task}
 use Rattle.meaning.specs.Feature.{atoms, features}
 use Rattle.meaning.specs.Number.{Reason, Small, Malformed, refusal, Read, got}
@@ -19,7 +19,8 @@ use Rattle.meaning.specs.Answer.{Finding, none, separated, FindsIn, FindsBy, Fi
 use Rattle.meaning.specs.Bay.{judgedBay, bayTask, Builds}
 use Rattle.meaning.specs.Partial.{Partial, judgedPartial, leftOut, partialBytes, OpensPartial, ChecksPartial, BuildsBy, silenced, marksJudged, silencesBy, Silences}
 use Rattle.meaning.specs.Mend.{mended, PairFault, noFault, startHolds, operatorBreaks, FindsFault, FaultsPairs, Mends, Drops}
-use Rattle.meaning.specs.Line.{line, verdictLine}
+use Rattle.meaning.specs.Place.{Holder, Part, ofTask, ofWeights, holderOf, placeOf, displayed}
+use Rattle.meaning.specs.Line.{line, printedSpot, checkedSpot, verdictLine}
 use Rattle.theory.specs.Run.{run-length}
 use Rattle.theory.specs.Accepted.{accepted as task-accepted, read-known}
 use Rattle.theory.specs.Mending.{mended-writable}
@@ -30,14 +31,14 @@ use Rattle.theory.specs.Truth.{on, off, test}
 use Rattle.line.specs.Answer.{Lines}
 use Rattle.line.specs.Fits.{line-short}
 use Rattle.text.specs.Allowed.{is-good, if-good, read-good}
-use Rattle.text.specs.Parts.{refusal-short}
+use Rattle.text.specs.Parts.{placeDigits, refusal-short}
 use Rattle.verdicts.specs.Answer.{VerdictLines}
-use Rattle.verdicts.specs.Fits.{Short, checks-as-short, checks-short, verdict-few}
+use Rattle.verdicts.specs.Fits.{Short, checks-as-short, line-few}
 use Rattle.writer.specs.Weights.{weightsJudged, weightsWritten, Writes}
 use Rattle.writer.specs.Widths.{list-few}
 use Rattle.writer.specs.Longest.{task-few, partial-few}
 use Rattle.writer.specs.Judging.{fine-few, weights-refused, weights-delivered}
-use Rattle.codes.specs.Code.{valueEnd, verdictCode, lengthCode, findingCode, editCode, faultCode, Fits, FitsIn}
+use Rattle.codes.specs.Code.{valueEnd, verdictCode, lengthCode, findingCode, editCode, faultCode, holderCode, Fits, FitsIn}
 
 refusal-fits : (reason : Reason) → refusal reason < valueEnd
 refusal-fits reason = omega (arith, refusal-short reason)
@@ -182,11 +183,25 @@ faults-fit task room =
 
 pub lines-fit : (input room : List ℕ) (outcome : Outcome ℕ) → Lines input room outcome → FitsIn lengthCode outcome
 lines-fit input room o (answer, prints, e) =
-    is-good (FitsIn lengthCode) _ (delivered-fits (line answer) room (omega (arith, line-short input answer prints))) o e
+    is-good (FitsIn lengthCode) _ (delivered-fits (line (printedSpot input) answer) room (omega (arith, line-short input answer prints))) o e
 
-pub verdict-lines-fit : (task weights room : List ℕ) (outcome : Outcome ℕ) → VerdictLines task weights room outcome → FitsIn lengthCode outcome
-verdict-lines-fit task weights room o (answer, checks, e) =
-    is-good (FitsIn lengthCode) _ (delivered-fits (verdictLine answer) room (omega (arith, verdict-few answer (checks-short task weights answer checks)))) o e
+-- Files that are no longer than any slice.
+abbrev pub Slices : List ℕ → List ℕ → Type 0
+Slices task weights = (length task < 10 ^ placeDigits) × (length weights < 10 ^ placeDigits)
+
+pub verdict-lines-fit : (task weights room : List ℕ) → Slices task weights → (outcome : Outcome ℕ) → VerdictLines task weights room outcome → FitsIn lengthCode outcome
+verdict-lines-fit task weights room few o (answer, checks, e) =
+    is-good (FitsIn lengthCode) _ (delivered-fits (verdictLine (checkedSpot task weights) answer) room (omega (arith, line-few task weights (few .0) (few .1) answer checks))) o e
+
+-- ---- display: which file holds the part
+
+pub displays-fit : (part : Part) (room : List ℕ) (outcome : Outcome Holder) → outcome ≡ displayed part room → FitsIn holderCode outcome
+displays-fit part room = is-good (FitsIn holderCode) (displayed part room) (by (ltb (length room) placeWords) part)
+  where
+    by : (short : Bool) (part : Part) → FitsIn holderCode (cond short (refuses Small room) (writes (holderOf part) (placeOf part) room))
+    by true part = refusal-fits Small
+    by false (ofTask place many) = omega arith
+    by false (ofWeights place many) = omega arith
 
 -- ---- a weight file: it has at most as many features as there are
 

@@ -6,11 +6,12 @@ ghost use Rattle.meaning.specs.Answer.{Checks, Opens, Finds, Edits, addOperator
 ghost use Rattle.meaning.specs.Bay.{Builds};
 ghost use Rattle.meaning.specs.Partial.{OpensPartial, ChecksPartial, BuildsPartial, BuildsPartialLean, Silences};
 ghost use Rattle.meaning.specs.Mend.{Mends, Drops, FaultsPairs};
+ghost use Rattle.meaning.specs.Place.{Displays, DisplaysPartial, DisplaysBay};
 ghost use Rattle.line.specs.Answer.{Lines};
 ghost use Rattle.verdicts.specs.Answer.{VerdictLines};
 ghost use Rattle.words.specs.Members.{membersIn};
 ghost use Rattle.writer.specs.Weights.{Writes};
-ghost use Rattle.codes.specs.Code.{verdictCode, lengthCode, findingCode, editCode, faultCode, Coded, Leaves};
+ghost use Rattle.codes.specs.Code.{verdictCode, lengthCode, findingCode, editCode, faultCode, holderCode, Coded, Leaves};
 ghost use Rattle.florumeja.specs.Places.{handed, SamePlaces};
 use limits::MOST_ENTRIES;
 use operator::Operator;
@@ -194,4 +195,32 @@ pub extern "C" fn florumeja_pair_fault(task: &[u8], room: &mut [u64]) -> u64
     ensures { λ r. ⌜ Leaves faultCode (FaultsPairs (now (task .entry)) (now (room .entry))) (record { number = r; lent = now (room .exit) }) ⌝ }
 {
     codes::fault_number(mending::pair_fault(task, room))
+}
+
+// Where the bytes at fault of a task and weights lie.
+#[no_mangle]
+pub extern "C" fn florumeja_display(task: &[u8], weights: &[u8], room: &mut [u64]) -> u64
+    ensures { λ r. ⌜ Leaves holderCode (Displays (now (task .entry)) (now (weights .entry)) (now (room .entry))) (record { number = r; lent = now (room .exit) }) ⌝ }
+{
+    codes::displayed_number(showing::display_words(task, weights, room))
+}
+
+// Where the bytes at fault of a partial task and weights for its built task lie.
+#[no_mangle]
+pub extern "C" fn florumeja_display_partial(
+    partial: &[u8],
+    weights: &[u8],
+    room: &mut [u64],
+) -> u64
+    ensures { λ r. ⌜ Leaves holderCode (DisplaysPartial (now (partial .entry)) (now (weights .entry)) (now (room .entry))) (record { number = r; lent = now (room .exit) }) ⌝ }
+{
+    codes::displayed_number(showing::display_partial(partial, weights, room))
+}
+
+// Where the bytes at fault of a bay file lie.
+#[no_mangle]
+pub extern "C" fn florumeja_display_bay(bay: &[u8], room: &mut [u64]) -> u64
+    ensures { λ r. ⌜ Leaves holderCode (DisplaysBay (now (bay .entry)) (now (room .entry))) (record { number = r; lent = now (room .exit) }) ⌝ }
+{
+    codes::displayed_number(showing::display_bay(bay, room))
 }

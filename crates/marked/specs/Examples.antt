@@ -14,6 +14,7 @@ use Rattle.meaning.specs.Number.{Limit, Padded, Endless, got, fault, number, gr
 use Rattle.meaning.specs.File.{header, judgedTask, bytesOf, counted, entryBytes, operatorBytes, weightBytes, taskBytes}
 use Rattle.meaning.specs.Workspace.{wordsOf, packed, contentOf}
 use Rattle.meaning.specs.Answer.{done, refused, Opens}
+use Rattle.meaning.specs.Place.{nowhere}
 use Rattle.meaning.specs.Line.{separating, Says, Prints, digits, word, wordsIn, line}
 use Rattle.meaning.specs.Bay.{Bay, judgedBay, bayTask, Builds}
 use Rattle.marked.specs.Decide.{computing, bays, slotsIn, slots?, slots-of}
@@ -118,7 +119,7 @@ unfolding computing marked
 prints-B = marked-right (finds fileB (done (separating (0 ∷ 2 ∷ [])))) (there (here refl))
 
 -- and the bytes of its line.
-pub line-B : line (done (separating (0 ∷ 2 ∷ [])))
+pub line-B : line nowhere (done (separating (0 ∷ 2 ∷ [])))
     ≡ 115 ∷ 101 ∷ 112 ∷ 97 ∷ 114 ∷ 97 ∷ 116 ∷ 101 ∷ 100 ∷ 32 ∷ 50 ∷ 32 ∷ 48 ∷ 32 ∷ 50 ∷ 10 ∷ []
 unfolding line wordsIn word digits
 line-B = refl

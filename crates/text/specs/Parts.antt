@@ -7,8 +7,10 @@ use lib.ListN.{length, take, drop, length-append}
 use lib.Seq.{take-at}
 use Rattle.meaning.specs.Number.{Reason, Ends, Padded, Endless, Limit, Range, Unordered, LeftOver, Outgrown, Held, Unclosed}
 use Rattle.meaning.specs.Number.{Small, Malformed, Gaps, Unequal, refusal}
+use Rattle.meaning.specs.Answer.{Judged, fine, faulty}
 use Rattle.meaning.specs.Place.{Spot, nowhere, inTask, inWeights}
 use Rattle.meaning.specs.Line.{word, atPlace, spotText, refusedLine}
+use Rattle.theory.specs.Refusals.{Faulty}
 use Rattle.theory.specs.Shown.{SpotWithin}
 use Rattle.placing.specs.Answers.{spotOf}
 use Rattle.placing.specs.declared.Spot as code
@@ -127,3 +129,8 @@ refusal-short Small = omega arith
 refusal-short Malformed = omega arith
 refusal-short Gaps = omega arith
 refusal-short Unequal = omega arith
+
+-- So has the number of whatever is judged faulty.
+pub faulty-short : (judged : Judged) (n : ℕ) → Faulty judged n → n < 10 ^ mostDigits
+faulty-short fine n h = absurd h
+faulty-short (faulty reason) n h = rw h (refusal-short reason)

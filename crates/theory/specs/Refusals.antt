@@ -9,7 +9,7 @@ use native.Mathlib.Omega.{arith}
 use lib.Dec.{leb, ltb}
 use lib.ListN.{length}
 use borrow.Author.Tests.{ltb-true, ltb-false, le-leb, lt-leb}
-use Rattle.meaning.specs.Limits.{mostInput, mostProgramFeatures, faultWords}
+use Rattle.meaning.specs.Limits.{mostInput, mostProgramFeatures, faultWords, placeWords}
 use Rattle.meaning.specs.Task.{Task}
 use Rattle.meaning.specs.Feature.{features}
 use Rattle.meaning.specs.Number.{Reason, Small, Malformed, refusal, Read, got, fault}
@@ -19,6 +19,7 @@ use Rattle.meaning.specs.Answer.{Answer, done, refused, Outcome, refuses, write
 use Rattle.meaning.specs.Answer.{FindsIn, FindsBy, Finds, Judged, fine, faulty, need, Edit, editJudged, EditsIn, Edits}
 use Rattle.meaning.specs.Partial.{Partial, partialBytes, silenced, marksJudged, silencesBy, Silences}
 use Rattle.meaning.specs.Mend.{Largest, Dropped, mended, Mends, Drops, FindsFault, FaultsPairs}
+use Rattle.meaning.specs.Place.{Part, holderOf, placeOf, displayed}
 use Rattle.meaning.specs.Line.{Found, Seeks, tooLarge, Prints}
 use Rattle.theory.specs.Truth.{on, off, test}
 use Rattle.theory.specs.Operands.{unless}
@@ -161,6 +162,13 @@ module _ (n : ℕ) (left : List ℕ) where
   delivered-refused file room = elim (test (ltb (length room) (length file))) [
     | on p ↦ rw (p, lt-leb (length file) (length room) (ltb-true _ _ p)) (refusal-alike n left room Small)
     | off p ↦ rw (p, le-leb (length file) (length room) (ltb-false _ _ p)) (λ h. absurd (not-done n left (writes (length file) file room) (length file) refl h), λ h. absurd (h .0))
+  ]
+
+  -- A call that shows a part of a file.
+  pub displayed-refused : (part : Part) (room : List ℕ) → (record { answer = refused n; lent = left } ≡ displayed part room) ↔ (Faulty (roomJudged placeWords room) n × (left ≡ room))
+  displayed-refused part room = elim (test (ltb (length room) placeWords)) [
+    | on p ↦ rw (p, lt-leb placeWords (length room) (ltb-true _ _ p)) (refusal-alike n left room Small)
+    | off p ↦ rw (p, le-leb placeWords (length room) (ltb-false _ _ p)) (λ h. absurd (not-done n left (writes (holderOf part) (placeOf part) room) (holderOf part) refl h), λ h. absurd (h .0))
   ]
 
   pub builds-refused : {A : Type 0} (read : Read A) (file : A → List ℕ) (room : List ℕ)

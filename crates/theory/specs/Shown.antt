@@ -1,18 +1,21 @@
--- What is shown of a file: the place of a fault and the bytes that are shown lie within the file that holds them.
+-- What is shown of a file: the place of a fault and the bytes that are shown lie within the file that holds them; and when a call that shows them refuses.
 use Prim.Native.Nat.{ℕ, _+_, _≤_}
 use mathlib.Core.Path.{_≡_, refl}
 use mathlib.Core.Bool.{true}
 use mathlib.Core.List.{List, []}
 use native.Mathlib.Omega.{arith}
 use lib.ListN.{length}
+use Rattle.meaning.specs.Limits.{placeWords}
 use Rattle.meaning.specs.Feature.{features}
 use Rattle.meaning.specs.Task.{Task}
 use Rattle.meaning.specs.Number.{Reason, hasPlace, Read, got, fault}
 use Rattle.meaning.specs.File.{judgedTask, judgedWeights}
 use Rattle.meaning.specs.Bay.{judgedBay}
 use Rattle.meaning.specs.Partial.{leftOut, judgedPartial}
-use Rattle.meaning.specs.Place.{Spot, nowhere, inTask, inWeights, spotBy, spotAlone, spotBeside, Part, ofTask, ofWeights, partAt, shown, shownPartial, shownBay}
+use Rattle.meaning.specs.Place.{Spot, nowhere, inTask, inWeights, spotBy, spotAlone, spotBeside, Part, ofTask, ofWeights, partAt, shown, shownPartial, shownBay, displayed, Displays, DisplaysPartial, DisplaysBay}
 use Rattle.theory.specs.Truth.{on, off, test}
+use Rattle.theory.specs.Determined.{is-only}
+use Rattle.theory.specs.Refusals.{Faulty, roomJudged, RefusesExactly, refuses-exactly, displayed-refused}
 use Rattle.theory.specs.Places.{read-within, task-pointed, weights-pointed, partial-pointed, bay-pointed}
 
 -- ---- the place of a fault
@@ -74,3 +77,18 @@ shown-partial-within partial weights = part-within partial weights (spotBeside (
 pub shown-bay-within : (bay : List ℕ) → Within bay [] (shownBay bay)
 unfolding shownBay
 shown-bay-within bay = part-within bay [] (spotAlone (judgedBay bay)) (spot-bay-within bay [])
+
+-- ---- when the calls refuse
+
+-- Whatever part is due: 8 where the room has no two words, and nothing else.
+pub displays-exactly : (part : Part) (room : List ℕ) → RefusesExactly (λ outcome. outcome ≡ displayed part room) room (Faulty (roomJudged placeWords room))
+displays-exactly part room = refuses-exactly (is-only (displayed part room)) (λ n left. displayed-refused n left part room)
+
+pub display-refuses : (task weights room : List ℕ) → RefusesExactly (Displays task weights room) room (Faulty (roomJudged placeWords room))
+display-refuses task weights = displays-exactly (shown task weights)
+
+pub display-partial-refuses : (partial weights room : List ℕ) → RefusesExactly (DisplaysPartial partial weights room) room (Faulty (roomJudged placeWords room))
+display-partial-refuses partial weights = displays-exactly (shownPartial partial weights)
+
+pub display-bay-refuses : (bay room : List ℕ) → RefusesExactly (DisplaysBay bay room) room (Faulty (roomJudged placeWords room))
+display-bay-refuses bay = displays-exactly (shownBay bay)

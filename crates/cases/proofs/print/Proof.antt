@@ -2,7 +2,7 @@
 use Prim.Native.Nat.{ℕ}
 use lib.ListN.{replicate}
 use Rattle.meaning.specs.Answer.{Checks}
-use Rattle.meaning.specs.Line.{verdictLine}
+use Rattle.meaning.specs.Line.{checkedSpot, verdictLine}
 use Rattle.text.specs.Answer.{line-of-ends}
 use Rattle.verdicts.specs.Fits.{verdictBytes}
 use borrow.Author.Needs.{needs}
@@ -22,7 +22,7 @@ line-in-requires : tie.Need-line-in-requires
 line-in-requires c κs =
     let files = c .before .before .before .before .before .before .args in
     let printed = c .before .before .line in
-    line-of-ends (Checks (files .task .now) (files .weights .now)) verdictLine (replicate {A = ℕ} verdictBytes 0) _ (printed .result) (printed .ensures)
+    line-of-ends (Checks (files .task .now) (files .weights .now)) (verdictLine (checkedSpot (files .task .now) (files .weights .now))) (replicate {A = ℕ} verdictBytes 0) _ (printed .result) (printed .ensures)
 
 write-all-requires : tie.Need-write-all-requires
 write-all-requires c κs = search needs

@@ -1,7 +1,7 @@
 -- `main`: the line ends within the room.
 use Prim.Native.Nat.{ℕ}
 use lib.ListN.{take, replicate}
-use Rattle.meaning.specs.Line.{Prints, line}
+use Rattle.meaning.specs.Line.{Prints, printedSpot, line}
 use Rattle.text.specs.Answer.{line-of-ends}
 use Rattle.line.specs.Fits.{lineBytes}
 use borrow.Author.Needs.{needs}
@@ -33,7 +33,8 @@ line-in-requires : tie.Need-line-in-requires
 line-in-requires c κs =
     let read = c .before .before .before .before .before .before .read-full in
     let printed = c .before .before .line in
-    line-of-ends (Prints (take (read .result) (read .last .1 .0))) line (replicate {A = ℕ} lineBytes 0) _ (printed .result) (printed .ensures)
+    let input = take (read .result) (read .last .1 .0) in
+    line-of-ends (Prints input) (line (printedSpot input)) (replicate {A = ℕ} lineBytes 0) _ (printed .result) (printed .ensures)
 
 write-all-requires : tie.Need-write-all-requires
 write-all-requires c κs = search needs

@@ -1,4 +1,5 @@
 -- `florumeja_check_line`: the value fits, so that the number says the answer.
+use native.Mathlib.Omega.{arith}
 use Rattle.writer.specs.Answer.{outcomeOf}
 use Rattle.florumeja.specs.Fits.{verdict-lines-fit}
 use borrow.Author.Needs.{needs}
@@ -10,7 +11,7 @@ line-requires c κs = search needs
 
 written-number-requires : tie.Need-written-number-requires
 written-number-requires c κs = let start = c .before .before .before .before .before .before .before .args in
-    verdict-lines-fit (start .task .now) (start .weights .now) (start .room .now) (outcomeOf (c .before .before .line .result) _) (c .before .before .line .ensures)
+    verdict-lines-fit (start .task .now) (start .weights .now) (start .room .now) (omega arith, omega arith) (outcomeOf (c .before .before .line .result) _) (c .before .before .line .ensures)
 
 same-length : tie.Need-same-length
 same-length c = search needs

@@ -20,11 +20,12 @@
  * Nothing is kept between calls and nothing is allocated. The most stack that a call can take, in bytes, whatever its input, as bench/stack reads it from
  * the compiled archive (measured, not proved; what memcpy and memset of the C library take comes on top):
  *
- *   line             71408      build_partial, build_partial_lean   13744      check              11488      replace_start   960
+ *   line             73536      build_partial, build_partial_lean   13744      check              11488      replace_start   960
  *   open_partial     16816      check_partial                       13584      add_operator        9432      replace_goal    912
- *   pair_fault       15632      mend, dropped                       11968      find                1568      weight_file      64
- *   open             14592      silence                             11904      build               1280
- *                               check_line                          11536
+ *   pair_fault       15632      mend, dropped                       11968      find                1568      display_bay     672
+ *   open             14592      silence                             11904      build               1424      weight_file      64
+ *   check_line       14224      display                             11872
+ *   display_partial  14128
  *
  * Each call answers one number, case * 2^32 + value; take it apart by florumeja_case and florumeja_value:
  *
@@ -32,6 +33,8 @@
  *   0 FLORUMEJA_DONE          0                                 check, check_partial: accepted; find: separated; an edit: done; pair_fault: good
  *                             words due                         open, open_partial
  *                             bytes written                     build, line, weight_file, check_line, build_partial, build_partial_lean, silence, mend, dropped
+ *   0 FLORUMEJA_IN_TASK       0                                 display, display_partial, display_bay: the part lies in the task, the partial file, the bay file
+ *   1 FLORUMEJA_IN_WEIGHTS    0                                 display, display_partial: the part lies in the weights
  *   1 FLORUMEJA_ENDS_ALIKE    0                                 check, check_partial: rejected, the parities of start and goal are equal
  *   1 FLORUMEJA_NONE          0                                 find: no weights separate; this is no refusal
  *   1 FLORUMEJA_HELD_PAIR     0                                 pair_fault: the start holds a listed pair
@@ -56,6 +59,8 @@ extern "C" {
 /* The cases of an answer. */
 enum {
     FLORUMEJA_DONE = 0,
+    FLORUMEJA_IN_TASK = 0,
+    FLORUMEJA_IN_WEIGHTS = 1,
     FLORUMEJA_ENDS_ALIKE = 1,
     FLORUMEJA_NONE = 1,
     FLORUMEJA_HELD_PAIR = 1,
@@ -66,7 +71,7 @@ enum {
 
 /* The numbers of refusals. */
 enum {
-    FLORUMEJA_BAD_NUMBER = 1,  /* input ends inside what is due, or a number is badly formed */
+    FLORUMEJA_ENDS = 1,        /* input ends inside what is due */
     FLORUMEJA_LIMIT = 2,       /* v, a size, N, or a bay dimension breaks its limit, or a built task has more operators than a number can count */
     FLORUMEJA_RANGE = 3,       /* a value, variable, entry count, feature, label or mark is outside its range, or new values or marks haven't length v */
     FLORUMEJA_UNORDERED = 4,   /* entries, pairs or weights don't increase */
@@ -76,7 +81,9 @@ enum {
     FLORUMEJA_SMALL = 8,       /* lent room is too small */
     FLORUMEJA_MALFORMED = 9,   /* a workspace isn't well formed */
     FLORUMEJA_GAPS = 10,       /* a bay's start, or then its goal, has no gap or more than one */
-    FLORUMEJA_UNEQUAL = 11     /* a bay's start and goal don't hold each label equally often */
+    FLORUMEJA_UNEQUAL = 11,    /* a bay's start and goal don't hold each label equally often */
+    FLORUMEJA_PADDED = 12,     /* a number isn't in shortest form */
+    FLORUMEJA_ENDLESS = 13     /* a number's second byte says that more follows */
 };
 
 static inline uint32_t florumeja_case(uint64_t answer) { return (uint32_t)(answer >> 32); }
@@ -85,13 +92,14 @@ static inline uint32_t florumeja_value(uint64_t answer) { return (uint32_t)(answ
 
 /* Room that is never too small. A workspace of v variables and N features has 1 + 3v + W + N*W words and an answer has W, where W is N/64 rounded
  * up; v is at most 64 and N at most 4,096. The task file of a bay has at most 2,019 bytes: three by three, all labels different. The longest line has the count and 640
- * features; the longest line of a verdict has the number of an operator. The longest weight file has the count and 4,096 features, the first 128 of
+ * features. A verdict's line is never longer than a refusal's with a number of five digits, a place of twenty and " in weights"; those that occur have at
+ * most 30 bytes, since no place at fault has more than seven digits. The longest weight file has the count and 4,096 features, the first 128 of
  * one byte each, the others and the count of two. */
 #define FLORUMEJA_WORKSPACE_WORDS 262401
 #define FLORUMEJA_ANSWER_WORDS 64
 #define FLORUMEJA_BAY_BYTES 2019
 #define FLORUMEJA_LINE_BYTES 2464
-#define FLORUMEJA_VERDICT_BYTES 24
+#define FLORUMEJA_VERDICT_BYTES 49
 #define FLORUMEJA_WEIGHT_BYTES 8066
 
 /* So many bytes more than the file that they are made from are never too few for a built task and for a partial file. A built task has at most 124
@@ -102,6 +110,9 @@ static inline uint32_t florumeja_value(uint64_t answer) { return (uint32_t)(answ
 
 /* Room for a pair and for an operator's number. */
 #define FLORUMEJA_FAULT_WORDS 2
+
+/* Room for where a part begins and for how many bytes it has. */
+#define FLORUMEJA_PLACE_WORDS 2
 
 /* Checks weights against a task: a task file and a weight file. */
 uint64_t florumeja_check(const uint8_t *task, size_t task_length, const uint8_t *weights, size_t weights_length);
@@ -126,8 +137,8 @@ uint64_t florumeja_replace_goal(uint64_t *workspace, size_t workspace_length, co
 /* Builds the task file of a bay file: rows, columns, the start's labels and the goal's, slots row by row, 0 for the gap. Pallets with one label are alike. */
 uint64_t florumeja_build(const uint8_t *bay, size_t bay_length, uint8_t *room, size_t room_length);
 
-/* The line that the finder's program prints for an input, its line end included. The program's own refusals are lines too: case 3 is given
- * only where the room is too small for the line. */
+/* The line that the finder's program prints for an input, its line end included: "separated", the count and the features; "none"; "refused N"; or, where the
+ * refusal has a place, "refused N at P". The program's own refusals are lines too: case 3 is given only where the room is too small for the line. */
 uint64_t florumeja_line(const uint8_t *input, size_t input_length, uint8_t *room, size_t room_length);
 
 /* Writes the weight file of a set of features in words: feature i is bit i % 64 of word i / 64, as florumeja_find leaves its answer. Hand it the first W words
@@ -135,8 +146,9 @@ uint64_t florumeja_line(const uint8_t *input, size_t input_length, uint8_t *room
  * than the file is refused 8. */
 uint64_t florumeja_weight_file(const uint64_t *words, size_t words_length, uint8_t *room, size_t room_length);
 
-/* The line that tells what florumeja_check answers, its line end included: "accepted", "rejected ends alike", "rejected operator J" or "refused N".
- * Refusals are lines too: case 3 is given only where the room is too small for the line. */
+/* The line that tells what florumeja_check answers, its line end included: "accepted", "rejected ends alike", "rejected operator J" or "refused N"; where the
+ * refusal has a place, "refused N at P in task" or "refused N at P in weights". Refusals are lines too: case 3 is given only where the room is too small for
+ * the line. */
 uint64_t florumeja_check_line(const uint8_t *task, size_t task_length, const uint8_t *weights, size_t weights_length, uint8_t *room, size_t room_length);
 
 /* Partial files: orders that name some variables. A partial file is a task file with a mark for each variable after the sizes, 0 for silent and 1 for
@@ -165,8 +177,8 @@ uint64_t florumeja_build_partial_lean(const uint8_t *partial, size_t partial_len
 uint64_t florumeja_silence(const uint8_t *task, size_t task_length, const uint8_t *marks, size_t marks_length, uint8_t *room, size_t room_length);
 
 /* Pair lists made by hand. A list is good if the start holds none of its pairs and it is closed under every operator; other calls refuse a task with
- * another list by 6 or 7. These three take every list: they judge 1 to 5 and then 8, and give neither 6 nor 7. Any list has a largest good part, which
- * holds every other good part of it. */
+ * another list by 6 or 7. These three take every list: they judge all that comes before 6 and then 8, and give neither 6 nor 7. Any list has a largest good
+ * part, which holds every other good part of it. */
 
 /* Writes a task file with only the largest good part of its pair list; all else is as it came. A good list comes back byte for byte, and a mended file
  * is never longer than the task, so a room of the task's length is never too small. */
@@ -181,6 +193,30 @@ uint64_t florumeja_dropped(const uint8_t *task, size_t task_length, uint8_t *roo
  * unclosed under it. FLORUMEJA_DONE: the list is good. Words that aren't named here stay. Less than two words are refused 8, whatever the list is. No
  * good part of the list has the pair that is named. */
 uint64_t florumeja_pair_fault(const uint8_t *task, size_t task_length, uint64_t *room, size_t room_length);
+
+/* Pointing at the bad bytes. The refusals 1 to 4, 12 and 13 of a file have a place: the first byte of the number that was being read, counted from 0 in the
+ * file that holds it. A limit over several numbers stands at the last one: N at the last size, rows times columns at the columns. 4 stands at the number
+ * that doesn't increase. The others have no place, and a 2 that is judged after 5 has none: more operators of a built task than a number can count, and the
+ * limits that florumeja_silence judges. Marks, and what an edit is handed, are no file.
+ *
+ * What is shown is that number's bytes as far as they were read. 2, 3, 4: all of them. 12: both, the second is 0. 13: the two that are allowed. 1: those from
+ * the place to the end of the file; none, at the end, where the file ends before the number begins. Without a place, and where nothing is refused, the
+ * part is empty at the task's start.
+ *
+ * The case says which file holds the part; the first word is where it begins there, and the second how many bytes it has. Words behind these stay. Less than
+ * two words are refused 8, whatever the files are; nothing else is refused. The number of the refusal itself is what the other calls answer. */
+
+/* Where the bytes at fault of a task file and a weight file lie: of what florumeja_check refuses, and of a task that another call refuses. For a task alone
+ * hand the weight file that lists nothing, one byte 0, which is never at fault. */
+uint64_t florumeja_display(const uint8_t *task, size_t task_length, const uint8_t *weights, size_t weights_length, uint64_t *room, size_t room_length);
+
+/* Where the bytes at fault of a partial file and a weight file for its built task, by the letter, lie. What florumeja_build_partial_lean refuses in the file
+ * has the same place. */
+uint64_t florumeja_display_partial(const uint8_t *partial, size_t partial_length, const uint8_t *weights, size_t weights_length, uint64_t *room,
+                                   size_t room_length);
+
+/* Where the bytes at fault of a bay file lie: never FLORUMEJA_IN_WEIGHTS. */
+uint64_t florumeja_display_bay(const uint8_t *bay, size_t bay_length, uint64_t *room, size_t room_length);
 
 #ifdef __cplusplus
 }

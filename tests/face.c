@@ -6,14 +6,16 @@
 
 static int passed, failed;
 
-static void expect(int holds, const char *what) {
+static void expect_of(int holds, const char *what, const char *more) {
     if (holds) {
         passed++;
     } else {
         failed++;
-        printf("differs: %s\n", what);
+        printf("differs: %s%s\n", what, more);
     }
 }
+
+static void expect(int holds, const char *what) { expect_of(holds, what, ""); }
 
 static int is(uint64_t answer, uint32_t answer_case, uint32_t value) {
     return florumeja_case(answer) == answer_case && florumeja_value(answer) == value;
@@ -45,7 +47,7 @@ static void check_calls(void) {
     expect(refused(florumeja_check(task_g, sizeof task_g, first, sizeof first), FLORUMEJA_UNCLOSED), "G: refused 7");
     expect(refused(florumeja_check(task_h, sizeof task_h, first, sizeof first), FLORUMEJA_HELD), "H: refused 6");
     expect(refused(florumeja_check(task_b, sizeof task_b, past, sizeof past), FLORUMEJA_RANGE), "feature 8 of 8: refused 3");
-    expect(refused(florumeja_check(task_b, 0, both, sizeof both), FLORUMEJA_BAD_NUMBER), "an empty task: refused 1");
+    expect(refused(florumeja_check(task_b, 0, both, sizeof both), FLORUMEJA_ENDS), "an empty task: refused 1");
 }
 
 static void open_and_find(void) {
@@ -106,6 +108,10 @@ static void builds_and_lines(void) {
     expect(refused(florumeja_line(task_b, sizeof task_b, room, 15), FLORUMEJA_SMALL) && room[0] == 7, "15 bytes are too few for B's line");
     expect(is(florumeja_line(task_b, sizeof task_b, room, sizeof room), FLORUMEJA_DONE, 16) && memcmp(room, "separated 2 0 2\n\7", 17) == 0, "B's line");
     expect(is(florumeja_line(task_g, sizeof task_g, room, sizeof room), FLORUMEJA_DONE, 10) && memcmp(room, "refused 7\n", 10) == 0, "G's line");
+    memset(room, 7, sizeof room);
+    expect(refused(florumeja_line(task_b, 0, room, 14), FLORUMEJA_SMALL) && room[0] == 7, "14 bytes are too few for `refused 1 at 0`");
+    expect(is(florumeja_line(task_b, 0, room, 15), FLORUMEJA_DONE, 15) && memcmp(room, "refused 1 at 0\n\7", 16) == 0, "the line of no bytes");
+    expect(is(florumeja_line(task_b, 36, room, sizeof room), FLORUMEJA_DONE, 16) && memcmp(room, "refused 1 at 36\n\7", 17) == 0, "B's line without its last byte");
 }
 
 /* The count and the features as a weight file has them; a number from 128 on has two bytes: 128 is 80 01, 200 is C8 01. */
@@ -133,7 +139,7 @@ static void weight_files(void) {
 }
 
 static void check_lines(void) {
-    const uint8_t both[] = {2, 0, 2}, first[] = {1, 0}, third[] = {1, 2};
+    const uint8_t both[] = {2, 0, 2}, first[] = {1, 0}, third[] = {1, 2}, past[] = {1, 8}, padded[] = {0x82, 0};
     uint8_t room[FLORUMEJA_VERDICT_BYTES + 1];
     memset(room, 7, sizeof room);
     expect(refused(florumeja_check_line(task_b, sizeof task_b, both, sizeof both, room, 8), FLORUMEJA_SMALL) && room[0] == 7, "8 bytes are too few for `accepted`");
@@ -141,6 +147,13 @@ static void check_lines(void) {
     expect(is(florumeja_check_line(task_b, sizeof task_b, first, sizeof first, room, sizeof room), FLORUMEJA_DONE, 20) && memcmp(room, "rejected ends alike\n\7", 21) == 0, "J's line");
     expect(is(florumeja_check_line(task_b, sizeof task_b, third, sizeof third, room, sizeof room), FLORUMEJA_DONE, 20) && memcmp(room, "rejected operator 0\n\7", 21) == 0, "K's line");
     expect(is(florumeja_check_line(task_g, sizeof task_g, first, sizeof first, room, sizeof room), FLORUMEJA_DONE, 10) && memcmp(room, "refused 7\n", 10) == 0, "G's line for a checker");
+    memset(room, 7, sizeof room);
+    expect(refused(florumeja_check_line(task_b, sizeof task_b, past, sizeof past, room, 25), FLORUMEJA_SMALL) && room[0] == 7, "25 bytes are too few for a place in the weights");
+    expect(is(florumeja_check_line(task_b, sizeof task_b, past, sizeof past, room, 26), FLORUMEJA_DONE, 26) && memcmp(room, "refused 3 at 1 in weights\n\7", 27) == 0, "a place in the weights");
+    memset(room, 7, sizeof room);
+    expect(is(florumeja_check_line(padded, sizeof padded, past, sizeof past, room, 24), FLORUMEJA_DONE, 24) && memcmp(room, "refused 12 at 0 in task\n\7", 25) == 0, "a place in the task");
+    memset(room, 7, sizeof room);
+    expect(is(florumeja_check_line(task_b, 36, past, sizeof past, room, sizeof room), FLORUMEJA_DONE, 24) && memcmp(room, "refused 1 at 36 in task\n\7", 25) == 0, "the task is judged before the weights");
 }
 
 /* Two variables of two values, the first silent, from 0 0 to a 1 for the second; feature 7, which is 1 1, is exclusive. The built task has three values for
@@ -162,7 +175,7 @@ static void partial_builds(void) {
     expect(refused(florumeja_build_partial(marked, sizeof marked, room, 0), FLORUMEJA_RANGE), "a mark of 2: refused 3");
     expect(refused(florumeja_build_partial(unknown, sizeof unknown, room, 0), FLORUMEJA_RANGE), "\"unknown\" can't be named: refused 3");
     expect(refused(florumeja_build_partial_lean(sized, sizeof sized, room, 0), FLORUMEJA_LIMIT), "a size of 64: refused 2");
-    expect(refused(florumeja_build_partial_lean(partial, sizeof partial - 1, room, sizeof room), FLORUMEJA_BAD_NUMBER) && SAME(room, lean), "a byte short: refused 1");
+    expect(refused(florumeja_build_partial_lean(partial, sizeof partial - 1, room, sizeof room), FLORUMEJA_ENDS) && SAME(room, lean), "a byte short: refused 1");
 }
 
 /* 15 features, so 8 words before 15 slots of one word. The last bytes of both built tasks above are room that stays. */
@@ -238,7 +251,7 @@ static void mends(void) {
     memset(room, 7, sizeof room);
     expect(is(florumeja_mend(holding, sizeof holding, room, sizeof room), FLORUMEJA_DONE, 17) && SAME(room, freed), "an operator is idle no more");
     memset(room, 7, sizeof room);
-    expect(refused(florumeja_mend(task_g, 0, room, sizeof room), FLORUMEJA_BAD_NUMBER), "no task to mend: refused 1");
+    expect(refused(florumeja_mend(task_g, 0, room, sizeof room), FLORUMEJA_ENDS), "no task to mend: refused 1");
     expect(refused(florumeja_mend(sized, sizeof sized, room, sizeof room), FLORUMEJA_LIMIT), "a size of 65: refused 2");
     expect(refused(florumeja_mend(low, sizeof low, room, sizeof room), FLORUMEJA_RANGE), "an atom in the pair list: refused 3");
     expect(refused(florumeja_mend(twice, sizeof twice, room, 0), FLORUMEJA_UNORDERED), "a pair twice: refused 4 before 8");
@@ -257,7 +270,7 @@ static void drops(void) {
     memset(room, 7, sizeof room);
     expect(is(florumeja_dropped(task_i, sizeof task_i, room, 1), FLORUMEJA_DONE, 1) && SAME(room, none), "I drops nothing");
     expect(refused(florumeja_dropped(task_i, sizeof task_i, room, 0), FLORUMEJA_SMALL), "nothing takes a byte too");
-    expect(refused(florumeja_dropped(task_g, sizeof task_g - 1, room, 0), FLORUMEJA_BAD_NUMBER) && SAME(room, none), "a byte short: refused 1 before 8");
+    expect(refused(florumeja_dropped(task_g, sizeof task_g - 1, room, 0), FLORUMEJA_ENDS) && SAME(room, none), "a byte short: refused 1 before 8");
 }
 
 static void pair_faults(void) {
@@ -267,7 +280,7 @@ static void pair_faults(void) {
     expect(is(florumeja_pair_fault(task_l, sizeof task_l, room, 3), FLORUMEJA_DONE, 0) && SAME(room, nines), "L's list is good, as lift is idle");
     expect(refused(florumeja_pair_fault(task_g, sizeof task_g, room, 1), FLORUMEJA_SMALL) && SAME(room, nines), "a word is too few");
     expect(refused(florumeja_pair_fault(task_i, sizeof task_i, room, 0), FLORUMEJA_SMALL) && SAME(room, nines), "even for a good list");
-    expect(refused(florumeja_pair_fault(task_g, sizeof task_g - 1, room, 0), FLORUMEJA_BAD_NUMBER) && SAME(room, nines), "a byte short: refused 1, not 8");
+    expect(refused(florumeja_pair_fault(task_g, sizeof task_g - 1, room, 0), FLORUMEJA_ENDS) && SAME(room, nines), "a byte short: refused 1, not 8");
     expect(is(florumeja_pair_fault(task_h, sizeof task_h, room, 3), FLORUMEJA_HELD_PAIR, 0) && SAME(room, held_h), "H: the start holds 7, and the second word stays");
     expect(is(florumeja_pair_fault(task_g, sizeof task_g, room, 3), FLORUMEJA_UNCLOSED_PAIR, 0) && SAME(room, unclosed_g), "G: 7 and operator 0");
     expect(is(florumeja_pair_fault(chain, sizeof chain, room, 2), FLORUMEJA_UNCLOSED_PAIR, 0) && SAME(room, first), "7 and operator 1");
@@ -276,24 +289,247 @@ static void pair_faults(void) {
     expect(is(florumeja_pair_fault(unpaired, sizeof unpaired - 1, room, 3), FLORUMEJA_DONE, 0) && SAME(room, least), "what is mended is good");
 }
 
-/* As many operators as a file can count, 16,383: the last one alone, lift, breaks {0}, and its line is the longest. The others set variable 1 from
+/* As many operators as a file can count, 16,383: the last one alone, lift, breaks {0}, and no operator's line is longer. The others set variable 1 from
  * 0 to 0. */
-static void longest_check_line(void) {
+static void last_operator(void) {
     static uint8_t task[8 + 2 + 16383 * 4];
     static const uint8_t head[] = {2, 2, 2, 0, 0, 1, 0, 0, 0xff, 0x7f}, still[] = {1, 1, 0, 0}, lift[] = {1, 0, 0, 1}, first[] = {1, 0};
-    uint8_t room[FLORUMEJA_VERDICT_BYTES];
+    uint8_t room[24];
     size_t i;
     memcpy(task, head, sizeof head);
     for (i = 0; i < 16383; i++) memcpy(task + sizeof head + 4 * i, i < 16382 ? still : lift, 4);
     expect(is(florumeja_check_line(task, sizeof task, first, sizeof first, room, sizeof room), FLORUMEJA_DONE, sizeof room)
-               && memcmp(room, "rejected operator 16382\n", sizeof room) == 0, "the longest line");
-    expect(refused(florumeja_check_line(task, sizeof task, first, sizeof first, room, sizeof room - 1), FLORUMEJA_SMALL), "a byte too few for the longest line");
+               && memcmp(room, "rejected operator 16382\n", sizeof room) == 0, "the last operator's line");
+    expect(refused(florumeja_check_line(task, sizeof task, first, sizeof first, room, sizeof room - 1), FLORUMEJA_SMALL), "a byte too few for the last operator's line");
+}
+
+/* A task, an order or a bay, and the weights beside it, of which a bay has none; the number by which they are refused, 0 where they aren't; which file holds the
+ * part that is shown, where it begins there, and how many bytes it has. */
+struct shown {
+    const char *what;
+    const char *first;
+    size_t first_length;
+    const char *weights;
+    size_t weights_length;
+    uint32_t number, holder;
+    uint64_t begins, many;
+};
+
+#define BYTES(text) text, sizeof(text) - 1
+
+/* A weight file that lists nothing. */
+#define UNWEIGHED BYTES("\x00")
+
+/* Case A's task, from 00 to 01: places 0 to 2 are v and sizes, 3 and 4 the start, 5 and 6 the goal, 7 the pairs' count, 8 the operators'. */
+#define TASK_A BYTES("\x02\x02\x02\x00\x00\x00\x01\x00\x00")
+
+static const struct shown shown_tasks[] = {
+    {"nothing at fault", TASK_A, BYTES("\x01\x02"), 0, FLORUMEJA_IN_TASK, 0, 0},
+    {"weights that are rejected", TASK_A, BYTES("\x01\x00"), 0, FLORUMEJA_IN_TASK, 0, 0},
+    {"1: no bytes at all", BYTES(""), BYTES(""), FLORUMEJA_ENDS, FLORUMEJA_IN_TASK, 0, 0},
+    {"1: the file ends before a size", BYTES("\x02\x02"), UNWEIGHED, FLORUMEJA_ENDS, FLORUMEJA_IN_TASK, 2, 0},
+    {"1: the file ends inside a start value", BYTES("\x02\x02\x02\x80"), UNWEIGHED, FLORUMEJA_ENDS, FLORUMEJA_IN_TASK, 3, 1},
+    {"2: no variable", BYTES("\x00"), UNWEIGHED, FLORUMEJA_LIMIT, FLORUMEJA_IN_TASK, 0, 1},
+    {"2: 128 variables, in two bytes", BYTES("\x80\x01\x02"), UNWEIGHED, FLORUMEJA_LIMIT, FLORUMEJA_IN_TASK, 0, 2},
+    {"2: a size of 65", BYTES("\x01\x41"), UNWEIGHED, FLORUMEJA_LIMIT, FLORUMEJA_IN_TASK, 1, 1},
+    {"2: N is 4,159, at the last size", BYTES("\x02\x40\x3f\x00"), UNWEIGHED, FLORUMEJA_LIMIT, FLORUMEJA_IN_TASK, 2, 1},
+    {"3: a start value of two", BYTES("\x02\x02\x02\x00\x02"), UNWEIGHED, FLORUMEJA_RANGE, FLORUMEJA_IN_TASK, 4, 1},
+    {"3: a start value of 128, in two bytes", BYTES("\x02\x02\x02\x80\x01"), UNWEIGHED, FLORUMEJA_RANGE, FLORUMEJA_IN_TASK, 3, 2},
+    {"3: an after value, past the ninth place", BYTES("\x02\x02\x02\x00\x00\x00\x01\x00\x01\x01\x00\x00\x02"), UNWEIGHED, FLORUMEJA_RANGE, FLORUMEJA_IN_TASK, 12, 1},
+    {"4: a pair twice", BYTES("\x02\x02\x02\x00\x00\x00\x01\x02\x05\x05\x00"), UNWEIGHED, FLORUMEJA_UNORDERED, FLORUMEJA_IN_TASK, 9, 1},
+    {"4: pair 130 of 64 and 2 values twice, in two bytes each", BYTES("\x02\x40\x02\x00\x00\x00\x01\x02\x82\x01\x82\x01\x00"), UNWEIGHED, FLORUMEJA_UNORDERED, FLORUMEJA_IN_TASK, 10, 2},
+    {"5: a byte left over has no place", BYTES("\x02\x02\x02\x00\x00\x00\x01\x00\x00\x00"), BYTES(""), FLORUMEJA_LEFT_OVER, FLORUMEJA_IN_TASK, 0, 0},
+    {"6: a held pair has no place", BYTES("\x02\x02\x02\x01\x01\x00\x00\x01\x07\x00"), BYTES(""), FLORUMEJA_HELD, FLORUMEJA_IN_TASK, 0, 0},
+    {"7: an unclosed pair has no place", BYTES("\x02\x02\x02\x00\x00\x01\x00\x01\x07\x01\x01\x00\x00\x01"), BYTES(""), FLORUMEJA_UNCLOSED, FLORUMEJA_IN_TASK, 0, 0},
+    {"12: v in two bytes where one is enough", BYTES("\x82\x00\x02"), UNWEIGHED, FLORUMEJA_PADDED, FLORUMEJA_IN_TASK, 0, 2},
+    {"12: an operator count of 0 in two bytes", BYTES("\x02\x02\x02\x00\x00\x00\x01\x00\x80\x00"), UNWEIGHED, FLORUMEJA_PADDED, FLORUMEJA_IN_TASK, 8, 2},
+    {"13: v in three bytes, of which two are shown", BYTES("\x80\x80\x01"), UNWEIGHED, FLORUMEJA_ENDLESS, FLORUMEJA_IN_TASK, 0, 2},
+    {"13: the second byte is the last", BYTES("\x02\xff\xff"), UNWEIGHED, FLORUMEJA_ENDLESS, FLORUMEJA_IN_TASK, 1, 2},
+    {"1 in the weights: no bytes", TASK_A, BYTES(""), FLORUMEJA_ENDS, FLORUMEJA_IN_WEIGHTS, 0, 0},
+    {"1 in the weights: a weight is missing", TASK_A, BYTES("\x02\x01"), FLORUMEJA_ENDS, FLORUMEJA_IN_WEIGHTS, 2, 0},
+    {"1 in the weights: they end inside a weight", TASK_A, BYTES("\x02\x01\xff"), FLORUMEJA_ENDS, FLORUMEJA_IN_WEIGHTS, 2, 1},
+    {"3 in the weights: feature 8 of 8", TASK_A, BYTES("\x02\x01\x08"), FLORUMEJA_RANGE, FLORUMEJA_IN_WEIGHTS, 2, 1},
+    {"3 in the weights: feature 16,383", TASK_A, BYTES("\x01\xff\x7f"), FLORUMEJA_RANGE, FLORUMEJA_IN_WEIGHTS, 1, 2},
+    {"4 in the weights: they fall", TASK_A, BYTES("\x03\x01\x03\x02"), FLORUMEJA_UNORDERED, FLORUMEJA_IN_WEIGHTS, 3, 1},
+    {"5 in the weights has no place, and the part is the task's", TASK_A, BYTES("\x01\x02\x00"), FLORUMEJA_LEFT_OVER, FLORUMEJA_IN_TASK, 0, 0},
+    {"12 in the weights", TASK_A, BYTES("\x01\x82\x00"), FLORUMEJA_PADDED, FLORUMEJA_IN_WEIGHTS, 1, 2},
+    {"13 in the weights", TASK_A, BYTES("\x82\x82"), FLORUMEJA_ENDLESS, FLORUMEJA_IN_WEIGHTS, 0, 2},
+    {"faults in both: the task's", BYTES("\x02\x00"), BYTES("\x80\x80"), FLORUMEJA_LIMIT, FLORUMEJA_IN_TASK, 1, 1},
+};
+
+/* Marks stand behind the sizes, and a goal value for the named variables only. With two values each, places 3 and 4 are the marks, 5 and 6 the start, 7 the one goal
+ * value, 8 the pairs' count. A built size is one more. */
+#define ORDER BYTES("\x02\x02\x02\x00\x01\x00\x00\x01\x01\x07\x00")
+
+static const struct shown shown_partials[] = {
+    {"nothing at fault in an order", ORDER, UNWEIGHED, 0, FLORUMEJA_IN_TASK, 0, 0},
+    {"feature 14 of the built task's 15", ORDER, BYTES("\x01\x0e"), 0, FLORUMEJA_IN_TASK, 0, 0},
+    {"1: an order of no bytes", BYTES(""), UNWEIGHED, FLORUMEJA_ENDS, FLORUMEJA_IN_TASK, 0, 0},
+    {"1: an order without its last byte", BYTES("\x02\x02\x02\x00\x01\x00\x00\x01\x01\x07"), UNWEIGHED, FLORUMEJA_ENDS, FLORUMEJA_IN_TASK, 10, 0},
+    {"1: an order ends inside a mark", BYTES("\x01\x02\x81"), UNWEIGHED, FLORUMEJA_ENDS, FLORUMEJA_IN_TASK, 2, 1},
+    {"2: a size of 64 in an order", BYTES("\x01\x40"), UNWEIGHED, FLORUMEJA_LIMIT, FLORUMEJA_IN_TASK, 1, 1},
+    {"2: the built N is 4,159, at the last size", BYTES("\x02\x3f\x3e\x00"), UNWEIGHED, FLORUMEJA_LIMIT, FLORUMEJA_IN_TASK, 2, 1},
+    {"1: the built N is 4,094 and taken", BYTES("\x02\x3f\x3d"), UNWEIGHED, FLORUMEJA_ENDS, FLORUMEJA_IN_TASK, 3, 0},
+    {"3: a mark of 2 in an order", BYTES("\x02\x02\x02\x01\x02"), UNWEIGHED, FLORUMEJA_RANGE, FLORUMEJA_IN_TASK, 4, 1},
+    {"3: \"unknown\" as a goal value", BYTES("\x02\x02\x02\x00\x01\x00\x00\x02"), UNWEIGHED, FLORUMEJA_RANGE, FLORUMEJA_IN_TASK, 7, 1},
+    {"4: a pair of an order twice", BYTES("\x02\x02\x02\x00\x01\x00\x00\x01\x02\x07\x07\x00"), UNWEIGHED, FLORUMEJA_UNORDERED, FLORUMEJA_IN_TASK, 10, 1},
+    {"5: a byte of an order left over", BYTES("\x02\x02\x02\x00\x01\x00\x00\x01\x01\x07\x00\x00"), UNWEIGHED, FLORUMEJA_LEFT_OVER, FLORUMEJA_IN_TASK, 0, 0},
+    {"6: an order whose start holds the pair", BYTES("\x02\x02\x02\x00\x01\x01\x01\x01\x01\x07\x00"), BYTES(""), FLORUMEJA_HELD, FLORUMEJA_IN_TASK, 0, 0},
+    {"7: the order of a task with an idle operator", BYTES("\x03\x02\x01\x02\x00\x01\x01\x01\x00\x01\x00\x01\x02\x05\x09\x01\x01\x00\x00\x01"), BYTES(""), FLORUMEJA_UNCLOSED, FLORUMEJA_IN_TASK, 0, 0},
+    {"12: a mark in two bytes where one is enough", BYTES("\x02\x02\x02\x80\x00"), UNWEIGHED, FLORUMEJA_PADDED, FLORUMEJA_IN_TASK, 3, 2},
+    {"13: a goal value that does not end", BYTES("\x02\x02\x02\x00\x01\x00\x00\x81\x81\x01"), UNWEIGHED, FLORUMEJA_ENDLESS, FLORUMEJA_IN_TASK, 7, 2},
+    {"1 in the weights of an order", ORDER, BYTES(""), FLORUMEJA_ENDS, FLORUMEJA_IN_WEIGHTS, 0, 0},
+    {"3 in the weights of an order: feature 15", ORDER, BYTES("\x02\x0e\x0f"), FLORUMEJA_RANGE, FLORUMEJA_IN_WEIGHTS, 2, 1},
+    {"4 in the weights of an order", ORDER, BYTES("\x02\x0e\x0e"), FLORUMEJA_UNORDERED, FLORUMEJA_IN_WEIGHTS, 2, 1},
+    {"12 in the weights of an order", ORDER, BYTES("\x80\x00"), FLORUMEJA_PADDED, FLORUMEJA_IN_WEIGHTS, 0, 2},
+    {"13 in the weights of an order", ORDER, BYTES("\x01\xff\xff"), FLORUMEJA_ENDLESS, FLORUMEJA_IN_WEIGHTS, 1, 2},
+};
+
+/* Rows, columns, the start's labels, the goal's. */
+static const struct shown shown_bays[] = {
+    {"nothing at fault in a bay", BYTES("\x01\x02\x00\x01\x01\x00"), BYTES(""), 0, FLORUMEJA_IN_TASK, 0, 0},
+    {"1: a bay of no bytes", BYTES(""), BYTES(""), FLORUMEJA_ENDS, FLORUMEJA_IN_TASK, 0, 0},
+    {"1: a label is missing", BYTES("\x01\x02\x00\x01\x01"), BYTES(""), FLORUMEJA_ENDS, FLORUMEJA_IN_TASK, 5, 0},
+    {"1: a bay ends inside a label", BYTES("\x01\x02\x00\x81"), BYTES(""), FLORUMEJA_ENDS, FLORUMEJA_IN_TASK, 3, 1},
+    {"2: ten rows", BYTES("\x0a\x01"), BYTES(""), FLORUMEJA_LIMIT, FLORUMEJA_IN_TASK, 0, 1},
+    {"2: 129 columns, in two bytes", BYTES("\x01\x81\x01"), BYTES(""), FLORUMEJA_LIMIT, FLORUMEJA_IN_TASK, 1, 2},
+    {"2: one slot, at the columns", BYTES("\x01\x01\x00"), BYTES(""), FLORUMEJA_LIMIT, FLORUMEJA_IN_TASK, 1, 1},
+    {"2: ten slots, at the columns", BYTES("\x05\x02\x00"), BYTES(""), FLORUMEJA_LIMIT, FLORUMEJA_IN_TASK, 1, 1},
+    {"3: label 2 of two", BYTES("\x01\x02\x00\x02"), BYTES(""), FLORUMEJA_RANGE, FLORUMEJA_IN_TASK, 3, 1},
+    {"5: a label too many", BYTES("\x01\x02\x00\x01\x01\x00\x00"), BYTES(""), FLORUMEJA_LEFT_OVER, FLORUMEJA_IN_TASK, 0, 0},
+    {"10: two gaps", BYTES("\x01\x02\x00\x00\x01\x00"), BYTES(""), FLORUMEJA_GAPS, FLORUMEJA_IN_TASK, 0, 0},
+    {"11: unequal lots", BYTES("\x01\x03\x00\x01\x01\x00\x01\x02"), BYTES(""), FLORUMEJA_UNEQUAL, FLORUMEJA_IN_TASK, 0, 0},
+    {"12: rows in two bytes where one is enough", BYTES("\x81\x00\x02"), BYTES(""), FLORUMEJA_PADDED, FLORUMEJA_IN_TASK, 0, 2},
+    {"13: columns that do not end", BYTES("\x01\x82\x80\x01"), BYTES(""), FLORUMEJA_ENDLESS, FLORUMEJA_IN_TASK, 1, 2},
+};
+
+enum kind { TASKS, PARTIALS, BAYS };
+
+/* What a call answers that judges the files. */
+static uint64_t judged(enum kind kind, const uint8_t *first, size_t first_length, const uint8_t *weights, size_t weights_length) {
+    static uint8_t room[FLORUMEJA_BAY_BYTES];
+    switch (kind) {
+    case TASKS: return florumeja_check(first, first_length, weights, weights_length);
+    case PARTIALS: return florumeja_check_partial(first, first_length, weights, weights_length);
+    default: return florumeja_build(first, first_length, room, sizeof room);
+    }
+}
+
+static uint64_t displayed(enum kind kind, const uint8_t *first, size_t first_length, const uint8_t *weights, size_t weights_length, uint64_t *room, size_t words) {
+    switch (kind) {
+    case TASKS: return florumeja_display(first, first_length, weights, weights_length, room, words);
+    case PARTIALS: return florumeja_display_partial(first, first_length, weights, weights_length, room, words);
+    default: return florumeja_display_bay(first, first_length, room, words);
+    }
+}
+
+/* Shows each of some files, in rooms of none to three words with a word in front and words behind that stay. */
+static void displays_of(enum kind kind, const struct shown *files, size_t count) {
+    const uint64_t nines[] = {9, 9, 9, 9, 9};
+    uint8_t first[32], weights[8];
+    size_t i, words;
+    for (i = 0; i < count; i++) {
+        const struct shown *file = &files[i];
+        uint64_t answer, part[] = {9, 9, 9, 9, 9};
+        part[1] = file->begins;
+        part[2] = file->many;
+        memcpy(first, file->first, file->first_length);
+        memcpy(weights, file->weights, file->weights_length);
+        answer = judged(kind, first, file->first_length, weights, file->weights_length);
+        expect_of(file->number == 0 ? florumeja_case(answer) != FLORUMEJA_REFUSED : refused(answer, file->number), file->what, ", judged");
+        for (words = 0; words <= 3; words++) {
+            uint64_t room[] = {9, 9, 9, 9, 9};
+            answer = displayed(kind, first, file->first_length, weights, file->weights_length, room + 1, words);
+            if (words < FLORUMEJA_PLACE_WORDS) {
+                expect_of(refused(answer, FLORUMEJA_SMALL) && SAME(room, nines), file->what, words == 0 ? ", no room" : ", a word of room");
+            } else {
+                expect_of(is(answer, file->holder, 0) && SAME(room, part), file->what, words == 2 ? ", shown" : ", shown with a word to spare");
+            }
+        }
+        expect_of(memcmp(first, file->first, file->first_length) == 0 && memcmp(weights, file->weights, file->weights_length) == 0, file->what, ", files as they came");
+    }
+}
+
+static void displays(void) {
+    displays_of(TASKS, shown_tasks, COUNT(shown_tasks));
+    displays_of(PARTIALS, shown_partials, COUNT(shown_partials));
+    displays_of(BAYS, shown_bays, COUNT(shown_bays));
+}
+
+/* A size of a task, a mark of an order and the columns of a bay that are badly formed are so for every call that reads the file. */
+static void badly_formed(void) {
+    static const uint8_t tasks[][3] = {{1, 0x82, 0}, {1, 0x82, 0x82}}, orders[][4] = {{1, 2, 0x81, 0}, {1, 2, 0x81, 0x81}}, bays[][3] = {{1, 0x82, 0}, {1, 0x82, 0x82}};
+    static const uint32_t numbers[] = {FLORUMEJA_PADDED, FLORUMEJA_ENDLESS};
+    static const char *const lines[] = {"refused 12 at 1\n", "refused 13 at 1\n"};
+    const uint8_t marks[] = {1}, none[] = {0};
+    uint8_t bytes[64];
+    uint64_t words[64];
+    size_t i;
+    for (i = 0; i < 2; i++) {
+        const uint8_t *task = tasks[i], *order = orders[i], *bay = bays[i];
+        const char *name = i == 0 ? "refused 12" : "refused 13";
+        uint32_t number = numbers[i];
+        expect_of(refused(florumeja_check(task, 3, none, 1), number), "check: ", name);
+        expect_of(refused(florumeja_open(task, 3, words, 64), number), "open: ", name);
+        expect_of(is(florumeja_line(task, 3, bytes, 64), FLORUMEJA_DONE, 16) && memcmp(bytes, lines[i], 16) == 0, "line: ", name);
+        expect_of(refused(florumeja_silence(task, 3, marks, 1, bytes, 64), number), "silence: ", name);
+        expect_of(refused(florumeja_mend(task, 3, bytes, 64), number), "mend: ", name);
+        expect_of(refused(florumeja_dropped(task, 3, bytes, 64), number), "dropped: ", name);
+        expect_of(refused(florumeja_pair_fault(task, 3, words, 64), number), "pair_fault: ", name);
+        expect_of(refused(florumeja_open_partial(order, 4, words, 64), number), "open_partial: ", name);
+        expect_of(refused(florumeja_check_partial(order, 4, none, 1), number), "check_partial: ", name);
+        expect_of(refused(florumeja_build_partial(order, 4, bytes, 64), number), "build_partial: ", name);
+        expect_of(refused(florumeja_build_partial_lean(order, 4, bytes, 64), number), "build_partial_lean: ", name);
+        expect_of(refused(florumeja_build(bay, 3, bytes, 64), number), "build: ", name);
+    }
+}
+
+/* An order with one silent variable of one value and as many operators as a file can count: with the one that forgets there is one too many. That is judged
+ * after 5, so a byte left over comes first, and neither has a place. */
+static void too_many_operators(void) {
+    static uint8_t order[7 + 16383 * 4 + 1];
+    static const uint8_t head[] = {1, 1, 0, 0, 0, 0xff, 0x7f}, still[] = {1, 0, 0, 0}, none[] = {0};
+    const uint64_t nowhere[] = {0, 0, 9};
+    uint64_t room[] = {9, 9, 9};
+    size_t i;
+    memcpy(order, head, sizeof head);
+    for (i = 0; i < 16383; i++) memcpy(order + sizeof head + 4 * i, still, 4);
+    expect(refused(florumeja_check_partial(order, sizeof order - 1, none, 1), FLORUMEJA_LIMIT), "16,384 operators: refused 2");
+    expect(is(florumeja_display_partial(order, sizeof order - 1, none, 0, room, 2), FLORUMEJA_IN_TASK, 0) && SAME(room, nowhere), "a 2 that is judged after 5 has no place");
+    expect(refused(florumeja_check_partial(order, sizeof order, none, 1), FLORUMEJA_LEFT_OVER), "and a byte left over: refused 5");
+}
+
+/* 64 variables of one value and as many operators of 64 entries as a file can count: 1 + 3 * 64 + 1 + 2 bytes, and 193 for each operator. The last number is badly
+ * formed, in two bytes; its line is as long as any that occurs. */
+static void farthest_place(void) {
+    enum { FIRST = 1 + 3 * 64 + 1 + 2, MANY = 1 + 64 * 3, PLACE = FIRST + 16383 * MANY - 1 };
+    static uint8_t task[PLACE + 2];
+    const uint8_t none[] = {0};
+    const uint64_t part[] = {PLACE, 2, 9};
+    uint64_t words[] = {9, 9, 9};
+    uint8_t room[FLORUMEJA_VERDICT_BYTES];
+    size_t i, j;
+    task[0] = 64;
+    memset(task + 1, 1, 64);
+    task[FIRST - 2] = 0xff;
+    task[FIRST - 1] = 0x7f;
+    for (i = 0; i < 16383; i++) {
+        task[FIRST + i * MANY] = 64;
+        for (j = 0; j < 64; j++) task[FIRST + i * MANY + 1 + 3 * j] = (uint8_t)j;
+    }
+    task[PLACE] = 0x80;
+    memset(room, 7, sizeof room);
+    expect(is(florumeja_check_line(task, sizeof task, none, 1, room, sizeof room), FLORUMEJA_DONE, 30) && memcmp(room, "refused 12 at 3162114 in task\n\7", 31) == 0, "the last number of the longest operators");
+    expect(refused(florumeja_check_line(task, sizeof task, none, 1, room, 29), FLORUMEJA_SMALL), "a byte too few for that line");
+    expect(is(florumeja_display(task, sizeof task, none, 1, words, 3), FLORUMEJA_IN_TASK, 0) && SAME(words, part), "that number is shown");
+    task[PLACE] = 0;
+    expect(is(florumeja_check(task, PLACE + 1, none, 1), FLORUMEJA_ENDS_ALIKE, 0), "with a last number of 0 the task is taken");
 }
 
 int main(void) {
     check_calls();
     check_lines();
-    longest_check_line();
+    last_operator();
     open_and_find();
     edits();
     builds_and_lines();
@@ -305,6 +541,10 @@ int main(void) {
     mends();
     drops();
     pair_faults();
+    displays();
+    badly_formed();
+    too_many_operators();
+    farthest_place();
     printf("%d passed, %d failed\n", passed, failed);
     return failed != 0;
 }

@@ -25,6 +25,9 @@ faces! {
     florumeja_check
     florumeja_check_line
     florumeja_check_partial
+    florumeja_display
+    florumeja_display_bay
+    florumeja_display_partial
     florumeja_dropped
     florumeja_find
     florumeja_line
@@ -42,10 +45,16 @@ faces! {
 const WORDS: usize = 262_401;
 const BYTES: usize = 1 << 16;
 
+/// Weights that are refused whatever the task is: one feature, 16,383.
+const PAST_ALL: [u8; 3] = [1, 0xff, 0x7f];
+
+/// A bay file that is refused for the number that is read deepest: the second byte of its rows says that more follows.
+const ENDLESS: [u8; 2] = [0x80, 0x80];
+
 /// The most bytes that each call took.
 pub fn deepest() -> HashMap<&'static str, usize> {
     let mut runs = Runs::default();
-    runs.written("florumeja_build", &[part(&bays::bay_file(3, 3))]);
+    runs.bay(&bays::bay_file(3, 3));
     for case in tasks::cases() {
         eprintln!("{} ..", case.name);
         runs.task(&case.file);
@@ -95,10 +104,18 @@ impl Runs {
         (answer, room)
     }
 
+    fn bay(&mut self, file: &[u8]) {
+        self.written("florumeja_build", &[part(file)]);
+        self.words("florumeja_display_bay", &[part(file)], 2);
+        self.words("florumeja_display_bay", &[part(&ENDLESS)], 2);
+    }
+
     fn task(&mut self, file: &[u8]) {
         let weights = self.workspace("florumeja_open", file);
         self.run("florumeja_check", &[part(file), part(&weights)].concat());
         self.written("florumeja_check_line", &[part(file), part(&weights)]);
+        self.written("florumeja_check_line", &[part(file), part(&PAST_ALL)]);
+        self.words("florumeja_display", &[part(file), part(&PAST_ALL)], 2);
         self.written("florumeja_line", &[part(file)]);
         self.written("florumeja_mend", &[part(file)]);
         self.written("florumeja_dropped", &[part(file)]);
@@ -117,6 +134,11 @@ impl Runs {
         self.run(
             "florumeja_check_partial",
             &[part(file), part(&weights)].concat(),
+        );
+        self.words(
+            "florumeja_display_partial",
+            &[part(file), part(&PAST_ALL)],
+            2,
         );
     }
 

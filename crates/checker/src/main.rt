@@ -84,12 +84,12 @@ fn show<'a>(task: &'a [u8], weights: &'a [u8]) {
     io::write_all(STDERR_FILENO, b"\n");
 }
 
-// Prints the line for the two files, and shows the bytes at fault. Files that were accepted have none, and a task file that is too long is not judged.
+// Prints the line for the two files, and shows the bytes at fault. Only a line for a refusal has an `f` there, and a task file that is too long is not judged.
 fn print<'a>(task: &'a [u8], weights: &'a [u8]) {
     let mut room = [0u8; VERDICT_BYTES];
     let printed = verdicts::program_line(task, weights, &mut room);
     io::write_all(STDOUT_FILENO, text::line_in(printed, &room));
-    if room[0] == b'a' {
+    if room[2] != b'f' {
         return;
     }
     if task.len() <= MOST_TASK {

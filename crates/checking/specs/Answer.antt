@@ -16,7 +16,7 @@ use Rattle.meaning.specs.Pair.{idle}
 use Rattle.meaning.specs.Weight.{Allows}
 use Rattle.meaning.specs.Number.{got}
 use Rattle.meaning.specs.File.{operatorsOf, judgedWeights, Acceptable}
-use Rattle.meaning.specs.Workspace.{wordsFor, has, packed}
+use Rattle.meaning.specs.Workspace.{has, packed}
 use Rattle.meaning.specs.Answer as meaning
 use Rattle.meaning.specs.Answer.{Answer, done, refused, accepted, endsAlike, breaks, Judges}
 use Rattle.theory.specs.Truth.{on, off, test, clash, xor-false-same, xor-true-differ}

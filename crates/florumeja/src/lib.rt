@@ -207,11 +207,7 @@ pub extern "C" fn florumeja_display(task: &[u8], weights: &[u8], room: &mut [u64
 
 // Where the bytes at fault of a partial task and weights for its built task lie.
 #[no_mangle]
-pub extern "C" fn florumeja_display_partial(
-    partial: &[u8],
-    weights: &[u8],
-    room: &mut [u64],
-) -> u64
+pub extern "C" fn florumeja_display_partial(partial: &[u8], weights: &[u8], room: &mut [u64]) -> u64
     ensures { λ r. ⌜ Leaves holderCode (DisplaysPartial (now (partial .entry)) (now (weights .entry)) (now (room .entry))) (record { number = r; lent = now (room .exit) }) ⌝ }
 {
     codes::displayed_number(showing::display_partial(partial, weights, room))

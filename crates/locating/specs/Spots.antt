@@ -1,11 +1,11 @@
 -- Where the first fault stands, by what the judge and the reader of weights found.
 use Prim.Native.Nat.{ℕ}
-use mathlib.Core.Path.{_≡_, refl, sym, ap, _∙_}
+use mathlib.Core.Path.{_≡_, ap, _∙_}
 use mathlib.Core.List.{List}
 use Rattle.meaning.specs.Task.{Task}
 use Rattle.meaning.specs.Number.{Reason, Read, got, fault}
 use Rattle.meaning.specs.File.{judgedWeights}
-use Rattle.meaning.specs.Place.{Spot, nowhere, inWeights, inTask, faultSpot, spotBy, spotAlone, spotBeside}
+use Rattle.meaning.specs.Place.{Spot, nowhere, inWeights, inTask, faultSpot, spotBy, spotBeside}
 use Rattle.task.specs.Answer.{KnownAs}
 
 module _ {A : Type 0} (file : ℕ → Spot) (rest : A → Spot) (spot : Spot) where

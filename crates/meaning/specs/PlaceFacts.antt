@@ -5,7 +5,7 @@ use mathlib.Core.List.{List, [], _∷_}
 use Rattle.meaning.specs.Sets.{listed, anyOf, allOf, some}
 use Rattle.meaning.specs.Feature.{sumOf, pairsOf, atoms, features, pairStart, double, both}
 use Rattle.meaning.specs.Pair.{paired, holds}
-use Rattle.meaning.specs.Number.{Ends, Padded, Endless, LeftOver, refusal, fault, groups, number, numbersOn, groupsRead, bytesRead}
+use Rattle.meaning.specs.Number.{Ends, Padded, Endless, refusal, fault, groups, number, numbersOn, groupsRead, bytesRead}
 use Rattle.meaning.specs.File.{item, judge, rising, ended, itemsOf, sizeList, header, limited, featuresOf, featureList, entriesOf, operatorOf, operatorsOf, taskOf, judgedTask, judgedWeights}
 use Rattle.meaning.specs.Answer.{done, refused}
 use Rattle.meaning.specs.Bay.{sidesOf, bayOf, occurrences, oneGap, judgedLots, judgedBay}

@@ -22,7 +22,7 @@ const PLACE_DIGITS: usize = 20;
 // The most that a number takes in a line, with its blank.
 pub const WORD_WIDTH: usize = 1 + MOST_DIGITS;
 
-// The longest line for a refusal: `refused`, its number, `at` and the place, ` in weights`, and the line's end.
+// Room for every line for a refusal: `refused`, its number, `at` and a place, ` in weights`, and the line's end.
 pub const REFUSED_BYTES: usize = 7 + WORD_WIDTH + 3 + 1 + PLACE_DIGITS + 11 + 1;
 
 // Puts bytes from a place on, and answers the place after them.
@@ -66,13 +66,7 @@ fn put_spot(text: &mut [u8], at: usize, spot: Spot, task: &[u8], weights: &[u8])
 }
 
 // Puts the line for a refusal, with the names of the two files.
-pub fn put_refused(
-    text: &mut [u8],
-    number: u64,
-    spot: Spot,
-    task: &[u8],
-    weights: &[u8],
-) -> usize
+pub fn put_refused(text: &mut [u8], number: u64, spot: Spot, task: &[u8], weights: &[u8]) -> usize
     requires { ⌜ length (refusedLine number (spotText (now task) (now weights) (spotOf spot))) ≤ length (now text) ⌝ }
     ensures { λ r. ⌜ Put (now (text .entry)) 0 (refusedLine number (spotText (now (task .entry)) (now (weights .entry)) (spotOf spot))) r (now (text .exit)) ⌝ }
 {

@@ -217,12 +217,14 @@ module _ (bytes : List ℕ) where
   groups-broken zero first place reason there h e =
       (sym (place-same e), endless (sym (reason-same e)) (record { full = refl; continuing = λ i l. absurd (omega arith) }))
   groups-broken (suc k) first place reason there h e = elim (test (ltb place (length bytes))) [
-    | off b ↦ let q : _≡_ {A = Read ℕ} (fault Ends first) (fault reason there) = rw b at e in
-        (sym (place-same q), ends (sym (reason-same q)) (rw b (record {
-          end = omega (arith, ltb-false place (length bytes) b);
-          few = omega arith;
-          continuing = λ i l. absurd (omega arith);
-        })))
+    | off b ↦ let q : _≡_ {A = Read ℕ} (fault Ends first) (fault reason there) = rw b at e in (
+      sym (place-same q),
+      ends (sym (reason-same q)) (rw b (record {
+        end = omega (arith, ltb-false place (length bytes) b);
+        few = omega arith;
+        continuing = λ i l. absurd (omega arith);
+      })),
+    )
     | on b ↦ elim (test (ltb (getD bytes place 0) group)) [
       | on c ↦ absurd (not-got (sym (rw (b, c) at e)))
       | off c ↦
@@ -539,8 +541,8 @@ unfolding limited
 limited-later check reason rest fine before behind h bytes place =
     on-on (item check reason bytes place) (λ n next. rest n bytes next) _
     ∙ on-same (item check reason bytes place) _ _ (λ n next e. on-same (rest n bytes next) _ _ (λ b after q.
-      ap (λ t. cond (fine b) (got b after) (fault Limit t))
-      (numbers-later bytes place (before b) (behind n) n next (h bytes place n next b after e q) (item-read check reason bytes place n next e))))
+    ap (λ t. cond (fine b) (got b after) (fault Limit t))
+    (numbers-later bytes place (before b) (behind n) n next (h bytes place n next b after e q) (item-read check reason bytes place n next e))))
 
 -- A limit may as well be judged before a value is made of what was read.
 limited-map : {A B : Type 0} (first : Parser A) (f : A → B) (fine : B → Bool) (k : ℕ) (bytes : List ℕ) (place : ℕ)
@@ -575,8 +577,8 @@ module _ (low : ℕ) (reason : Reason) (v : Valued reason) where
   going-limited bound (next ∷ bounds) fine =
       going-same (limited-later (inside low bound) reason _ fine _ (λ n. length bounds) (λ bytes place n middle ns after e q. refl))
       (going-then _ (going-item (inside low bound) reason v) (λ n _.
-        going-same (limited-map (itemsOf low reason (next ∷ bounds)) (λ ns. n ∷ ns) fine (length bounds))
-        (going-then _ (going-limited next bounds (λ ns. fine (n ∷ ns))) (λ ns _. going-give (n ∷ ns)))))
+      going-same (limited-map (itemsOf low reason (next ∷ bounds)) (λ ns. n ∷ ns) fine (length bounds))
+      (going-then _ (going-limited next bounds (λ ns. fine (n ∷ ns))) (λ ns _. going-give (n ∷ ns)))))
 
 -- So many sizes: the last is one number fewer behind the first.
 going-sizes : (least most v : ℕ) (fine : List ℕ → Bool) → 1 ≤ v → Going (limited (sizesOf least most v) fine (λ _. v - 1))
@@ -591,7 +593,7 @@ unfolding sizeList
 going-header least most fine =
     going-same
     (limited-later (inside leastVariables (suc mostVariables)) Limit (sizesOf least most) fine length (λ v. v - 1) (λ bytes place v next sizes after e q.
-      omega (arith, filled v (bytes, place, next, e), sizes-said bytes least most v .gives next sizes after q .known .0)))
+    omega (arith, filled v (bytes, place, next, e), sizes-said bytes least most v .gives next sizes after q .known .0)))
     (going-then _ (going-item (inside leastVariables (suc mostVariables)) Limit fit) (λ v given. going-sizes least most v fine (filled v given)))
   where
     filled : (v : ℕ) → Given (item (inside leastVariables (suc mostVariables)) Limit) v → 1 ≤ v
@@ -646,7 +648,7 @@ unfolding sidesOf
 going-sides =
     going-same (limited-later (inside leastSide (suc mostSide)) Limit _ _ _ (λ r. 0) (λ bytes place r next sides after e q. refl))
     (going-then _ (going-item (inside leastSide (suc mostSide)) Limit fit) (λ r _.
-      limited-one _ _ (one-map side (λ c. (r, c)) (one-item (inside leastSide (suc mostSide)) Limit fit))))
+    limited-one _ _ (one-map side (λ c. (r, c)) (one-item (inside leastSide (suc mostSide)) Limit fit))))
 
 -- ---- whole files
 

@@ -18,7 +18,7 @@ use writer::Written;
 // The most bytes of a task file that the program takes.
 pub const MOST_TASK: usize = 1048576;
 
-// The longest line is one for a refusal with a place.
+// Room for every line; one for a refusal with a place needs the most.
 pub const VERDICT_BYTES: usize = text::REFUSED_BYTES;
 
 // Puts the line for a verdict on weights for a task.
@@ -55,7 +55,13 @@ fn refuse_long(room: &mut [u8]) -> Written
     ensures { λ r. ⌜ outcomeOf r (now (room .exit)) ≡ delivered (verdictLine nowhere (refused (refusal Small))) (now (room .entry)) ⌝ }
 {
     let mut text = [0u8; VERDICT_BYTES];
-    let end = text::put_refused(&mut text, number::refusal(Reason::Small), Spot::Nowhere, b"", b"");
+    let end = text::put_refused(
+        &mut text,
+        number::refusal(Reason::Small),
+        Spot::Nowhere,
+        b"",
+        b"",
+    );
     text::deliver(&text[..end], room)
 }
 

@@ -1,3 +1,4 @@
+-- `main`: the task file that is written ends within the room, and the number of a refusal has few digits.
 use Prim.Native.Nat.{ℕ, _^_, _<_, _≤_}
 use mathlib.Core.Path.{_≡_, refl, sym, subst}
 use mathlib.Core.List.{List}
@@ -17,12 +18,6 @@ use Rattle.text.specs.Parts.{mostDigits, faulty-short}
 use borrow.Author.Needs.{needs}
 use Rattle.bay.proofs.main.Statement.{statement}
 use Rattle.bay.proofs.main.Tie as tie
-use Rattle.bay.proofs.main.Reads as reads
-use Rattle.bay.proofs.main.Lts as lts
-use Rattle.bay.proofs.print_refused.Reads as print-refused-reads
-use Rattle.building.proofs.build.Reads as build-reads
-use Rattle.io.proofs.read_full.Reads as read-full-reads
-use Rattle.io.proofs.write_all.Reads as write-all-reads
 
 abbrev taskBytes : ℕ
 taskBytes = 2048
@@ -43,67 +38,51 @@ ends c =
     let build = c .before .before .before .build in
     within (take (read .result) (read .last .1 .0)) (replicate taskBytes 0) _ (build .result) _ (build .ensures) (c .end .given .1)
 
--- src/main.rt:39:30
 slice-aggregate-read-full : tie.Need-slice-aggregate-read-full
 slice-aggregate-read-full c = search needs
 
--- src/main.rt:39:9
 read-full-requires : tie.Need-read-full-requires
 read-full-requires c κs = search needs
 
--- src/main.rt:41:27
 array-share-prefix-input : tie.Need-array-share-prefix-input
 array-share-prefix-input c = search needs
 
--- src/main.rt:41:27
 slice-aggregate-build : tie.Need-slice-aggregate-build
 slice-aggregate-build c = search needs
 
--- src/main.rt:41:40
 slice-aggregate-build-2 : tie.Need-slice-aggregate-build-2
 slice-aggregate-build-2 c = search needs
 
--- src/main.rt:41:11
 build-requires : tie.Need-build-requires
 build-requires c κs = search needs
 
--- src/main.rt:42:23
 enum-known-end : tie.Need-enum-known-end
 enum-known-end c = search needs
 
--- src/main.rt:43:42
 array-share-prefix-task : tie.Need-array-share-prefix-task
 array-share-prefix-task c = omega (arith, ends (c .before))
 
--- src/main.rt:43:42
 slice-aggregate-write-all : tie.Need-slice-aggregate-write-all
 slice-aggregate-write-all c = sym (length-take-le _ _ (ends (c .before .before)))
 
--- src/main.rt:43:13
 write-all-requires : tie.Need-write-all-requires
 write-all-requires c κs = search needs
 
--- src/main.rt:45:26
 enum-known-number : tie.Need-enum-known-number
 enum-known-number c = search needs
 
--- src/main.rt:46:27
 array-share-prefix-input-2 : tie.Need-array-share-prefix-input-2
 array-share-prefix-input-2 c = search needs
 
--- src/main.rt:46:27
 slice-aggregate-print-refused : tie.Need-slice-aggregate-print-refused
 slice-aggregate-print-refused c = search needs
 
--- src/main.rt:46:13
 print-refused-requires : tie.Need-print-refused-requires
 print-refused-requires c κs = let read = c .before .before .before .before .before .before .before .before .before .read-full in let build = c .before .before .before .before .before .build in short (take (read .result) (read .last .1 .0)) (replicate taskBytes 0) _ (build .result) _ (build .ensures) (c .before .before .number .given .1)
 
--- src/main.rt:37:1
 returns : tie.Need-returns
 returns c = search needs
 
--- src/main.rt:37:1
 returns-2 : tie.Need-returns-2
 returns-2 c = search needs
 

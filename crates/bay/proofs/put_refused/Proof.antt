@@ -1,3 +1,4 @@
+-- `put_refused`: the line of a refusal with the place in the bay file, which is no longer than a slice can be.
 use mathlib.Core.Path.{sym, subst}
 use mathlib.Core.List.{[]}
 use native.Mathlib.Omega.{arith}
@@ -10,34 +11,24 @@ use Rattle.text.specs.Parts.{ShortSpot, spot-short, refused-few}
 use borrow.Author.Needs.{needs}
 use Rattle.bay.proofs.put_refused.Statement.{statement}
 use Rattle.bay.proofs.put_refused.Tie as tie
-use Rattle.bay.proofs.put_refused.Reads as reads
-use Rattle.bay.proofs.put_refused.Lts as lts
-use Rattle.building.proofs.spot.Reads as spot-reads
-use Rattle.text.proofs.put_refused.Reads as put-refused-reads
 
--- src/main.rt:25:37
 spot-requires : tie.Need-spot-requires
 spot-requires c κs = search needs
 
--- src/main.rt:25:58
 slice-aggregate-put-refused : tie.Need-slice-aggregate-put-refused
 slice-aggregate-put-refused c = search needs
 
--- src/main.rt:25:63
 slice-aggregate-put-refused-2 : tie.Need-slice-aggregate-put-refused-2
 slice-aggregate-put-refused-2 c = search needs
 
--- src/main.rt:25:5
 put-refused-requires : tie.Need-put-refused-requires
 put-refused-requires c κs = let start = c .before .before .before .before .before .before in let bay = start .args .bay .now in
     let near = spot-short bay [] (omega arith) (omega arith) (spotAlone (judgedBay bay)) (spot-bay-within bay []) in
     omega (arith, refused-few [] [] (omega arith) (omega arith) (start .args .number) (spotOf (c .before .before .spot .result)) (start .pre .1) (subst ShortSpot (sym (c .before .before .spot .ensures)) near))
 
--- src/main.rt:21:1
 same-length : tie.Need-same-length
 same-length c = search needs
 
--- src/main.rt:21:1
 returns : tie.Need-returns
 unfolding bayLine placeText
 returns c = rw (← (c .before .before .before .before .before .spot .ensures)) (c .before .before .put-refused .ensures)

@@ -1,3 +1,4 @@
+-- `build` goes on with the sides that were read, or refuses by the first fault.
 use mathlib.Core.Path.{_≡_, sym, ap, _∙_}
 use native.Mathlib.Omega.{arith}
 use lib.Seq.{length-take-le}
@@ -13,11 +14,6 @@ use Rattle.building.specs.Outcomes.{sides-known, sides-faulted, sides-ma
 use borrow.Author.Needs.{needs}
 use Rattle.building.proofs.build.Statement.{statement}
 use Rattle.building.proofs.build.Tie as tie
-use Rattle.building.proofs.build.Reads as reads
-use Rattle.building.proofs.build.Lts as lts
-use Rattle.building.proofs.build_labelled.Reads as build-labelled-reads
-use Rattle.building.proofs.read_sides.Reads as read-sides-reads
-use Rattle.writer.proofs.refuse.Reads as refuse-reads
 
 -- The sides that were read.
 abbrev begin : tie.After-rows → tie.Start
@@ -29,56 +25,43 @@ sides-read c = sym (c .before .before .read-sides .ensures) ∙ ap sidesRead (c 
 known : (c : tie.After-rows) → SidesKnown (c .rows .given .0 .0) (c .rows .given .0 .1 .0)
 known c = sides-known _ _ _ _ (sides-read c)
 
--- src/lib.rt:168:11
 read-sides-requires : tie.Need-read-sides-requires
 read-sides-requires c κs = search needs
 
--- src/lib.rt:169:20
 enum-known-rows : tie.Need-enum-known-rows
 enum-known-rows c = search needs
 
--- src/lib.rt:170:21
 mul-n : tie.Need-mul-n
 mul-n c = omega (arith, known (c .before) .5)
 
--- src/lib.rt:178:17
 array-borrow-prefix-start : tie.Need-array-borrow-prefix-start
 array-borrow-prefix-start c = known (c .before) .5
 
--- src/lib.rt:178:17
 slice-aggregate-build-labelled : tie.Need-slice-aggregate-build-labelled
 slice-aggregate-build-labelled c = sym (length-take-le _ _ (known (c .before .before) .5))
 
--- src/lib.rt:179:17
 array-borrow-prefix-goal : tie.Need-array-borrow-prefix-goal
 array-borrow-prefix-goal c = known (c .before .before) .5
 
--- src/lib.rt:179:17
 slice-aggregate-build-labelled-2 : tie.Need-slice-aggregate-build-labelled-2
 slice-aggregate-build-labelled-2 c = sym (length-take-le _ _ (known (c .before .before .before) .5))
 
--- src/lib.rt:173:13
 build-labelled-requires : tie.Need-build-labelled-requires
 build-labelled-requires c κs = let few = known (c .before .before .before .before) .5 in (known (c .before .before .before .before), take-replicate _ mostSlots _ few, take-replicate _ mostSlots _ few)
 
--- src/lib.rt:183:22
 enum-known-reason : tie.Need-enum-known-reason
 enum-known-reason c = search needs
 
--- src/lib.rt:183:36
 refuse-requires : tie.Need-refuse-requires
 refuse-requires c κs = search needs
 
--- src/lib.rt:165:1
 same-length : tie.Need-same-length
 same-length c = search needs
 
--- src/lib.rt:165:1
 returns : tie.Need-returns
 returns c = let sides = c .before .before .before .before .before .before .before .before .before in let a = begin sides .args in
     builds-made (a .bay .now) (a .room .now) _ (c .before .before .before .before .build-labelled .ensures ∙ ap (λ r. madeOf bayTask (judged r) (a .room .now)) (sym (sides-made _ _ _ _ (sides-read sides))))
 
--- src/lib.rt:165:1
 returns-2 : tie.Need-returns-2
 returns-2 c = let a = c .before .before .before .before .before .before .before .args in let reason = c .before .before .reason .given .0 .0 in
     let found = sides-faulted (a .bay .now) (reasonOf reason) _ (sym (c .before .before .before .before .read-sides .ensures) ∙ ap sidesRead (c .before .before .reason .given .1)) in

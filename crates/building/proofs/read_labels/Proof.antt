@@ -1,4 +1,5 @@
-use mathlib.Core.Path.{_≡_, sym, ap, _∙_}
+-- `read_labels` reads a label over each bound, of the start and then of the goal, and that nothing follows.
+use mathlib.Core.Path.{_≡_, ap, _∙_}
 use native.Mathlib.Omega.{arith}
 use lib.ListN.{length, length-replicate}
 use Rattle.meaning.specs.Number.{got}
@@ -10,9 +11,6 @@ use Rattle.building.specs.Outcomes.{start-fault, goal-fault, left-over, 
 use borrow.Author.Needs.{needs}
 use Rattle.building.proofs.read_labels.Statement.{statement}
 use Rattle.building.proofs.read_labels.Tie as tie
-use Rattle.building.proofs.read_labels.Reads as reads
-use Rattle.building.proofs.read_labels.Lts as lts
-use Rattle.reader.proofs.items_at.Reads as items-at-reads
 
 -- There are n bounds for the start, and as many for the goal.
 start-long : (c : tie.Start) → length (c .args .start .now) ≡ c .args .n
@@ -41,72 +39,57 @@ goal-read c =
     let start = begin (first c) in
     labels-read (start .args .n) _ _ (start .args .goal .now) (start .args .n) _ _ (start .pre .1) (omega (arith, goal-long start)) (c .before .before .before .before .items-at2 .ensures) _ (c .end .given .1)
 
--- src/lib.rt:121:11
 items-at-requires : tie.Need-items-at-requires
 items-at-requires c κs = let start = c .before .before .before .before in (omega (arith, start-long start), omega (arith, start-long start), apart-same 0 _)
 
--- src/lib.rt:122:20
 enum-known-next : tie.Need-enum-known-next
 enum-known-next c = search needs
 
--- src/lib.rt:122:35
 items-at-requires-2 : tie.Need-items-at-requires-2
 items-at-requires-2 c κs = let start = c .before .before .before .before .before .before .before .before .before .before .before in (omega (arith, goal-long start), omega (arith, goal-long start), apart-same 0 _)
 
--- src/lib.rt:132:24
 enum-known-end : tie.Need-enum-known-end
 enum-known-end c = search needs
 
--- src/lib.rt:134:21
 same-length : tie.Need-same-length
 same-length c = search needs
 
--- src/lib.rt:134:21
 same-length-2 : tie.Need-same-length-2
 same-length-2 c = search needs
 
--- src/lib.rt:134:21
 returns : tie.Need-returns
 returns c = left-over _ _ _ _ _ (start-read (first (c .before .before))) _ _ (goal-read (c .before .before)) (c .if1 .taken)
 
--- src/lib.rt:138:25
 enum-known-reason : tie.Need-enum-known-reason
 enum-known-reason c = search needs
 
--- src/lib.rt:140:21
 enum-known-reason-2 : tie.Need-enum-known-reason-2
 enum-known-reason-2 c = search needs
 
--- src/lib.rt:117:1
 same-length-3 : tie.Need-same-length-3
 same-length-3 c = search needs
 
--- src/lib.rt:117:1
 same-length-4 : tie.Need-same-length-4
 same-length-4 c = search needs
 
--- src/lib.rt:117:1
 returns-2 : tie.Need-returns-2
 returns-2 c = labelled-whole _ _ _ _ _ (start-read (first (c .before .before))) _ _ (goal-read (c .before .before)) (c .if1 .left)
 
--- src/lib.rt:117:1
 same-length-5 : tie.Need-same-length-5
 same-length-5 c = search needs
 
--- src/lib.rt:117:1
 same-length-6 : tie.Need-same-length-6
 same-length-6 c = search needs
 
--- src/lib.rt:117:1
 returns-3 : tie.Need-returns-3
-returns-3 c = let a = begin (c .before .before .before .before .before .before .before .before) in
-    goal-fault _ _ _ _ _ (start-read (c .before .before .before .before .before .before .before .before)) _ _ (labels-fault (a .args .n) _ _ (a .args .goal .now) (a .args .n) _ _ (a .pre .1) (omega (arith, goal-long a)) (c .before .before .before .before .before .items-at2 .ensures) _ _ (c .before .reason .given .1))
+returns-3 c =
+    let next = c .before .before .before .before .before .before .before .before in
+    let a = begin next in
+    goal-fault _ _ _ _ _ (start-read next) _ _ (labels-fault (a .args .n) _ _ (a .args .goal .now) (a .args .n) _ _ (a .pre .1) (omega (arith, goal-long a)) (c .before .before .before .before .before .items-at2 .ensures) _ _ (c .before .reason .given .1))
 
--- src/lib.rt:117:1
 same-length-7 : tie.Need-same-length-7
 same-length-7 c = search needs
 
--- src/lib.rt:117:1
 returns-4 : tie.Need-returns-4
 returns-4 c = let a = c .before .before .before .before .before .before .before .before .before .before in
     start-fault _ _ _ _ _ (labels-fault (a .args .n) _ _ (a .args .start .now) (a .args .n) _ _ (a .pre .0) (omega (arith, start-long a)) (c .before .before .before .before .before .items-at .ensures) _ _ (c .before .reason2 .given .1))

@@ -1,3 +1,4 @@
+-- `spot`: a fault of the sides or of the labels has its place; what is judged of labels that were read has none.
 use mathlib.Core.Path.{_≡_, sym, ap, _∙_}
 use native.Mathlib.Omega.{arith}
 use lib.Seq.{length-take-le}
@@ -10,11 +11,6 @@ use Rattle.building.specs.Outcomes.{sides-known, sides-faulted, sides-ma
 use borrow.Author.Needs.{needs}
 use Rattle.building.proofs.spot.Statement.{statement}
 use Rattle.building.proofs.spot.Tie as tie
-use Rattle.building.proofs.spot.Reads as reads
-use Rattle.building.proofs.spot.Lts as lts
-use Rattle.building.proofs.read_labels.Reads as read-labels-reads
-use Rattle.building.proofs.read_sides.Reads as read-sides-reads
-use Rattle.placing.proofs.placed.Reads as placed-reads
 
 -- The sides that were read.
 abbrev begin : tie.After-rows → tie.Start
@@ -26,66 +22,51 @@ sides-read c = sym (c .before .before .read-sides .ensures) ∙ ap sidesRead (c 
 known : (c : tie.After-rows) → SidesKnown (c .rows .given .0 .0) (c .rows .given .0 .1 .0)
 known c = sides-known _ _ _ _ (sides-read c)
 
--- src/lib.rt:191:11
 read-sides-requires : tie.Need-read-sides-requires
 read-sides-requires c κs = search needs
 
--- src/lib.rt:192:20
 enum-known-rows : tie.Need-enum-known-rows
 enum-known-rows c = search needs
 
--- src/lib.rt:193:21
 mul-n : tie.Need-mul-n
 mul-n c = omega (arith, known (c .before) .5)
 
--- src/lib.rt:196:45
 array-borrow-prefix-start : tie.Need-array-borrow-prefix-start
 array-borrow-prefix-start c = known (c .before) .5
 
--- src/lib.rt:196:45
 slice-aggregate-read-labels : tie.Need-slice-aggregate-read-labels
 slice-aggregate-read-labels c = sym (length-take-le _ _ (known (c .before .before) .5))
 
--- src/lib.rt:196:62
 array-borrow-prefix-goal : tie.Need-array-borrow-prefix-goal
 array-borrow-prefix-goal c = known (c .before .before) .5
 
--- src/lib.rt:196:62
 slice-aggregate-read-labels-2 : tie.Need-slice-aggregate-read-labels-2
 slice-aggregate-read-labels-2 c = sym (length-take-le _ _ (known (c .before .before .before) .5))
 
--- src/lib.rt:196:19
 read-labels-requires : tie.Need-read-labels-requires
 read-labels-requires c κs = let few = known (c .before .before .before) .5 in (take-replicate _ mostSlots _ few, take-replicate _ mostSlots _ few)
 
--- src/lib.rt:197:34
 enum-told : tie.Need-enum-told
 enum-told c = search needs
 
--- src/lib.rt:198:29
 enum-known-reason : tie.Need-enum-known-reason
 enum-known-reason c = search needs
 
--- src/lib.rt:198:47
 placed-requires : tie.Need-placed-requires
 placed-requires c κs = search needs
 
--- src/lib.rt:201:22
 enum-known-reason-2 : tie.Need-enum-known-reason-2
 enum-known-reason-2 c = search needs
 
--- src/lib.rt:201:40
 placed-requires-2 : tie.Need-placed-requires-2
 placed-requires-2 c κs = search needs
 
--- src/lib.rt:188:1
 returns : tie.Need-returns
 returns c =
     let sides = c .before .before .before .before .before .before .before .before in
     let told = sides .rows .given .0 in
     spot-none _ _ _ (sides-made _ _ _ _ (sides-read sides) ∙ bay-read _ _ _ (told .0) (told .1 .0) _ _ (c .before .before .before .before .read-labels .ensures) _ (c .enum-told .given .1))
 
--- src/lib.rt:188:1
 returns-2 : tie.Need-returns-2
 returns-2 c =
     let sides = c .before .before .before .before .before .before .before .before .before .before in
@@ -93,7 +74,6 @@ returns-2 c =
     let found = bay-faulted _ _ _ (told .0) (told .1 .0) _ _ (c .before .before .before .before .before .before .read-labels .ensures) _ _ (c .before .before .reason .given .1) in
     spot-fault _ _ _ _ (sides-made _ _ _ _ (sides-read sides) ∙ found) (c .placed .ensures)
 
--- src/lib.rt:188:1
 returns-3 : tie.Need-returns-3
 returns-3 c = spot-fault _ _ _ _ (sides-faulted _ _ _ (sym (c .before .before .before .before .read-sides .ensures) ∙ ap sidesRead (c .before .before .reason2 .given .1))) (c .placed2 .ensures)
 

@@ -1,3 +1,4 @@
+-- `print`: the line ends within the room.
 use Prim.Native.Nat.{ℕ}
 use lib.ListN.{replicate}
 use Rattle.meaning.specs.Line.{ChecksFiles, filesSpot, verdictLine}
@@ -6,52 +7,36 @@ use Rattle.verdicts.specs.Fits.{verdictBytes}
 use borrow.Author.Needs.{needs}
 use Rattle.checker.proofs.print.Statement.{statement}
 use Rattle.checker.proofs.print.Tie as tie
-use Rattle.checker.proofs.print.Reads as reads
-use Rattle.checker.proofs.print.Lts as lts
-use Rattle.checker.proofs.show.Reads as show-reads
-use Rattle.io.proofs.write_all.Reads as write-all-reads
-use Rattle.text.proofs.line_in.Reads as line-in-reads
-use Rattle.verdicts.proofs.program_line.Reads as program-line-reads
 
--- src/main.rt:90:57
 slice-aggregate-program-line : tie.Need-slice-aggregate-program-line
 slice-aggregate-program-line c = search needs
 
--- src/main.rt:90:9
 program-line-requires : tie.Need-program-line-requires
 program-line-requires c κs = search needs
 
--- src/main.rt:91:57
 slice-aggregate-line-in : tie.Need-slice-aggregate-line-in
 slice-aggregate-line-in c = search needs
 
--- src/main.rt:91:34
 line-in-requires : tie.Need-line-in-requires
 line-in-requires c κs = let files = c .before .before .before .before .before .before .args in
     let printed = c .before .before .program-line in
     line-of-ends (ChecksFiles (files .task .now) (files .weights .now)) (verdictLine (filesSpot (files .task .now) (files .weights .now))) (replicate {A = ℕ} verdictBytes 0) _ (printed .result) (printed .ensures)
 
--- src/main.rt:91:5
 write-all-requires : tie.Need-write-all-requires
 write-all-requires c κs = search needs
 
--- src/main.rt:92:8
 array-read-if1 : tie.Need-array-read-if1
 array-read-if1 c = search needs
 
--- src/main.rt:93:9
 returns : tie.Need-returns
 returns c = search needs
 
--- src/main.rt:96:9
 show-requires : tie.Need-show-requires
 show-requires c κs = search needs
 
--- src/main.rt:88:1
 returns-2 : tie.Need-returns-2
 returns-2 c = search needs
 
--- src/main.rt:88:1
 returns-3 : tie.Need-returns-3
 returns-3 c = search needs
 

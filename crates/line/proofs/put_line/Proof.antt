@@ -1,84 +1,63 @@
-use mathlib.Core.Path.{sym, ap, subst, _∙_}
+-- `put_line`: each answer has its line, a refusal with the place of the input's first fault.
+use mathlib.Core.Path.{sym, subst}
 use mathlib.Core.List.{[]}
 use native.Mathlib.Omega.{arith}
-use Rattle.meaning.specs.Line.{spotText, placeText, refusedLine, line}
+use Rattle.meaning.specs.Line.{placeText, line}
 use Rattle.placing.specs.Answers.{spotOf}
 use Rattle.text.specs.Parts.{ShortSpot, refused-few}
 use Rattle.line.specs.Fits.{ShortNumber, printed-short}
 use borrow.Author.Needs.{needs}
 use Rattle.line.proofs.put_line.Statement.{statement}
 use Rattle.line.proofs.put_line.Tie as tie
-use Rattle.line.proofs.put_line.Reads as reads
-use Rattle.line.proofs.put_line.Lts as lts
-use Rattle.line.proofs.input_spot.Reads as input-spot-reads
-use Rattle.line.proofs.put_separated.Reads as put-separated-reads
-use Rattle.text.proofs.put.Reads as put-reads
-use Rattle.text.proofs.put_refused.Reads as put-refused-reads
 
--- src/lib.rt:82:43
 enum-told : tie.Need-enum-told
 enum-told c = search needs
 
--- src/lib.rt:82:29
 put-separated-requires : tie.Need-put-separated-requires
 put-separated-requires c κs = search needs
 
--- src/lib.rt:83:37
 enum-told-2 : tie.Need-enum-told-2
 enum-told-2 c = search needs
 
--- src/lib.rt:83:46
 slice-aggregate-put : tie.Need-slice-aggregate-put
 slice-aggregate-put c = search needs
 
--- src/lib.rt:83:27
 put-requires : tie.Need-put-requires
 put-requires c κs = search needs
 
--- src/lib.rt:84:24
 enum-known-found : tie.Need-enum-known-found
 enum-known-found c = search needs
 
--- src/lib.rt:84:67
 input-spot-requires : tie.Need-input-spot-requires
 input-spot-requires c κs = search needs
 
--- src/lib.rt:84:86
 slice-aggregate-put-refused : tie.Need-slice-aggregate-put-refused
 slice-aggregate-put-refused c = search needs
 
--- src/lib.rt:84:91
 slice-aggregate-put-refused-2 : tie.Need-slice-aggregate-put-refused-2
 slice-aggregate-put-refused-2 c = search needs
 
--- src/lib.rt:84:35
 put-refused-requires : tie.Need-put-refused-requires
 put-refused-requires c κs = let input = c .before .before .before .before .before .before .before .before .before .before .args .input .now in let number = c .before .before .before .before .before .found .given .0 .0 in
     omega (arith, refused-few [] [] (omega arith) (omega arith) number (spotOf (c .before .before .input-spot .result)) (subst ShortNumber (c .before .before .before .before .before .found .given .1) (c .before .before .before .before .before .before .before .before .before .before .pre .2)) (subst ShortSpot (sym (c .before .before .input-spot .ensures)) (printed-short input)))
 
--- src/lib.rt:77:1
 same-length : tie.Need-same-length
 same-length c = search needs
 
--- src/lib.rt:77:1
 returns : tie.Need-returns
 unfolding line
 returns c = rw (c .before .before .before .before .enum-told .given .1) (c .before .before .put-separated .ensures)
 
--- src/lib.rt:77:1
 same-length-2 : tie.Need-same-length-2
 same-length-2 c = search needs
 
--- src/lib.rt:77:1
 returns-2 : tie.Need-returns-2
 unfolding line
 returns-2 c = rw (c .before .before .before .before .before .enum-told2 .given .1) (c .before .before .put .ensures)
 
--- src/lib.rt:77:1
 same-length-3 : tie.Need-same-length-3
 same-length-3 c = search needs
 
--- src/lib.rt:77:1
 returns-3 : tie.Need-returns-3
 unfolding line placeText
 returns-3 c = let input = c .before .before .before .before .before .before .before .before .before .before .before .before .before .args .input .now in rw (c .before .before .before .before .before .before .before .before .found .given .1, ← (c .before .before .before .before .before .input-spot .ensures)) (c .before .before .put-refused .ensures)

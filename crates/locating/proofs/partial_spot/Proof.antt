@@ -1,3 +1,4 @@
+-- `partial_spot`: the first fault of the partial file, or of the weights for the task that is built.
 use lib.ListN.{replicate}
 use Rattle.meaning.specs.Limits.{mostVariables, mostFeatures}
 use Rattle.meaning.specs.Workspace.{slotsAt}
@@ -9,46 +10,33 @@ use Rattle.locating.specs.Spots.{fault-spot, weights-spot}
 use borrow.Author.Needs.{needs}
 use Rattle.locating.proofs.partial_spot.Statement.{statement}
 use Rattle.locating.proofs.partial_spot.Tie as tie
-use Rattle.locating.proofs.partial_spot.Reads as reads
-use Rattle.locating.proofs.partial_spot.Lts as lts
-use Rattle.locating.proofs.weights_spot.Reads as weights-spot-reads
-use Rattle.order.proofs.judge.Reads as judge-reads
-use Rattle.placing.proofs.placed.Reads as placed-reads
 
 -- What is known of the task that is built for an accepted file.
 known : (c : tie.After-features) → let told = c .features .given .0 in
     KnownAs (judgedPartial leftOut (c .before .before .before .before .before .before .before .args .partial .now)) (replicate (slotsAt mostVariables mostFeatures) 0) (c .before .before .before .judge .last .1 .1 .0) (told .0) (told .1 .0)
 known c = partial-accepted _ _ _ _ _ (c .before .before .before .judge .ensures) _ _ _ _ _ (c .features .given .1) .accepted
 
--- src/lib.rt:65:40
 slice-aggregate-judge : tie.Need-slice-aggregate-judge
 slice-aggregate-judge c = search needs
 
--- src/lib.rt:65:11
 judge-requires : tie.Need-judge-requires
 judge-requires c κs = search needs
 
--- src/lib.rt:68:13
 enum-known-features : tie.Need-enum-known-features
 enum-known-features c = search needs
 
--- src/lib.rt:72:14
 weights-spot-requires : tie.Need-weights-spot-requires
 weights-spot-requires c κs = known-room (known (c .before)) .features
 
--- src/lib.rt:73:32
 enum-known-reason : tie.Need-enum-known-reason
 enum-known-reason c = search needs
 
--- src/lib.rt:73:50
 placed-requires : tie.Need-placed-requires
 placed-requires c κs = search needs
 
--- src/lib.rt:61:1
 returns : tie.Need-returns
 returns c = weights-spot (known (c .before .before)) _ _ (c .weights-spot .ensures)
 
--- src/lib.rt:61:1
 returns-2 : tie.Need-returns-2
 returns-2 c = fault-spot inTask _ _ _ _ _ (partial-refused _ _ _ _ _ (c .before .before .before .before .before .judge .ensures) _ _ (c .before .before .reason .given .1)) (c .placed .ensures)
 

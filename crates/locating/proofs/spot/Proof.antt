@@ -1,3 +1,4 @@
+-- `spot`: the first fault of the task, or of the weights for its features.
 use lib.ListN.{replicate}
 use Rattle.meaning.specs.Limits.{mostVariables, mostFeatures}
 use Rattle.meaning.specs.Workspace.{slotsAt}
@@ -8,46 +9,33 @@ use Rattle.locating.specs.Spots.{fault-spot, weights-spot}
 use borrow.Author.Needs.{needs}
 use Rattle.locating.proofs.spot.Statement.{statement}
 use Rattle.locating.proofs.spot.Tie as tie
-use Rattle.locating.proofs.spot.Reads as reads
-use Rattle.locating.proofs.spot.Lts as lts
-use Rattle.locating.proofs.weights_spot.Reads as weights-spot-reads
-use Rattle.placing.proofs.placed.Reads as placed-reads
-use Rattle.task.proofs.judge.Reads as judge-reads
 
 -- What is known of an accepted task.
 known : (c : tie.After-features) → let told = c .features .given .0 in
     KnownAs (judgedTask (c .before .before .before .before .before .before .before .args .task .now)) (replicate (slotsAt mostVariables mostFeatures) 0) (c .before .before .before .judge .last .1 .0) (told .0) (told .1 .0)
 known c = judged-accepted _ _ _ _ _ _ _ _ (c .before .before .before .judge .ensures) (c .features .given .1) .accepted
 
--- src/lib.rt:49:29
 slice-aggregate-judge : tie.Need-slice-aggregate-judge
 slice-aggregate-judge c = search needs
 
--- src/lib.rt:49:11
 judge-requires : tie.Need-judge-requires
 judge-requires c κs = search needs
 
--- src/lib.rt:52:13
 enum-known-features : tie.Need-enum-known-features
 enum-known-features c = search needs
 
--- src/lib.rt:55:14
 weights-spot-requires : tie.Need-weights-spot-requires
 weights-spot-requires c κs = known-room (known (c .before)) .features
 
--- src/lib.rt:56:25
 enum-known-reason : tie.Need-enum-known-reason
 enum-known-reason c = search needs
 
--- src/lib.rt:56:43
 placed-requires : tie.Need-placed-requires
 placed-requires c κs = search needs
 
--- src/lib.rt:45:1
 returns : tie.Need-returns
 returns c = weights-spot (known (c .before .before)) _ _ (c .weights-spot .ensures)
 
--- src/lib.rt:45:1
 returns-2 : tie.Need-returns-2
 returns-2 c = fault-spot inTask _ _ _ _ _ (judged-refused _ _ _ _ _ _ (c .before .before .before .before .before .judge .ensures) (c .before .before .reason .given .1)) (c .placed .ensures)
 

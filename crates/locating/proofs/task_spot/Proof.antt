@@ -1,3 +1,4 @@
+-- `task_spot`: the first fault of the task.
 use mathlib.Core.Path.{refl}
 use Rattle.meaning.specs.Place.{nowhere, inTask}
 use Rattle.task.specs.Answer.{judged-told, judged-refused}
@@ -5,36 +6,25 @@ use Rattle.locating.specs.Spots.{fault-spot, next-spot}
 use borrow.Author.Needs.{needs}
 use Rattle.locating.proofs.task_spot.Statement.{statement}
 use Rattle.locating.proofs.task_spot.Tie as tie
-use Rattle.locating.proofs.task_spot.Reads as reads
-use Rattle.locating.proofs.task_spot.Lts as lts
-use Rattle.placing.proofs.placed.Reads as placed-reads
-use Rattle.task.proofs.judge.Reads as judge-reads
 
--- src/lib.rt:33:29
 slice-aggregate-judge : tie.Need-slice-aggregate-judge
 slice-aggregate-judge c = search needs
 
--- src/lib.rt:33:11
 judge-requires : tie.Need-judge-requires
 judge-requires c κs = search needs
 
--- src/lib.rt:39:14
 enum-told : tie.Need-enum-told
 enum-told c = search needs
 
--- src/lib.rt:40:25
 enum-known-reason : tie.Need-enum-known-reason
 enum-known-reason c = search needs
 
--- src/lib.rt:40:43
 placed-requires : tie.Need-placed-requires
 placed-requires c κs = search needs
 
--- src/lib.rt:29:1
 returns : tie.Need-returns
 returns c = let told = judged-told _ _ _ _ _ _ _ _ (c .before .before .before .judge .ensures) (c .enum-told .given .1) in next-spot inTask (λ _. nowhere) nowhere _ (told .task) (told .next) (told .judged) refl
 
--- src/lib.rt:29:1
 returns-2 : tie.Need-returns-2
 returns-2 c = fault-spot inTask (λ _. nowhere) _ _ _ _ (judged-refused _ _ _ _ _ _ (c .before .before .before .before .before .judge .ensures) (c .before .before .reason .given .1)) (c .placed .ensures)
 

@@ -1,3 +1,4 @@
+-- `weights_spot`: the first fault that is found as the weights are read.
 use mathlib.Core.Path.{refl}
 use native.Mathlib.Omega.{arith}
 use lib.ListN.{length-take}
@@ -8,45 +9,31 @@ use Rattle.locating.specs.Spots.{fault-spot, next-spot}
 use borrow.Author.Needs.{needs}
 use Rattle.locating.proofs.weights_spot.Statement.{statement}
 use Rattle.locating.proofs.weights_spot.Tie as tie
-use Rattle.locating.proofs.weights_spot.Reads as reads
-use Rattle.locating.proofs.weights_spot.Lts as lts
-use Rattle.layout.proofs.words_for.Reads as words-for-reads
-use Rattle.placing.proofs.placed.Reads as placed-reads
-use Rattle.reader.proofs.read_weights.Reads as read-weights-reads
 
--- src/lib.rt:21:9
 words-for-requires : tie.Need-words-for-requires
 words-for-requires c κs = search needs
 
--- src/lib.rt:22:44
 array-borrow-prefix-words : tie.Need-array-borrow-prefix-words
 array-borrow-prefix-words c = search needs
 
--- src/lib.rt:22:44
 slice-aggregate-read-weights : tie.Need-slice-aggregate-read-weights
 slice-aggregate-read-weights c = simp length-take (omega (arith, c .before .words-for .ensures, c .before .before .before .pre))
 
--- src/lib.rt:22:11
 read-weights-requires : tie.Need-read-weights-requires
 read-weights-requires c κs = room-zeros _ _ (c .before .before .before .pre) (c .before .words-for .ensures)
 
--- src/lib.rt:23:26
 enum-told : tie.Need-enum-told
 enum-told c = search needs
 
--- src/lib.rt:24:21
 enum-known-reason : tie.Need-enum-known-reason
 enum-known-reason c = search needs
 
--- src/lib.rt:24:39
 placed-requires : tie.Need-placed-requires
 placed-requires c κs = search needs
 
--- src/lib.rt:16:1
 returns : tie.Need-returns
 returns c = let (ws, read, held) = reads-next _ _ _ _ _ (c .before .before .before .read-weights .ensures) (c .enum-told .given .1) in next-spot inWeights (λ _. nowhere) nowhere _ ws _ read refl
 
--- src/lib.rt:16:1
 returns-2 : tie.Need-returns-2
 returns-2 c = fault-spot inWeights (λ _. nowhere) _ _ _ _ (reads-fault _ _ _ _ _ _ (c .before .before .before .before .before .read-weights .ensures) (c .before .before .reason .given .1)) (c .placed .ensures)
 

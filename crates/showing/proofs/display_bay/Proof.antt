@@ -1,36 +1,26 @@
+-- `display_bay`: the words are those of the part of the bay file.
 use mathlib.Core.Path.{ap, _∙_}
 use Rattle.meaning.specs.Place.{partAt, shownBay}
 use Rattle.showing.specs.Answer.{displays}
 use borrow.Author.Needs.{needs}
 use Rattle.showing.proofs.display_bay.Statement.{statement}
 use Rattle.showing.proofs.display_bay.Tie as tie
-use Rattle.showing.proofs.display_bay.Reads as reads
-use Rattle.showing.proofs.display_bay.Lts as lts
-use Rattle.building.proofs.spot.Reads as spot-reads
-use Rattle.placing.proofs.part_at.Reads as part-at-reads
-use Rattle.showing.proofs.put_part.Reads as put-part-reads
 
--- src/lib.rt:84:36
 slice-aggregate-part-at : tie.Need-slice-aggregate-part-at
 slice-aggregate-part-at c = search needs
 
--- src/lib.rt:84:41
 spot-requires : tie.Need-spot-requires
 spot-requires c κs = search needs
 
--- src/lib.rt:84:14
 part-at-requires : tie.Need-part-at-requires
 part-at-requires c κs = search needs
 
--- src/lib.rt:84:5
 put-part-requires : tie.Need-put-part-requires
 put-part-requires c κs = search needs
 
--- src/lib.rt:81:1
 same-length : tie.Need-same-length
 same-length c = search needs
 
--- src/lib.rt:81:1
 returns : tie.Need-returns
 unfolding shownBay
 returns c = displays (c .before .before .before .before .part-at .result) (c .before .before .before .before .before .before .before .before .before .args .room .now) _ (c .before .before .put-part .ensures) _ (c .before .before .before .before .part-at .ensures ∙ ap (partAt _ _) (c .before .before .before .before .before .spot .ensures))

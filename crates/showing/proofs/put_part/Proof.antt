@@ -1,56 +1,42 @@
+-- `put_part`: two words are written, or none where there is no room for them.
 use Rattle.showing.specs.Answer.{too-small, task-words, weights-words}
 use borrow.Author.Needs.{needs}
 use Rattle.showing.proofs.put_part.Statement.{statement}
 use Rattle.showing.proofs.put_part.Tie as tie
-use Rattle.showing.proofs.put_part.Reads as reads
-use Rattle.showing.proofs.put_part.Lts as lts
-use Rattle.number.proofs.refusal.Reads as refusal-reads
 
--- src/lib.rt:49:35
 refusal-requires : tie.Need-refusal-requires
 refusal-requires c κs = search needs
 
--- src/lib.rt:49:9
 returns : tie.Need-returns
 returns c = let a = c .before .before .before .args in too-small (a .room .now) (a .part) (c .before .if1 .taken) _ (c .refusal .ensures)
 
--- src/lib.rt:52:22
 enum-known-part : tie.Need-enum-known-part
 enum-known-part c = search needs
 
--- src/lib.rt:53:13
 slice-write-room : tie.Need-slice-write-room
 slice-write-room c = search needs
 
--- src/lib.rt:54:13
 slice-write-room-2 : tie.Need-slice-write-room-2
 slice-write-room-2 c = search needs
 
--- src/lib.rt:57:25
 enum-known-part-2 : tie.Need-enum-known-part-2
 enum-known-part-2 c = search needs
 
--- src/lib.rt:58:13
 slice-write-room-3 : tie.Need-slice-write-room-3
 slice-write-room-3 c = search needs
 
--- src/lib.rt:59:13
 slice-write-room-4 : tie.Need-slice-write-room-4
 slice-write-room-4 c = search needs
 
--- src/lib.rt:45:1
 same-length : tie.Need-same-length
 same-length c = search needs
 
--- src/lib.rt:45:1
 returns-2 : tie.Need-returns-2
 returns-2 c = let a = c .before .before .before .before .before .args in task-words (a .room .now) (a .part) _ _ (c .before .before .before .if1 .left) (c .before .part .given .1)
 
--- src/lib.rt:45:1
 same-length-2 : tie.Need-same-length-2
 same-length-2 c = search needs
 
--- src/lib.rt:45:1
 returns-3 : tie.Need-returns-3
 returns-3 c = let a = c .before .before .before .before .before .args in weights-words (a .room .now) (a .part) _ _ (c .before .before .before .if1 .left) (c .before .part2 .given .1)
 

@@ -1,34 +1,25 @@
+-- `put_place`: three parts one behind the other.
 use native.Mathlib.Omega.{arith}
 use Rattle.text.specs.Parts.{place-put, place-long}
 use borrow.Author.Needs.{needs}
 use Rattle.text.proofs.put_place.Statement.{statement}
 use Rattle.text.proofs.put_place.Tie as tie
-use Rattle.text.proofs.put_place.Reads as reads
-use Rattle.text.proofs.put_place.Lts as lts
-use Rattle.decimal.proofs.put_word.Reads as put-word-reads
-use Rattle.text.proofs.put.Reads as put-reads
 
--- src/lib.rt:51:31
 slice-aggregate-put : tie.Need-slice-aggregate-put
 slice-aggregate-put c = search needs
 
--- src/lib.rt:51:9
 put-requires : tie.Need-put-requires
 put-requires c κs = let a = c .before .before .before .before .args in omega (arith, place-long (a .place) (a .file .now))
 
--- src/lib.rt:52:9
 put-word-requires : tie.Need-put-word-requires
 put-word-requires c κs = let a = c .before .before .before .before .before .before .before .before .args in omega (arith, place-long (a .place) (a .file .now), c .before .before .before .put .ensures .place)
 
--- src/lib.rt:53:5
 put-requires-2 : tie.Need-put-requires-2
 put-requires-2 c κs = let a = c .before .before .before .before .before .before .before .before .before .before .before .before .args in omega (arith, place-long (a .place) (a .file .now), c .before .before .before .before .before .before .before .put .ensures .place, c .before .before .before .put-word .ensures .place)
 
--- src/lib.rt:47:1
 same-length : tie.Need-same-length
 same-length c = search needs
 
--- src/lib.rt:47:1
 returns : tie.Need-returns
 returns c = place-put _ _ (omega arith) (c .before .before .before .before .before .before .before .before .before .before .put .ensures) (c .before .before .before .before .before .before .put-word .ensures) (c .before .before .put2 .ensures)
 

@@ -1,54 +1,54 @@
-use mathlib.Core.Path.{ap}
+-- `put_spot`: each spot has its text.
+use mathlib.Core.Path.{_≡_, ap}
+use mathlib.Core.List.{_++_}
 use native.Mathlib.Omega.{arith}
 use lib.ListN.{length}
+use Rattle.meaning.specs.Line.{atPlace, spotText}
+use Rattle.placing.specs.Answers.{spotOf}
 use Rattle.decimal.specs.Put.{put-none}
 use Rattle.text.specs.Parts.{spot-none, spot-task, spot-weights}
 use borrow.Author.Needs.{needs}
 use Rattle.text.proofs.put_spot.Statement.{statement}
 use Rattle.text.proofs.put_spot.Tie as tie
-use Rattle.text.proofs.put_spot.Reads as reads
-use Rattle.text.proofs.put_spot.Lts as lts
-use Rattle.text.proofs.put_place.Reads as put-place-reads
 
--- src/lib.rt:62:26
+-- What is put for a place in the task, and for one in the weights.
+in-task : (c : tie.After-spot) → let a = c .before .before .before .before .before .args in
+    spotText (a .task .now) (a .weights .now) (spotOf (a .spot)) ≡ atPlace (c .spot .given .0 .0) ++ a .task .now
+in-task c = spot-task _ _ _ _ (c .spot .given .1)
+
+in-weights : (c : tie.After-spot2) → let a = c .before .before .before .before .before .args in
+    spotText (a .task .now) (a .weights .now) (spotOf (a .spot)) ≡ atPlace (c .spot2 .given .0 .0) ++ a .weights .now
+in-weights c = spot-weights _ _ _ _ (c .spot2 .given .1)
+
 enum-told : tie.Need-enum-told
 enum-told c = search needs
 
--- src/lib.rt:63:22
 enum-known-spot : tie.Need-enum-known-spot
 enum-known-spot c = search needs
 
--- src/lib.rt:63:32
 put-place-requires : tie.Need-put-place-requires
-put-place-requires c κs = let a = c .before .before .before .before .before .before .before .args in omega (arith, ap length (spot-task (a .task .now) (a .weights .now) (a .spot) _ (c .before .before .spot .given .1)))
+put-place-requires c κs = omega (arith, ap length (in-task (c .before .before)))
 
--- src/lib.rt:64:25
 enum-known-spot-2 : tie.Need-enum-known-spot-2
 enum-known-spot-2 c = search needs
 
--- src/lib.rt:64:35
 put-place-requires-2 : tie.Need-put-place-requires-2
-put-place-requires-2 c κs = let a = c .before .before .before .before .before .before .before .args in omega (arith, ap length (spot-weights (a .task .now) (a .weights .now) (a .spot) _ (c .before .before .spot2 .given .1)))
+put-place-requires-2 c κs = omega (arith, ap length (in-weights (c .before .before)))
 
--- src/lib.rt:57:1
 returns : tie.Need-returns
 returns c = let a = c .before .before .before .before .before .args in rw (spot-none (a .task .now) (a .weights .now) (a .spot) (c .enum-told .given .1)) (put-none _ _)
 
--- src/lib.rt:57:1
 same-length : tie.Need-same-length
 same-length c = search needs
 
--- src/lib.rt:57:1
 returns-2 : tie.Need-returns-2
-returns-2 c = let a = c .before .before .before .before .before .before .before .before .before .before .args in rw (spot-task (a .task .now) (a .weights .now) (a .spot) _ (c .before .before .before .before .before .spot .given .1)) (c .before .before .put-place .ensures)
+returns-2 c = rw (in-task (c .before .before .before .before .before)) (c .before .before .put-place .ensures)
 
--- src/lib.rt:57:1
 same-length-2 : tie.Need-same-length-2
 same-length-2 c = search needs
 
--- src/lib.rt:57:1
 returns-3 : tie.Need-returns-3
-returns-3 c = let a = c .before .before .before .before .before .before .before .before .before .before .args in rw (spot-weights (a .task .now) (a .weights .now) (a .spot) _ (c .before .before .before .before .before .spot2 .given .1)) (c .before .before .put-place2 .ensures)
+returns-3 c = rw (in-weights (c .before .before .before .before .before)) (c .before .before .put-place2 .ensures)
 
 pub put-spot-spec : {M : Type 1} → statement M
 put-spot-spec =

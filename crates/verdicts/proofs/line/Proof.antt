@@ -1,3 +1,4 @@
+-- `line`: the text that is delivered is the verdict's line.
 use mathlib.Core.Path.{sym, ap, _∙_}
 use native.Mathlib.Omega.{arith}
 use lib.Seq.{length-take-le}
@@ -8,41 +9,28 @@ use Rattle.verdicts.specs.Fits.{checks-short}
 use borrow.Author.Needs.{needs}
 use Rattle.verdicts.proofs.line.Statement.{statement}
 use Rattle.verdicts.proofs.line.Tie as tie
-use Rattle.verdicts.proofs.line.Reads as reads
-use Rattle.verdicts.proofs.line.Lts as lts
-use Rattle.checking.proofs.check.Reads as check-reads
-use Rattle.text.proofs.deliver.Reads as deliver-reads
-use Rattle.verdicts.proofs.put_verdict.Reads as put-verdict-reads
 
--- src/lib.rt:47:9
 check-requires : tie.Need-check-requires
 check-requires c κs = search needs
 
--- src/lib.rt:49:27
 slice-aggregate-put-verdict : tie.Need-slice-aggregate-put-verdict
 slice-aggregate-put-verdict c = search needs
 
--- src/lib.rt:49:9
 put-verdict-requires : tie.Need-put-verdict-requires
 put-verdict-requires c κs = let a = c .before .before .before .before .before .args in (search needs, checks-short (a .task .now) (a .weights .now) (verdictOf (c .before .check .result)) (c .before .check .ensures))
 
--- src/lib.rt:50:19
 array-share-prefix-text : tie.Need-array-share-prefix-text
 array-share-prefix-text c = omega (arith, put-within _ _ _ _ (c .before .put-verdict .ensures))
 
--- src/lib.rt:50:19
 slice-aggregate-deliver : tie.Need-slice-aggregate-deliver
 slice-aggregate-deliver c = sym (length-take-le _ _ (omega (arith, put-within _ _ _ _ (c .before .before .put-verdict .ensures))))
 
--- src/lib.rt:50:5
 deliver-requires : tie.Need-deliver-requires
 deliver-requires c κs = search needs
 
--- src/lib.rt:44:1
 same-length : tie.Need-same-length
 same-length c = search needs
 
--- src/lib.rt:44:1
 returns : tie.Need-returns
 returns c = (_, c .before .before .before .before .before .before .before .before .check .ensures, c .before .before .deliver .ensures ∙ ap (λ bytes. delivered bytes (c .before .before .before .before .before .before .before .before .before .before .before .before .args .room .now)) (put-front _ _ _ _ (c .before .before .before .before .before .before .put-verdict .ensures)))
 

@@ -1,3 +1,4 @@
+-- `put_verdict`: each verdict has its line, a refusal with the place of the files' first fault.
 use mathlib.Core.Path.{sym, subst}
 use native.Mathlib.Omega.{arith}
 use Rattle.meaning.specs.Line.{fileText, verdictLine}
@@ -9,67 +10,47 @@ use Rattle.verdicts.specs.Fits.{Short, checked-near, refusal-few}
 use borrow.Author.Needs.{needs}
 use Rattle.verdicts.proofs.put_verdict.Statement.{statement}
 use Rattle.verdicts.proofs.put_verdict.Tie as tie
-use Rattle.verdicts.proofs.put_verdict.Reads as reads
-use Rattle.verdicts.proofs.put_verdict.Lts as lts
-use Rattle.locating.proofs.spot.Reads as spot-reads
-use Rattle.text.proofs.put.Reads as put-reads
-use Rattle.text.proofs.put_numbered.Reads as put-numbered-reads
-use Rattle.text.proofs.put_refused.Reads as put-refused-reads
 
--- src/lib.rt:30:40
 enum-told : tie.Need-enum-told
 enum-told c = search needs
 
--- src/lib.rt:30:49
 slice-aggregate-put : tie.Need-slice-aggregate-put
 slice-aggregate-put c = search needs
 
--- src/lib.rt:30:30
 put-requires : tie.Need-put-requires
 put-requires c κs = search needs
 
--- src/lib.rt:31:41
 enum-told-2 : tie.Need-enum-told-2
 enum-told-2 c = search needs
 
--- src/lib.rt:31:50
 slice-aggregate-put-2 : tie.Need-slice-aggregate-put-2
 slice-aggregate-put-2 c = search needs
 
--- src/lib.rt:31:31
 put-requires-2 : tie.Need-put-requires-2
 put-requires-2 c κs = search needs
 
--- src/lib.rt:32:27
 enum-known-verdict : tie.Need-enum-known-verdict
 enum-known-verdict c = search needs
 
--- src/lib.rt:32:58
 slice-aggregate-put-numbered : tie.Need-slice-aggregate-put-numbered
 slice-aggregate-put-numbered c = search needs
 
--- src/lib.rt:32:33
 put-numbered-requires : tie.Need-put-numbered-requires
 put-numbered-requires c κs = let j = c .before .before .before .verdict .given .0 .0 in let short = subst (λ v. Short (verdictOf v)) (c .before .before .before .verdict .given .1) (c .before .before .before .before .before .before .before .before .pre .1) in
     omega (arith, word-few mostDigits j (omega arith) short)
 
--- src/lib.rt:33:26
 enum-known-verdict-2 : tie.Need-enum-known-verdict-2
 enum-known-verdict-2 c = search needs
 
--- src/lib.rt:36:13
 spot-requires : tie.Need-spot-requires
 spot-requires c κs = search needs
 
--- src/lib.rt:37:13
 slice-aggregate-put-refused : tie.Need-slice-aggregate-put-refused
 slice-aggregate-put-refused c = search needs
 
--- src/lib.rt:38:13
 slice-aggregate-put-refused-2 : tie.Need-slice-aggregate-put-refused-2
 slice-aggregate-put-refused-2 c = search needs
 
--- src/lib.rt:33:37
 put-refused-requires : tie.Need-put-refused-requires
 unfolding fileText
 put-refused-requires c κs =
@@ -79,38 +60,30 @@ put-refused-requires c κs =
     let short = subst (λ v. Short (verdictOf v)) (c .before .before .before .before .before .verdict2 .given .1) (start .pre .1) in
     omega (arith, refusal-few number (spotOf (c .before .before .spot .result)) short (subst ShortSpot (sym (c .before .before .spot .ensures)) near))
 
--- src/lib.rt:25:1
 same-length : tie.Need-same-length
 same-length c = search needs
 
--- src/lib.rt:25:1
 returns : tie.Need-returns
 unfolding verdictLine
 returns c = rw (c .before .before .before .before .before .enum-told .given .1) (c .before .before .put .ensures)
 
--- src/lib.rt:25:1
 same-length-2 : tie.Need-same-length-2
 same-length-2 c = search needs
 
--- src/lib.rt:25:1
 returns-2 : tie.Need-returns-2
 unfolding verdictLine
 returns-2 c = rw (c .before .before .before .before .before .enum-told2 .given .1) (c .before .before .put2 .ensures)
 
--- src/lib.rt:25:1
 same-length-3 : tie.Need-same-length-3
 same-length-3 c = search needs
 
--- src/lib.rt:25:1
 returns-3 : tie.Need-returns-3
 unfolding verdictLine
 returns-3 c = rw (c .before .before .before .before .before .before .verdict .given .1) (c .before .before .put-numbered .ensures)
 
--- src/lib.rt:25:1
 same-length-4 : tie.Need-same-length-4
 same-length-4 c = search needs
 
--- src/lib.rt:25:1
 returns-4 : tie.Need-returns-4
 unfolding verdictLine fileText
 returns-4 c = rw (c .before .before .before .before .before .before .before .before .verdict2 .given .1, ← (c .before .before .before .before .before .spot .ensures)) (c .before .before .put-refused .ensures)

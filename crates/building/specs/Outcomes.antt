@@ -57,11 +57,11 @@ module _ (n : ℕ) (bytes : List ℕ) (at : ℕ) where
 
 -- What an answer tells of labels, and of the bay that they make.
 module _ (answer : Step) (start goal : List ℕ) (rows columns : ℕ) (bytes : List ℕ) (at : ℕ) (read : labelsRead answer start goal ≡ labelled (rows * columns) bytes at) where
-  pub labels-read : (next : ℕ) → answer ≡ Next next → labelled (rows * columns) bytes at ≡ got (start, goal) next
-  labels-read next e = sym read ∙ ap (λ r. labelsRead r start goal) e
+  pub labels-told : (next : ℕ) → answer ≡ Next next → labelled (rows * columns) bytes at ≡ got (start, goal) next
+  labels-told next e = sym read ∙ ap (λ r. labelsRead r start goal) e
 
   pub bay-read : (next : ℕ) → answer ≡ Next next → bayBehind rows columns bytes at ≡ got (bayWith rows columns start goal) next
-  bay-read next e = rw (labels-read next e) refl
+  bay-read next e = rw (labels-told next e) refl
 
   pub bay-faulted : (reason : number.Reason) (place : ℕ) → answer ≡ Fault reason place → bayBehind rows columns bytes at ≡ fault (reasonOf reason) place
   bay-faulted reason place e = rw (sym read ∙ ap (λ r. labelsRead r start goal) e) refl

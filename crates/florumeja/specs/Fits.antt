@@ -19,7 +19,7 @@ use Rattle.meaning.specs.Answer.{Finding, none, separated, FindsIn, FindsBy, Fi
 use Rattle.meaning.specs.Bay.{judgedBay, bayTask, Builds}
 use Rattle.meaning.specs.Partial.{Partial, judgedPartial, leftOut, partialBytes, OpensPartial, ChecksPartial, BuildsBy, silenced, marksJudged, silencesBy, Silences}
 use Rattle.meaning.specs.Mend.{mended, PairFault, noFault, startHolds, operatorBreaks, FindsFault, FaultsPairs, Mends, Drops}
-use Rattle.meaning.specs.Place.{Holder, Part, ofTask, ofWeights, holderOf, placeOf, displayed}
+use Rattle.meaning.specs.Place.{Holder, Part, ofTask, ofWeights, holderOf, partWords, displayed}
 use Rattle.meaning.specs.Line.{line, printedSpot, checkedSpot, verdictLine}
 use Rattle.theory.specs.Run.{run-length}
 use Rattle.theory.specs.Accepted.{accepted as task-accepted, read-known}
@@ -198,7 +198,7 @@ verdict-lines-fit task weights room few o (answer, checks, e) =
 pub displays-fit : (part : Part) (room : List ℕ) (outcome : Outcome Holder) → outcome ≡ displayed part room → FitsIn holderCode outcome
 displays-fit part room = is-good (FitsIn holderCode) (displayed part room) (by (ltb (length room) placeWords) part)
   where
-    by : (short : Bool) (part : Part) → FitsIn holderCode (cond short (refuses Small room) (writes (holderOf part) (placeOf part) room))
+    by : (short : Bool) (part : Part) → FitsIn holderCode (cond short (refuses Small room) (writes (holderOf part) (partWords part) room))
     by true part = refusal-fits Small
     by false (ofTask place many) = omega arith
     by false (ofWeights place many) = omega arith

@@ -78,13 +78,13 @@ holderOf (ofTask place many) = taskHolds
 holderOf (ofWeights place many) = weightsHold
 
 -- Its beginning and its length.
-abbrev pub placeOf : Part → List ℕ
-placeOf (ofTask place many) = place ∷ many ∷ []
-placeOf (ofWeights place many) = place ∷ many ∷ []
+abbrev pub partWords : Part → List ℕ
+partWords (ofTask place many) = place ∷ many ∷ []
+partWords (ofWeights place many) = place ∷ many ∷ []
 
 -- The two words of a part go to the front of the room; 8 where it has fewer.
 abbrev pub displayed : Part → List ℕ → Outcome Holder
-displayed part room = cond (ltb (length room) placeWords) (refuses Small room) (writes (holderOf part) (placeOf part) room)
+displayed part room = cond (ltb (length room) placeWords) (refuses Small room) (writes (holderOf part) (partWords part) room)
 
 -- display(task, weights, room)
 abbrev pub Displays : List ℕ → List ℕ → List ℕ → Outcome Holder → Type 0

@@ -9,7 +9,7 @@ use Rattle.meaning.specs.Limits.{placeWords}
 use Rattle.meaning.specs.Number.{Small, refusal}
 use Rattle.meaning.specs.Answer.{Answer, done, refused, Outcome}
 use Rattle.meaning.specs.Place as meaning
-use Rattle.theory.specs.Shown.{Within, shown-within}
+use Rattle.theory.specs.Shown.{PartWithin, shown-within}
 use Rattle.placing.specs.Answers.{partOf}
 use Rattle.placing.specs.declared.Part.{Part}
 use Rattle.placing.specs.declared.Part.the-variants.{OfTask, OfWeights}
@@ -33,8 +33,8 @@ placeIn task weights (meaning.ofWeights place many) = (weights .0, place + weigh
 -- ---- the part, as it is lent
 
 module _ (task weights : List ℕ) where
-  pub part-within : (part : meaning.Part) → part ≡ meaning.shown task weights → Within task weights part
-  part-within part e = subst (Within task weights) (sym e) (shown-within task weights)
+  pub part-within : (part : meaning.Part) → part ≡ meaning.shown task weights → PartWithin task weights part
+  part-within part e = subst (PartWithin task weights) (sym e) (shown-within task weights)
 
   pub task-bytes : (place many : ℕ) → meaning.ofTask place many ≡ meaning.shown task weights
       → take (place + many - place) (drop place task) ≡ meaning.bytesIn task weights (meaning.shown task weights)

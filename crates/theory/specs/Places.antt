@@ -34,7 +34,7 @@ abbrev pub Continuing : List ℕ → ℕ → ℕ → Type 0
 Continuing bytes place many = (i : ℕ) → i < many → group ≤ getD bytes (place + i) 0
 
 -- The part is a number of the file, in shortest form: it is read, and it is what is written for its value.
-pub record Whole (bytes : List ℕ) (place many : ℕ) : Type 0 where
+pub record ShortestForm (bytes : List ℕ) (place many : ℕ) : Type 0 where
   pub value : ℕ
   pub read : number bytes place ≡ got value (place + many)
   pub shortest : Bytes bytes → take many (drop place bytes) ≡ numberBytes value
@@ -62,9 +62,9 @@ abbrev pub NumberAtFault : Reason → List ℕ → ℕ → ℕ → Type 0
 NumberAtFault Ends bytes place many = Unfinished bytes place many mostGroups
 NumberAtFault Padded bytes place many = ZeroLast bytes place many mostGroups
 NumberAtFault Endless bytes place many = Unending bytes place many mostGroups
-NumberAtFault Limit bytes place many = Whole bytes place many
-NumberAtFault Range bytes place many = Whole bytes place many
-NumberAtFault Unordered bytes place many = Whole bytes place many
+NumberAtFault Limit bytes place many = ShortestForm bytes place many
+NumberAtFault Range bytes place many = ShortestForm bytes place many
+NumberAtFault Unordered bytes place many = ShortestForm bytes place many
 NumberAtFault LeftOver bytes place many = ⊥
 NumberAtFault Outgrown bytes place many = ⊥
 NumberAtFault Held bytes place many = ⊥
@@ -285,7 +285,7 @@ module _ (bytes : List ℕ) (place : ℕ) where
       let (same, b) = groups-broken bytes mostGroups place place reason there h e in
       (same, elim b [ ends z s ↦ rw z s | padded z s ↦ rw z s | endless z s ↦ rw z s ])
 
-  number-whole : (n next : ℕ) → number bytes place ≡ got n next → Whole bytes place (bytesRead bytes place)
+  number-whole : (n next : ℕ) → number bytes place ≡ got n next → ShortestForm bytes place (bytesRead bytes place)
   unfolding numberBytes
   number-whole n next e =
       let s = number-gives bytes .gives place n next e in
@@ -316,10 +316,10 @@ record Gets {A : Type 0} (parser : Parser A) (bytes : List ℕ) (place : ℕ) (a
 
 -- A reason that finds fault with a number that is well formed.
 abbrev Valued : Reason → Type 0
-Valued reason = (bytes : List ℕ) (place many : ℕ) → Whole bytes place many → NumberAtFault reason bytes place many
+Valued reason = (bytes : List ℕ) (place many : ℕ) → ShortestForm bytes place many → NumberAtFault reason bytes place many
 
 -- Limit, Range and Unordered are such.
-abbrev fit : (bytes : List ℕ) (place many : ℕ) → Whole bytes place many → Whole bytes place many
+abbrev fit : (bytes : List ℕ) (place many : ℕ) → ShortestForm bytes place many → ShortestForm bytes place many
 fit bytes place many w = w
 
 -- The number at a place is at fault: badly formed, or not of the values that are allowed.

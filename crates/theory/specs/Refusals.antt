@@ -19,7 +19,7 @@ use Rattle.meaning.specs.Answer.{Answer, done, refused, Outcome, refuses, write
 use Rattle.meaning.specs.Answer.{FindsIn, FindsBy, Finds, Judged, fine, faulty, need, Edit, editJudged, EditsIn, Edits}
 use Rattle.meaning.specs.Partial.{Partial, partialBytes, silenced, marksJudged, silencesBy, Silences}
 use Rattle.meaning.specs.Mend.{Largest, Dropped, mended, Mends, Drops, FindsFault, FaultsPairs}
-use Rattle.meaning.specs.Place.{Part, holderOf, placeOf, displayed}
+use Rattle.meaning.specs.Place.{Part, holderOf, partWords, displayed}
 use Rattle.meaning.specs.Line.{Found, Seeks, tooLarge, Prints}
 use Rattle.theory.specs.Truth.{on, off, test}
 use Rattle.theory.specs.Operands.{unless}
@@ -168,7 +168,7 @@ module _ (n : ℕ) (left : List ℕ) where
   pub displayed-refused : (part : Part) (room : List ℕ) → (record { answer = refused n; lent = left } ≡ displayed part room) ↔ (Faulty (roomJudged placeWords room) n × (left ≡ room))
   displayed-refused part room = elim (test (ltb (length room) placeWords)) [
     | on p ↦ rw (p, lt-leb placeWords (length room) (ltb-true _ _ p)) (refusal-alike n left room Small)
-    | off p ↦ rw (p, le-leb placeWords (length room) (ltb-false _ _ p)) (λ h. absurd (not-done n left (writes (holderOf part) (placeOf part) room) (holderOf part) refl h), λ h. absurd (h .0))
+    | off p ↦ rw (p, le-leb placeWords (length room) (ltb-false _ _ p)) (λ h. absurd (not-done n left (writes (holderOf part) (partWords part) room) (holderOf part) refl h), λ h. absurd (h .0))
   ]
 
   pub builds-refused : {A : Type 0} (read : Read A) (file : A → List ℕ) (room : List ℕ)

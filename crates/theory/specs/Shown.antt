@@ -57,24 +57,24 @@ module _ (task weights : List ℕ) where
 -- ---- what is shown
 
 -- A part lies within the file that holds it.
-abbrev pub Within : List ℕ → List ℕ → Part → Type 0
-Within task weights (ofTask place many) = place + many ≤ length task
-Within task weights (ofWeights place many) = place + many ≤ length weights
+abbrev pub PartWithin : List ℕ → List ℕ → Part → Type 0
+PartWithin task weights (ofTask place many) = place + many ≤ length task
+PartWithin task weights (ofWeights place many) = place + many ≤ length weights
 
-part-within : (task weights : List ℕ) (spot : Spot) → SpotWithin task weights spot → Within task weights (partAt task weights spot)
+part-within : (task weights : List ℕ) (spot : Spot) → SpotWithin task weights spot → PartWithin task weights (partAt task weights spot)
 part-within task weights nowhere h = omega arith
 part-within task weights (inTask place) h = read-within task place h
 part-within task weights (inWeights place) h = read-within weights place h
 
-pub shown-within : (task weights : List ℕ) → Within task weights (shown task weights)
+pub shown-within : (task weights : List ℕ) → PartWithin task weights (shown task weights)
 unfolding shown
 shown-within task weights = part-within task weights (spotBeside (judgedTask task) weights) (spot-within task weights)
 
-pub shown-partial-within : (partial weights : List ℕ) → Within partial weights (shownPartial partial weights)
+pub shown-partial-within : (partial weights : List ℕ) → PartWithin partial weights (shownPartial partial weights)
 unfolding shownPartial
 shown-partial-within partial weights = part-within partial weights (spotBeside (judgedPartial leftOut partial) weights) (spot-partial-within partial weights)
 
-pub shown-bay-within : (bay : List ℕ) → Within bay [] (shownBay bay)
+pub shown-bay-within : (bay : List ℕ) → PartWithin bay [] (shownBay bay)
 unfolding shownBay
 shown-bay-within bay = part-within bay [] (spotAlone (judgedBay bay)) (spot-bay-within bay [])
 

@@ -5,7 +5,7 @@ use Rattle.number.specs.Answers.{reasonOf}
 use Rattle.writer.specs.Answer.{refused-so}
 use Rattle.sliding.specs.Readers.{madeOf}
 use Rattle.building.specs.Answers.{judged}
-use Rattle.building.specs.Outcomes.{labels-states, labels-read, bay-read, bay-faulted}
+use Rattle.building.specs.Outcomes.{labels-states, labels-told, bay-read, bay-faulted}
 use borrow.Author.Needs.{needs}
 use Rattle.building.proofs.build_labelled.Statement.{statement}
 use Rattle.building.proofs.build_labelled.Tie as tie
@@ -30,7 +30,7 @@ build-judged-requires : tie.Need-build-judged-requires
 build-judged-requires c κs =
     let told = c .before .before .before in
     let a = begin (reading told) in
-    let (start, goal) = labels-states _ _ _ _ _ _ (labels-read _ _ _ (a .args .rows) (a .args .columns) _ _ (reading told .read-labels .ensures) _ (told .enum-told .given .1)) in
+    let (start, goal) = labels-states _ _ _ _ _ _ (labels-told _ _ _ (a .args .rows) (a .args .columns) _ _ (reading told .read-labels .ensures) _ (told .enum-told .given .1)) in
     (a .pre .0, start, goal)
 
 enum-known-reason : tie.Need-enum-known-reason

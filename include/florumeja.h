@@ -93,7 +93,7 @@ static inline uint32_t florumeja_value(uint64_t answer) { return (uint32_t)(answ
 /* Room that is never too small. A workspace of v variables and N features has 1 + 3v + W + N*W words and an answer has W, where W is N/64 rounded
  * up; v is at most 64 and N at most 4,096. The task file of a bay has at most 2,019 bytes: three by three, all labels different. The longest line has the count and 640
  * features. A verdict's line is never longer than a refusal's with a number of five digits, a place of twenty and " in weights"; those that occur have at
- * most 30 bytes, since no place at fault has more than seven digits. The longest weight file has the count and 4,096 features, the first 128 of
+ * most 30 bytes, since no place at fault has more than seven digits (argued from the longest task that is accepted, not proved). The longest weight file has the count and 4,096 features, the first 128 of
  * one byte each, the others and the count of two. */
 #define FLORUMEJA_WORKSPACE_WORDS 262401
 #define FLORUMEJA_ANSWER_WORDS 64

@@ -10,12 +10,12 @@ use libc::STDOUT_FILENO;
 use text::REFUSED_BYTES;
 use writer::Written;
 
-// An accepted bay file has at most 2 + 2 * 9 numbers of one byte each. So whatever stands behind these bytes changes no answer and no place: a longer file is
+// An accepted bay file has at most 2 + 2 * 16 numbers of one byte each. So whatever stands behind these bytes changes no answer and no place: a longer file is
 // refused for a fault in front of it, or because bytes are left over.
 const INPUT_BYTES: usize = 64;
 
-// Room for the longest task file of a bay, that of three by three, which has 2,019 bytes.
-const TASK_BYTES: usize = 2048;
+// Room for the longest task file of a bay, that of four by four, which has 9,845 bytes.
+const TASK_BYTES: usize = 10240;
 
 // Puts the line for a bay file that is refused by a number.
 fn put_refused(text: &mut [u8], bay: &[u8], number: u64) -> usize

@@ -1,11 +1,12 @@
 // The checker as a program: a task file and a weight file named as arguments, one line with the verdict, and on standard error the bytes at fault of a file that is
-// refused for a number in it. A task file of more than 1,048,576 bytes is refused as 8, whatever its bytes are; accepted ones may be longer, and the library's own
-// call takes them.
+// refused for a number in it. A task file of more than 1,048,576 bytes and a weight file of more than 131,072 are refused as 8, whatever their bytes are; accepted
+// tasks may be longer, and the library's own call takes them.
 ghost use mathlib.Core.Path.{_≡_};
 ghost use Rattle.io.specs.Counts.{Counts};
 use libc::STDERR_FILENO;
 use libc::STDOUT_FILENO;
 use verdicts::MOST_TASK;
+use verdicts::MOST_WEIGHTS;
 use verdicts::VERDICT_BYTES;
 
 // The program's own name, and the two files.
@@ -14,9 +15,7 @@ const ARGUMENTS: usize = 3;
 // One byte more than the program takes, so that a longer file is seen.
 const TASK_BYTES: usize = MOST_TASK + 1;
 
-// An accepted weight file has at most 2 + 2 * 4,096 bytes. A longer file is refused for a fault that stands within this room, or because bytes are
-// left over: what is not read changes no answer, and no place.
-const WEIGHT_BYTES: usize = 16384;
+const WEIGHT_BYTES: usize = MOST_WEIGHTS + 1;
 
 // How many bytes a file has, as far as there is room for them, if it could be read.
 struct Loaded {
@@ -84,7 +83,7 @@ fn show<'a>(task: &'a [u8], weights: &'a [u8]) {
     io::write_all(STDERR_FILENO, b"\n");
 }
 
-// Prints the line for the two files, and shows the bytes at fault. Only a line for a refusal has an `f` there, and a task file that is too long is not judged.
+// Prints the line for the two files, and shows the bytes at fault. Only a line for a refusal has an `f` there, and where a file is too long nothing is judged.
 fn print<'a>(task: &'a [u8], weights: &'a [u8]) {
     let mut room = [0u8; VERDICT_BYTES];
     let printed = verdicts::program_line(task, weights, &mut room);
@@ -92,7 +91,7 @@ fn print<'a>(task: &'a [u8], weights: &'a [u8]) {
     if room[2] != b'f' {
         return;
     }
-    if task.len() <= MOST_TASK {
+    if !verdicts::are_long(task, weights) {
         show(task, weights);
     }
 }

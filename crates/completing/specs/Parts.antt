@@ -23,7 +23,7 @@ use Rattle.writer.specs.declared.Written.the-variants.{Done}
 use Rattle.writer.specs.Answer.{outcomeOf}
 use Rattle.writer.specs.Parts.{Triples}
 use Rattle.writer.specs.Front.{Front, frontBytes, front-few}
-use Rattle.writer.specs.Widths.{bytes-more, bytes-none}
+use Rattle.writer.specs.Widths.{fourLists, bytes-more, bytes-none}
 use Rattle.writer.specs.Remains.{Remains, remains-all, part-fits, remains-after, remains-none, parts-delivered}
 
 -- The bytes of the forgetting operators that a header keeps.
@@ -167,7 +167,7 @@ module _ (count kept : ℕ) (own sizes start goal pairs : List ℕ) (lean : Bool
     )
 
     -- The whole is short but for the file's operators.
-    pub file-few : length builtBytes ≤ 16 * numberEnd + length own
+    pub file-few : length builtBytes ≤ 2 * fourLists + length own
     file-few = omega (arith, file-length, front-few sizes start goal pairs (parts .front), number-bytes-length (count + kept) .1, parts .countable)
 
     pub file-delivered : (room room₁ room₂ : List ℕ) (next end : ℕ) → length builtBytes ≤ length room

@@ -15,16 +15,16 @@ pub const LEAST_PARTIAL_SIZE: usize = 1;
 
 pub const MOST_PARTIAL_SIZE: usize = 63;
 
-// "rows times columns, n, is 2 to 9"
+// "rows times columns, n, is 2" to 16: "and n 16"
 pub const LEAST_SLOTS: usize = 2;
 
-pub const MOST_SLOTS: usize = 9;
+pub const MOST_SLOTS: usize = 16;
 
-// "N at most 4,096"
-pub const MOST_FEATURES: usize = 4096;
+// "N may reach 32,768"
+pub const MOST_FEATURES: usize = 32768;
 
 // "W = N/64 rounded up", for the most features.
-pub const MOST_WORDS: usize = 64;
+pub const MOST_WORDS: usize = 512;
 
 // As many words as the atoms of the most variables, each of the most values, fill.
 pub const ATOM_WORDS: usize = 64;

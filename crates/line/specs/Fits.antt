@@ -77,9 +77,13 @@ printed-short input = elim (test (ltb mostInput (length input))) [
 
 -- ---- the longest line
 
+-- Three decimal digits hold the count of the most features, and each of them.
+abbrev pub featureDigits : ℕ
+featureDigits = 3
+
 -- `separated`, the count and the most features, and the line's end.
 abbrev pub lineBytes : ℕ
-lineBytes = 9 + wordWidth mostDigits * (1 + mostProgramFeatures) + 1
+lineBytes = 9 + wordWidth featureDigits * (1 + mostProgramFeatures) + 1
 
 features-few : (input fs : List ℕ) → Prints input (done (separating fs)) → (n : ℕ) × Run 0 fs n × (n ≤ mostProgramFeatures)
 features-few input fs prints = elim (answers input (done (separating fs)) prints) [
@@ -98,8 +102,8 @@ line-short input (done (separating fs)) prints =
       count,
       length-append (word (length fs) ++ wordsIn fs) (10 ∷ []),
       length-append (word (length fs)) (wordsIn fs),
-      word-few mostDigits (length fs) (omega arith) (omega (arith, few, count)),
-      words-few mostDigits 0 n fs (omega arith) (omega (arith, few)) run,
+      word-few featureDigits (length fs) (omega arith) (omega (arith, few, count)),
+      words-few featureDigits 0 n fs (omega arith) (omega (arith, few)) run,
     )
 line-short input (done nothing) prints = omega arith
 line-short input (refused number) prints = omega (arith, refused-few [] [] (omega arith) (omega arith) number (printedSpot input) (prints-short input [] (Refused number) prints) (printed-short input))

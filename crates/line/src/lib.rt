@@ -16,7 +16,6 @@ use limits::MOST_VARIABLES;
 use number::Reason;
 use opening::Opened;
 use placing::Spot;
-use text::WORD_WIDTH;
 use words::WORD_BITS;
 use writer::Written;
 
@@ -34,8 +33,11 @@ const WORKSPACE_WORDS: usize = 1
     + WEIGHT_WORDS
     + MOST_PROGRAM_FEATURES * WEIGHT_WORDS;
 
-// The longest line: `separated`, the count and the most features, and the line's end.
-pub const LINE_BYTES: usize = 9 + WORD_WIDTH * (1 + MOST_PROGRAM_FEATURES) + 1;
+// Three decimal digits hold the count of the most features, and each of them.
+const FEATURE_DIGITS: usize = 3;
+
+// The longest line: `separated`, the count and the most features, each behind a blank, and the line's end.
+pub const LINE_BYTES: usize = 9 + (1 + FEATURE_DIGITS) * (1 + MOST_PROGRAM_FEATURES) + 1;
 
 // Finds the least weights for a task file. Its workspace is spent, and the words of the weights come as zeros.
 fn seek(input: &[u8], workspace: &mut [u64], weights: &mut [u64]) -> Found

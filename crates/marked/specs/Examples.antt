@@ -1,8 +1,9 @@
 -- The worked examples of document 01, each by computing: a sentence of the document and the fact that it states.
 use Prim.Native.Nat.{ℕ, _-_, _*_}
 use mathlib.Core.Path.{_≡_, refl}
-use mathlib.Core.Bool.{true}
+use mathlib.Core.Bool.{true, false}
 use mathlib.Core.List.{List, [], _∷_, _++_, List·Memᴰ·head as here, List·Memᴰ·tail as there}
+use lib.Dec.{leb}
 use lib.ListN.{length, replicate}
 use Rattle.meaning.specs.Limits.{leastSize, mostSize}
 use Rattle.meaning.specs.Sets.{listed, table}
@@ -10,7 +11,7 @@ use Rattle.meaning.specs.Task.{Operator, Task}
 use Rattle.meaning.specs.Feature.{features}
 use Rattle.meaning.specs.Slot.{SlotsOf}
 use Rattle.meaning.specs.Weight.{Meets}
-use Rattle.meaning.specs.Number.{Limit, Padded, Endless, got, fault, number, groupBytes, numberBytes}
+use Rattle.meaning.specs.Number.{Limit, Padded, Endless, got, fault, groups, number, groupBytes, numberBytes}
 use Rattle.meaning.specs.File.{header, judgedTask, bytesOf, counted, entryBytes, operatorBytes, weightBytes, taskBytes}
 use Rattle.meaning.specs.Workspace.{wordsOf, packed, contentOf}
 use Rattle.meaning.specs.Answer.{done, refused, Opens}
@@ -50,8 +51,22 @@ pub number-padded : number (128 ∷ 0 ∷ []) 0 ≡ fault Padded 0
 unfolding computing
 number-padded = refl
 
--- "and 80 80 01 are refused": its second byte says that one more follows.
-pub number-endless : number (128 ∷ 128 ∷ 1 ∷ []) 0 ≡ fault Endless 0
+-- "and 80 80 01 are refused" was so with two groups; "Numbers take up to three groups": it is 16,384.
+pub number-refused-before : groups 2 0 (128 ∷ 128 ∷ 1 ∷ []) 0 ≡ fault Endless 0
+unfolding computing
+number-refused-before = refl
+
+pub number-16384 : number (128 ∷ 128 ∷ 1 ∷ []) 0 ≡ got 16384 3
+unfolding computing
+number-16384 = refl
+
+-- "to 2,097,151": FF FF 7F.
+pub number-2097151 : number (255 ∷ 255 ∷ 127 ∷ []) 0 ≡ got 2097151 3
+unfolding computing
+number-2097151 = refl
+
+-- "a third byte that says more follows is too long"
+pub number-endless : number (128 ∷ 128 ∷ 128 ∷ 1 ∷ []) 0 ≡ fault Endless 0
 unfolding computing
 number-endless = refl
 
@@ -72,15 +87,20 @@ pub features-64-63 : features (64 ∷ 63 ∷ []) ≡ 4159
 unfolding computing
 features-64-63 = refl
 
--- "and are refused": N breaks its limit, judged after the last size and placed there;
-pub limit-64-63 : header leastSize mostSize (2 ∷ 64 ∷ 63 ∷ []) 0 ≡ fault Limit 2
+-- "and are refused" was so with 4,096 features at most; "N may reach 32,768": they are taken.
+pub taken-64-63 : (leb (features (64 ∷ 63 ∷ [])) 4096 ≡ false) × (header leastSize mostSize (2 ∷ 64 ∷ 63 ∷ []) 0 ≡ got (64 ∷ 63 ∷ []) 3)
 unfolding computing
-limit-64-63 = refl
+taken-64-63 = (refl, refl)
+
+-- Five sizes of 64 give 41,280 and are refused: N breaks its limit, judged after the last size and placed there;
+pub limit-five-64 : header leastSize mostSize (5 ∷ 64 ∷ 64 ∷ 64 ∷ 64 ∷ 64 ∷ []) 0 ≡ fault Limit 5
+unfolding computing
+limit-five-64 = refl
 
 -- that is number 2.
-pub refused-64-63 : Says (2 ∷ 64 ∷ 63 ∷ []) (refused 2)
+pub refused-five-64 : Says (5 ∷ 64 ∷ 64 ∷ 64 ∷ 64 ∷ 64 ∷ []) (refused 2)
 unfolding computing
-refused-64-63 = refl
+refused-five-64 = refl
 
 -- "64 variables of size 1 give 2,080"
 pub features-ones : features (replicate 64 1) ≡ 2080

@@ -58,10 +58,10 @@ pub row-accepted : Checks (taskBytes lean) (weightBytes weights) (done accepted)
 unfolding ordering Run
 row-accepted =
     let file = partialBytes order in
-    let judged = built-accepted file leftOutLean lean (length file) (order-accepted fileOfRow row 8 row-read marks leftOutLean) in
+    let judged = built-accepted file leftOutLean lean (length file) (order-accepted fileOfRow row 8 row-read marks (omega arith) leftOutLean) in
     let read = weights-back (features (lean .sizes)) weights (omega arith) (omega arith, (omega arith, omega arith)) in
     accepts-exactly (taskBytes lean) lean (length (taskBytes lean)) judged (weightBytes weights) weights (length (weightBytes weights)) read .1 row-separates
 
 -- and no sequence of moves meets the order.
 pub row-impossible : Met order → ⊥
-row-impossible = lean-impossible fileOfRow row 8 row-read marks (weightBytes weights) row-accepted
+row-impossible = lean-impossible fileOfRow row 8 row-read marks (omega arith) (weightBytes weights) row-accepted

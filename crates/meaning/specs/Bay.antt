@@ -34,7 +34,7 @@ baySizes n = replicate n n
 abbrev pub side : Parser ℕ
 side = item (inside leastSide (suc mostSide)) Limit
 
--- Rows and columns: "n is 2 to 9 and is judged after columns".
+-- Rows and columns: "n is 2" to 16 "and is judged after columns". (Document 01 said: "n is 2 to 9".)
 unfoldable pub sidesOf : Parser (ℕ × ℕ)
 sidesOf =
     limited (then side (λ r. then side (λ c. give (r, c)))) (λ sides. inside leastSlots (suc mostSlots) (sides .0 * sides .1)) (λ _. 1)

@@ -13,7 +13,7 @@ use Rattle.meaning.specs.Pair.{paired, possible, clashing, stuck, idle, 
 use Rattle.meaning.specs.Slot.{Reduced}
 use Rattle.meaning.specs.Weight.{Considered, Keeps, Allows}
 use Rattle.meaning.specs.Grid.{made, used, kept, effect}
-use Rattle.meaning.specs.Number.{Padded, Endless, Limit, Range, LeftOver, Outgrown, refusal, hasPlace}
+use Rattle.meaning.specs.Number.{Ends, Padded, Endless, Limit, Range, LeftOver, Outgrown, refusal, hasPlace}
 use Rattle.meaning.specs.Number.{got, fault, groups, number, numbersOn}
 use Rattle.meaning.specs.File.{item, judge, rising, ended, itemsOf, sizeList, header, limited, featuresOf, featureList, operatorsOf, taskOf, judgedTask}
 use Rattle.meaning.specs.Workspace.{has}
@@ -158,18 +158,20 @@ least-not-greatest slots R e = true≢false (sym e ∙ R .low 1 0 (omega arith))
 not-as-they-came : (slots : Slots) → Reduced 2 slots → slots 0 1 ≡ true → slots 1 1 ≡ true → ⊥
 not-as-they-came slots R e e' = true≢false (sym e ∙ R .clear 0 1 e' (omega arith))
 
--- Numbers: shortest form only, two bytes at most, low group first.
+-- Numbers: shortest form only, three bytes at most, low group first.
 low-group-first : number (128 ∷ 1 ∷ []) 0 ≡ got 128 2
 unfolding number groups
 low-group-first = refl
 
-padded : number (128 ∷ 0 ∷ []) 0 ≡ fault Padded 0
+-- "shortest form still rules": in two bytes and in three.
+padded : (number (128 ∷ 0 ∷ []) 0 ≡ fault Padded 0) × (number (128 ∷ 128 ∷ 0 ∷ []) 0 ≡ fault Padded 0)
 unfolding number groups
-padded = refl
+padded = (refl, refl)
 
-endless : number (128 ∷ 128 ∷ 1 ∷ []) 0 ≡ fault Endless 0
+-- "a third byte that says more follows is too long", whatever follows; a second byte that says so is not.
+endless : (number (128 ∷ 128 ∷ 128 ∷ 1 ∷ []) 0 ≡ fault Endless 0) × (number (128 ∷ 128 ∷ 128 ∷ []) 0 ≡ fault Endless 0) × (number (128 ∷ 128 ∷ []) 0 ≡ fault Ends 0)
 unfolding number groups
-endless = refl
+endless = (refl, refl, refl)
 
 -- "x slower": (0,1) of the variables 0 and 1 comes right after (0,0), and (1,0) later.
 x-slower : (double pairOfTwo 0 0 1 1 ≡ 5) × (double pairOfTwo 0 1 1 0 ≡ 6)
@@ -191,8 +193,8 @@ left-over-first : judgedTask (2 ∷ 2 ∷ 2 ∷ 1 ∷ 1 ∷ 0 ∷ 0 ∷ 1 ∷ 7 
 unfolding judgedTask taskOf header sizeList itemsOf limited featureList featuresOf operatorsOf item judge rising ended number groups features atoms pairsOf sumOf
 left-over-first = refl
 
--- N is placed at the last size: sizes 64 and 63, from place 1 on.
-limit-at-last-size : header leastSize mostSize (7 ∷ 2 ∷ 64 ∷ 63 ∷ 0 ∷ []) 1 ≡ fault Limit 3
+-- N is placed at the last size: five sizes of 64, from place 1 on.
+limit-at-last-size : header leastSize mostSize (7 ∷ 5 ∷ 64 ∷ 64 ∷ 64 ∷ 64 ∷ 64 ∷ 0 ∷ []) 1 ≡ fault Limit 6
 unfolding header sizeList itemsOf limited item number groups numbersOn features atoms pairsOf sumOf
 limit-at-last-size = refl
 

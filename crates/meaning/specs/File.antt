@@ -134,7 +134,7 @@ judgedWeights n bytes = then (featureList 0 n) (λ weights. then ended (λ _. gi
 
 -- ---- tasks that can be accepted, and their bytes
 
--- "Limits: v 1 to 64; d 1 to 64; N at most 4,096." Whatever is said of states and features holds for every size above 0.
+-- "Limits: v 1 to 64; d 1 to 64"; "N may reach 32,768" (document 01 said: "N at most 4,096"). Whatever is said of states and features holds for every size above 0.
 pub record InLimits (sizes : List ℕ) : Type 0 where
   pub variables : (leastVariables ≤ length sizes) × (length sizes ≤ mostVariables)
   pub each : (i : ℕ) → i < length sizes → (0 < size sizes i) × (size sizes i ≤ mostSize)

@@ -16,9 +16,11 @@ pub mod Mend
 pub mod Place
 pub mod Line
 pub mod History
+pub mod Before
 pub mod Facts
 pub mod PlaceFacts
 pub mod FactsOfA
+pub mod LimitFacts
 pub mod LotFacts
 pub mod PartialFacts
 pub mod MendFacts

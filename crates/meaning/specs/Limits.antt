@@ -22,9 +22,9 @@ leastPartialSize = 1
 abbrev pub mostPartialSize : ℕ
 mostPartialSize = 63
 
--- "N at most 4,096"
+-- "N may reach 32,768"
 abbrev pub mostFeatures : ℕ
-mostFeatures = 4096
+mostFeatures = 32768
 
 -- The atoms of the most variables, each of the most values.
 abbrev pub mostAtoms : ℕ
@@ -34,11 +34,11 @@ mostAtoms = mostVariables * mostSize
 abbrev pub group : ℕ
 group = 128
 
--- "two bytes at most"
+-- "Numbers take up to three groups"
 abbrev pub mostGroups : ℕ
-mostGroups = 2
+mostGroups = 3
 
--- The first number that these groups cannot hold: "a number is 0 to 16,383".
+-- The first number that these groups cannot hold: "to 2,097,151".
 abbrev pub numberEnd : ℕ
 numberEnd = group ^ mostGroups
 
@@ -46,18 +46,19 @@ numberEnd = group ^ mostGroups
 abbrev pub wordBits : ℕ
 wordBits = 64
 
--- "Rows and columns are each 1 to 9; rows times columns, n, is 2 to 9"
+-- "Rows and columns are each 1 to 9"
 abbrev pub leastSide : ℕ
 leastSide = 1
 
 abbrev pub mostSide : ℕ
 mostSide = 9
 
+-- "rows times columns, n, is 2" to 16: "and n 16"
 abbrev pub leastSlots : ℕ
 leastSlots = 2
 
 abbrev pub mostSlots : ℕ
-mostSlots = 9
+mostSlots = 16
 
 -- The finder program: "more than 8,192 bytes give 8 before anything is judged; more than 640 features give 8 after 7".
 abbrev pub mostInput : ℕ
@@ -66,9 +67,12 @@ mostInput = 8192
 abbrev pub mostProgramFeatures : ℕ
 mostProgramFeatures = 640
 
--- The checker program: a task file of more bytes gives 8.
+-- The checker program: a task file or a weight file of more bytes gives 8. No accepted weight file has as many.
 abbrev pub mostTask : ℕ
 mostTask = 1048576
+
+abbrev pub mostWeights : ℕ
+mostWeights = 131072
 
 -- pair_fault: room for a pair and an operator's number, a word each.
 abbrev pub faultWords : ℕ

@@ -6,7 +6,7 @@ use mathlib.Core.List.{List, [], _∷_, _++_}
 use lib.ListN.{length}
 use lib.Dec.{ltb}
 use Rattle.meaning.specs.Sets.{Set, listed}
-use Rattle.meaning.specs.Limits.{mostInput, mostProgramFeatures, mostTask}
+use Rattle.meaning.specs.Limits.{mostInput, mostProgramFeatures, mostTask, mostWeights}
 use Rattle.meaning.specs.Task.{Task, Run}
 use Rattle.meaning.specs.Feature.{features}
 use Rattle.meaning.specs.Weight.{Separates, LeastOf}
@@ -94,17 +94,21 @@ printedSpot input = cond (ltb mostInput (length input)) nowhere (spotAlone (judg
 
 -- ---- the checker's line
 
--- The checker program's answer: a task file of more than 1,048,576 bytes gives 8 before anything is judged.
+-- A task file of more than 1,048,576 bytes, or a weight file of more than 131,072.
+abbrev pub tooLong : List ℕ → List ℕ → Bool
+tooLong task weights = ltb mostTask (length task) || ltb mostWeights (length weights)
+
+-- The checker program's answer: a file that is too long gives 8 before anything is judged.
 abbrev pub ChecksFiles : List ℕ → List ℕ → Answer Verdict → Type 0
 ChecksFiles task weights answer =
-    cond (ltb mostTask (length task)) (answer ≡ refused (refusal Small)) (Checks task weights answer)
+    cond (tooLong task weights) (answer ≡ refused (refusal Small)) (Checks task weights answer)
 
--- Where the first fault of the two files stands; in a task file that is too long none is known.
+-- Where the first fault of the two files stands; if one of them is too long none is known.
 abbrev pub checkedSpot : List ℕ → List ℕ → Spot
 checkedSpot task weights = spotBeside (judgedTask task) weights
 
 abbrev pub filesSpot : List ℕ → List ℕ → Spot
-filesSpot task weights = cond (ltb mostTask (length task)) nowhere (checkedSpot task weights)
+filesSpot task weights = cond (tooLong task weights) nowhere (checkedSpot task weights)
 
 -- `accepted`; or `rejected ends alike`; or `rejected operator` and its number; or the refusal, its place and its file.
 unfoldable pub verdictLine : Spot → Answer Verdict → List ℕ

@@ -16,7 +16,7 @@ abbrev pub refusal : Reason → ℕ
 refusal Ends = 1
 -- "12 a number not in shortest form"
 refusal Padded = 12
--- "13 one whose second byte says that more follows": the last that is allowed
+-- "a third byte that says more follows is too long" (ticket 5 said: "13 one whose second byte says that more follows")
 refusal Endless = 13
 -- "v, a size, N, or a bay dimension breaks its limit"
 refusal Limit = 2
@@ -81,7 +81,7 @@ groups (suc k) first bytes place =
     (λ high next. cond (eqb high 0) (fault Padded first) (got (getD bytes place 0 % group + group * high) next))))
     (fault Ends first)
 
--- The number at a place: "two bytes at most".
+-- The number at a place: "Numbers take up to three groups". (Document 01 said: "two bytes at most".)
 unfoldable pub number : List ℕ → ℕ → Read ℕ
 number bytes place = groups mostGroups place bytes place
 

@@ -97,8 +97,8 @@ unknown-named : partialOf (2 ∷ 2 ∷ 2 ∷ 0 ∷ 1 ∷ 0 ∷ 0 ∷ 2 ∷ []) 0
 unfolding reading
 unknown-named = refl
 
--- N is that of the built task and is judged after the last size, before the marks: sizes of 63 and 63 have 4,095 features, the built ones 4,224.
-n-of-the-built : partialOf (2 ∷ 63 ∷ 63 ∷ 2 ∷ []) 0 ≡ fault Limit 2
+-- N is that of the built task and is judged after the last size, before the marks: five sizes of 56 have 31,640 features, the built ones 32,775.
+n-of-the-built : partialOf (5 ∷ 56 ∷ 56 ∷ 56 ∷ 56 ∷ 56 ∷ 2 ∷ []) 0 ≡ fault Limit 5
 unfolding reading
 n-of-the-built = refl
 
@@ -116,13 +116,13 @@ held-in-the-built : judgedPartial leftOut (2 ∷ 2 ∷ 2 ∷ 0 ∷ 0 ∷ 1 ∷ 1
 unfolding building
 held-in-the-built = refl
 
--- The count is judged before 6 and 7, whatever start and operators are: more than 16,383 kept are 2, without a place.
+-- The count is judged before 6 and 7, whatever start and operators are: more than 2,097,151 kept are 2, without a place.
 count-first : (out : Partial → ℕ → ℕ → Bool) (file : List ℕ) (P : Partial) (next : ℕ) → partialOf file 0 ≡ got P next
     → ltb (length (builtTask P (out P) .operators)) numberEnd ≡ false → judgedPartial out file ≡ fault Outgrown 0
 unfolding judgedPartial
 count-first out file P next read many = rw (read, many) refl
 
-count-is-two : (refusal Outgrown ≡ 2) × (ltb 16383 numberEnd ≡ true) × (ltb 16384 numberEnd ≡ false)
+count-is-two : (refusal Outgrown ≡ 2) × (ltb 2097151 numberEnd ≡ true) × (ltb 2097152 numberEnd ≡ false)
 count-is-two = (refl, refl, refl)
 
 -- ---- the partial file of a task

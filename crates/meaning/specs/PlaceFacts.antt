@@ -34,7 +34,7 @@ unfolding judging
 ends-shown = (refl, refl, refl)
 
 -- 12 is shown up to and with the zero byte, 13 with as many bytes as are allowed.
-badly-formed-shown : (shown (2 ∷ 128 ∷ 0 ∷ 1 ∷ []) [] ≡ ofTask 1 2) × (shown (2 ∷ 128 ∷ 129 ∷ 0 ∷ []) [] ≡ ofTask 1 2)
+badly-formed-shown : (shown (2 ∷ 128 ∷ 0 ∷ 1 ∷ []) [] ≡ ofTask 1 2) × (shown (2 ∷ 128 ∷ 129 ∷ 130 ∷ 0 ∷ []) [] ≡ ofTask 1 3)
 unfolding judging
 badly-formed-shown = (refl, refl)
 
@@ -44,8 +44,8 @@ judged-shown : (shown (2 ∷ 2 ∷ 65 ∷ 0 ∷ []) [] ≡ ofTask 2 1) × (shown
 unfolding judging
 judged-shown = (refl, refl, refl)
 
--- N is shown at the last size: sizes 64 and 63.
-total-shown : shown (2 ∷ 64 ∷ 63 ∷ 5 ∷ []) [] ≡ ofTask 2 1
+-- N is shown at the last size: five sizes of 64.
+total-shown : shown (5 ∷ 64 ∷ 64 ∷ 64 ∷ 64 ∷ 64 ∷ 5 ∷ []) [] ≡ ofTask 5 1
 unfolding judging
 total-shown = refl
 
@@ -64,8 +64,8 @@ nothing-shown = (refl, refl, refl, refl)
 bytes-shown : bytesIn (2 ∷ 2 ∷ 2 ∷ 128 ∷ 1 ∷ []) (9 ∷ 9 ∷ 9 ∷ 9 ∷ 9 ∷ []) (ofTask 3 2) ≡ 128 ∷ 1 ∷ []
 bytes-shown = refl
 
--- A partial file: its mark of 2; its sizes of 63 and 63, whose built task has too many features, at the last of them. A bay file: its columns, and a label out of range.
-others-shown : (shownPartial (2 ∷ 2 ∷ 2 ∷ 1 ∷ 2 ∷ []) [] ≡ ofTask 4 1) × (shownPartial (2 ∷ 63 ∷ 63 ∷ 0 ∷ []) [] ≡ ofTask 2 1)
+-- A partial file: its mark of 2; its five sizes of 56, whose built task has too many features, at the last of them. A bay file: its columns, and a label out of range.
+others-shown : (shownPartial (2 ∷ 2 ∷ 2 ∷ 1 ∷ 2 ∷ []) [] ≡ ofTask 4 1) × (shownPartial (5 ∷ 56 ∷ 56 ∷ 56 ∷ 56 ∷ 56 ∷ 0 ∷ []) [] ≡ ofTask 5 1)
     × (shownBay (9 ∷ 9 ∷ 0 ∷ []) ≡ ofTask 1 1) × (shownBay (1 ∷ 2 ∷ 0 ∷ 2 ∷ []) ≡ ofTask 3 1) × (shownBay (1 ∷ 2 ∷ 1 ∷ 1 ∷ 0 ∷ 1 ∷ []) ≡ ofTask 0 0)
 unfolding judging
 others-shown = (refl, refl, refl, refl, refl)

@@ -4,11 +4,11 @@ use mathlib.Core.Path.{_≡_, refl, sym}
 use mathlib.Core.List.{List, [], _++_, append-nil}
 use native.Mathlib.Omega.{arith}
 use lib.ListN.{length, take, drop, length-append}
-use Rattle.meaning.specs.Limits.{numberEnd}
 use Rattle.meaning.specs.Number.{numberBytes}
 use Rattle.meaning.specs.Answer.{delivered}
 use Rattle.theory.specs.NumberBack.{number-bytes-length}
 use Rattle.words.specs.Members.{membersIn}
+use Rattle.writer.specs.Widths.{fourLists}
 use Rattle.writer.specs.declared.Written.the-variants.{Done}
 use Rattle.writer.specs.Answer.{outcomeOf}
 use Rattle.writer.specs.Front.{Front, frontBytes, front-few}
@@ -27,7 +27,7 @@ module _ (count : ℕ) (own sizes start goal kept : List ℕ) where
   mended-length = omega (arith, length-append front (numberBytes count ++ own), length-append (numberBytes count) own)
 
   -- The whole is short but for the operators.
-  pub mended-few : Front sizes start goal kept → length mendedBytes ≤ 16 * numberEnd + length own
+  pub mended-few : Front sizes start goal kept → length mendedBytes ≤ 2 * fourLists + length own
   mended-few h = omega (arith, mended-length, front-few sizes start goal kept h, number-bytes-length count .1)
 
   -- Three parts that were written one after the other are the whole file.

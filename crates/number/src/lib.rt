@@ -42,7 +42,7 @@ pub enum Step {
 const GROUP: usize = 128;
 
 // How many groups a number has at most.
-const MOST_GROUPS: usize = 2;
+const MOST_GROUPS: usize = 3;
 
 // The paper's number for a reason.
 pub fn refusal(reason: Reason) -> u64

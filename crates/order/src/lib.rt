@@ -19,8 +19,8 @@ use number::Reason;
 use number::Step;
 use reader::Header;
 
-// The first number that a file cannot hold: "a number is 0 to 16,383".
-const NUMBER_END: usize = 16384;
+// The first number that a file cannot hold: "to 2,097,151".
+const NUMBER_END: usize = 2097152;
 
 // What a partial task file is judged to be: accepted, with how many variables and features the built task has, how many operators the file has and
 // how many forgetting ones are kept, and the place of the first operator; or the first fault.

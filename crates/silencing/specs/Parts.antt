@@ -19,7 +19,7 @@ use Rattle.theory.specs.Truth.{on, off, test}
 use Rattle.writer.specs.declared.Written.the-variants.{Done}
 use Rattle.writer.specs.Answer.{outcomeOf}
 use Rattle.writer.specs.Parts.{Countable}
-use Rattle.writer.specs.Widths.{numbers-few, list-few}
+use Rattle.writer.specs.Widths.{fourLists, numbers-few, list-few}
 use Rattle.writer.specs.Remains.{remains-all, remains-after, remains-none, delivered-done}
 use Rattle.silencing.specs.Marks.{Marked, picked}
 
@@ -48,7 +48,7 @@ module _ (sizes marks start named rest : List ℕ) where
       )
 
   -- A front is short.
-  pub parts-few : PartialFront sizes marks start named → length (partsBytes sizes marks start named rest) ≤ 8 * numberEnd + length rest
+  pub parts-few : PartialFront sizes marks start named → length (partsBytes sizes marks start named rest) ≤ fourLists + length rest
   parts-few (s, m, b, n) = omega (arith, parts-length, list-few sizes, numbers-few start, numbers-few named, s .0, m, b .0, n .0)
 
   -- Parts that were written one after the other are the whole file.
@@ -76,7 +76,7 @@ module _ (sizes marks start named rest : List ℕ) where
 unfoldable pub pairsPlace : List ℕ → List ℕ → List ℕ → ℕ
 pairsPlace sizes start goal = length (counted numberBytes sizes) + length (bytesOf numberBytes start) + length (bytesOf numberBytes goal)
 
-pub place-few : (sizes start goal : List ℕ) → Countable sizes → Countable start → Countable goal → pairsPlace sizes start goal ≤ 8 * numberEnd
+pub place-few : (sizes start goal : List ℕ) → Countable sizes → Countable start → Countable goal → pairsPlace sizes start goal ≤ fourLists
 unfolding pairsPlace
 place-few sizes start goal s b g = omega (arith, list-few sizes, numbers-few start, numbers-few goal, s .0, b .0, g .0)
 

@@ -7,7 +7,7 @@ use mathlib.Core.List.{List, _++_}
 use native.Mathlib.Omega.{arith}
 use lib.ListN.{length, take, replicate, length-replicate}
 use borrow.Author.Tests.{eq-eqb, ne-eqb}
-use Rattle.meaning.specs.Limits.{mostSlots, mostFeatures, numberEnd}
+use Rattle.meaning.specs.Limits.{mostSlots, mostFeatures}
 use Rattle.meaning.specs.Number.{Gaps, Unequal}
 use Rattle.meaning.specs.Feature.{atoms, features}
 use Rattle.meaning.specs.Workspace.{wordsFor}
@@ -21,7 +21,7 @@ use Rattle.theory.specs.BayPairs.{pairs-run}
 use Rattle.theory.specs.BayTask.{bay-limits}
 use Rattle.words.specs.Members.{membersIn}
 use Rattle.words.specs.Toggled.{toggledAll, run-held}
-use Rattle.writer.specs.Widths.{part-length}
+use Rattle.writer.specs.Widths.{fourLists, part-length}
 use Rattle.writer.specs.Front.{Front, frontBytes, sizes-countable, state-countable, front-few, task-front}
 use Rattle.sliding.specs.Parts.{Slots, Uniform, TaskParts, operatorsIn, taskIn, builtIn}
 use Rattle.sliding.specs.Operators.{operators-length}
@@ -69,7 +69,7 @@ module _ {near sizes start goal pairs : List ℕ} (parts : TaskParts near sizes 
   task-length = part-length (frontBytes sizes start goal (membersIn pairs)) _ task-split
 
   -- The whole is small.
-  pub task-few : length (taskBytes (taskIn near start goal)) ≤ 20 * numberEnd
+  pub task-few : length (taskBytes (taskIn near start goal)) ≤ 2 * fourLists
   task-few =
       omega (
         arith,

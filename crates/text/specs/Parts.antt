@@ -75,9 +75,9 @@ pub place-long : (place : ℕ) (file : List ℕ) → length (atPlace place ++ fi
 unfolding atPlace
 place-long place file = omega (arith, length-append (word place) file)
 
--- Five decimal digits hold every number of the lines but a place, twenty every place in a slice.
+-- Seven decimal digits hold every number of the lines but a place, twenty every place in a slice.
 abbrev pub mostDigits : ℕ
-mostDigits = 5
+mostDigits = 7
 
 abbrev pub placeDigits : ℕ
 placeDigits = 20

@@ -13,17 +13,14 @@ use number::Reason;
 use placing::Spot;
 use writer::Written;
 
-// Five decimal digits hold every number of the lines but a place.
-const MOST_DIGITS: usize = 5;
+// Seven decimal digits hold every number of the lines but a place.
+const MOST_DIGITS: usize = 7;
 
 // Twenty hold every place in a slice.
 const PLACE_DIGITS: usize = 20;
 
-// The most that a number takes in a line, with its blank.
-pub const WORD_WIDTH: usize = 1 + MOST_DIGITS;
-
-// Room for every line for a refusal: `refused`, its number, `at` and a place, ` in weights`, and the line's end.
-pub const REFUSED_BYTES: usize = 7 + WORD_WIDTH + 3 + 1 + PLACE_DIGITS + 11 + 1;
+// Room for every line for a refusal: `refused`, a blank and its number, `at`, a blank and a place, ` in weights`, and the line's end.
+pub const REFUSED_BYTES: usize = 7 + 1 + MOST_DIGITS + 3 + 1 + PLACE_DIGITS + 11 + 1;
 
 // Puts bytes from a place on, and answers the place after them.
 pub fn put(text: &mut [u8], at: usize, bytes: &[u8]) -> usize

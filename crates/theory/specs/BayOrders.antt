@@ -1,4 +1,4 @@
--- Orders that name some slots of a bay: moves keep the labels, so such an order is met exactly when one of its completions is reached; and its partial file is always accepted.
+-- Orders that name some slots of a bay: moves keep the labels, so such an order is met exactly when one of its completions is reached; and its partial file is accepted, up to fifteen slots.
 use Prim.Native.Nat.{ℕ, suc, _+_, _*_, _<_, _≤_}
 use mathlib.Core.Path.{_≡_, refl, sym, ap, _∙_}
 use mathlib.Core.Logic.{_↔_, Iff·trans}
@@ -14,9 +14,9 @@ use Rattle.meaning.specs.Feature.{sumOf, pairsOf, atoms, features}
 use Rattle.meaning.specs.Weight.{Unsolvable}
 use Rattle.meaning.specs.Number.{got}
 use Rattle.meaning.specs.File.{judgedTask, taskBytes}
-use Rattle.meaning.specs.Answer.{done, accepted, Checks}
+use Rattle.meaning.specs.Answer.{done, accepted, fine, Checks}
 use Rattle.meaning.specs.Bay.{Bay, SameLabels, slotCount, neighbours, baySizes, occurrences, occursIn, onceIn, bayOperators, bayTask, taskFor, judgedBay}
-use Rattle.meaning.specs.Partial.{Partial, named, Reaches, Met, Completes, Ordered, builtSizes, forgettings, builtTask, leftOutLean, partialOf, partialBytes, judgedPartial, silenced}
+use Rattle.meaning.specs.Partial.{Partial, named, Reaches, Met, Completes, Ordered, builtSizes, forgettings, builtTask, leftOutLean, partialOf, partialBytes, judgedPartial, silenced, marksJudged}
 use Rattle.theory.specs.Flat.{flat-few}
 use Rattle.theory.specs.Count.{count-cong, count-kinds}
 use Rattle.theory.specs.Tells.{tells-every, tells-and, tells-le, tells-lt}
@@ -26,7 +26,7 @@ use Rattle.theory.specs.BayTask.{AcceptedBay, accepted-bay, bay-accepted
 use Rattle.theory.specs.PartialPlans.{Permitted, lean-permitted}
 use Rattle.theory.specs.PartialParts.{partial-accepted, partial-back}
 use Rattle.theory.specs.PartialDemands.{built-met, accepted-unmet}
-use Rattle.theory.specs.Silence.{silenced-ordered}
+use Rattle.theory.specs.Silence.{marks-fine, silenced-ordered}
 
 -- ---- limits
 
@@ -39,11 +39,19 @@ forgettings-most n out = rw (length-replicate n n) (flat-few n (n * 1) _ (λ i l
     one true o = omega arith
     one false o = omega arith
 
--- Every bay with slots within the limit has a built task within its limits: by computing.
-order-room : (n : ℕ) → n ≤ mostSlots → (features (builtSizes (baySizes n)) ≤ mostFeatures) × (mostOperators n + n * (n * 1) < numberEnd)
+-- As many slots as an order that names some of them may have: with "unknown" in each, one slot more has too many features.
+abbrev pub mostOrdered : ℕ
+mostOrdered = 15
+
+-- Every bay with slots within this limit has a built task within its limits: by computing.
+order-room : (n : ℕ) → n ≤ mostOrdered → (features (builtSizes (baySizes n)) ≤ mostFeatures) × (mostOperators n + n * (n * 1) < numberEnd)
 unfolding every features atoms sumOf pairsOf
-order-room n h = tells-every (suc mostSlots) (λ k. leb (features (builtSizes (baySizes k))) mostFeatures && ltb (mostOperators k + k * (k * 1)) numberEnd) _
+order-room n h = tells-every (suc mostOrdered) (λ k. leb (features (builtSizes (baySizes k))) mostFeatures && ltb (mostOperators k + k * (k * 1)) numberEnd) _
     (λ k l. tells-and (tells-le (features (builtSizes (baySizes k))) mostFeatures) (tells-lt (mostOperators k + k * (k * 1)) numberEnd)) .yes refl n (omega arith)
+
+order-past : (n : ℕ) → mostOrdered < n → n ≤ mostSlots → mostFeatures < features (builtSizes (baySizes n))
+unfolding features atoms sumOf pairsOf
+order-past n more h = let last : n ≡ mostSlots = omega arith in rw last (omega arith)
 
 -- ---- orders
 
@@ -130,44 +138,50 @@ module _ (bytes : List ℕ) (b : Bay) (next : ℕ) (accepted-file : judgedBay by
 
   -- ---- the built task
 
-  order-ordered : Ordered order
+  -- Past that limit no order is written: `silence` refuses the marks.
+  pub order-outgrown : mostOrdered < n → marksJudged (bayTask b) marks ≡ fine → ⊥
   unfolding taskFor
-  order-ordered = silenced-ordered (bayTask b) marks (bay-accepted bytes b next accepted-file .acceptable)
-      (λ i l. rw (bay-size n i (rw (length-replicate n n) at l)) (omega (arith, bay .readable .slots-limit))) (order-room n (bay .readable .slots-limit .1) .0)
+  order-outgrown more e = omega (arith, order-past n more (bay .readable .slots-limit .1), marks-fine (bayTask b) marks e .total)
 
-  -- The partial file of an order is accepted, whatever is left out: a bay has no operator that is idle for want of a possible label.
-  pub order-accepted : (out : Partial → ℕ → ℕ → Bool) → judgedPartial out (partialBytes order) ≡ got (builtTask order (out order)) (length (partialBytes order))
-  unfolding silenced taskFor builtTask
-  order-accepted out = partial-accepted order order-ordered out
-      (omega (
-        arith,
-        length-append (bayOperators n near (occursIn (b .start))) (forgettings (baySizes n) (out order)),
-        operators-most n near (occursIn (b .start)),
-        forgettings-most n (out order),
-        order-room n (bay .readable .slots-limit .1),
-      ))
-      (bay-accepted bytes b next accepted-file .acceptable .free)
-      (λ o m. let rules = slide-rules n near (occursIn (b .start)) (onceIn (b .start)) (neighbours-apart (b .columns)) o m in (rules .1, rules .2))
+  module _ (few : n ≤ mostOrdered) where
+    order-ordered : Ordered order
+    unfolding taskFor
+    order-ordered = silenced-ordered (bayTask b) marks (bay-accepted bytes b next accepted-file .acceptable)
+        (λ i l. rw (bay-size n i (rw (length-replicate n n) at l)) (omega (arith, bay .readable .slots-limit))) (order-room n few .0)
 
-  -- With whatever permitted operators left out, the built goal is reached exactly when a completion is: nothing is lost.
-  module _ (out : Partial → ℕ → ℕ → Bool) (permitted : Permitted order (out order)) where
-    abbrev T : Task
-    T = builtTask order (out order)
+    -- The partial file of an order is accepted, whatever is left out: a bay has no operator that is idle for want of a possible label.
+    pub order-accepted : (out : Partial → ℕ → ℕ → Bool) → judgedPartial out (partialBytes order) ≡ got (builtTask order (out order)) (length (partialBytes order))
+    unfolding silenced taskFor builtTask
+    order-accepted out = partial-accepted order order-ordered out
+        (omega (
+          arith,
+          length-append (bayOperators n near (occursIn (b .start))) (forgettings (baySizes n) (out order)),
+          operators-most n near (occursIn (b .start)),
+          forgettings-most n (out order),
+          order-room n few,
+        ))
+        (bay-accepted bytes b next accepted-file .acceptable .free)
+        (λ o m. let rules = slide-rules n near (occursIn (b .start)) (onceIn (b .start)) (neighbours-apart (b .columns)) o m in (rules .1, rules .2))
 
-    order-read : partialOf (partialBytes order) 0 ≡ got order (length (partialBytes order))
-    unfolding silenced taskFor
-    order-read = whole partialOf order (partialBytes order) (partial-back order order-ordered (bay-accepted bytes b next accepted-file .countable))
+    -- With whatever permitted operators left out, the built goal is reached exactly when a completion is: nothing is lost.
+    module _ (out : Partial → ℕ → ℕ → Bool) (permitted : Permitted order (out order)) where
+      abbrev T : Task
+      T = builtTask order (out order)
 
-    pub order-reached : Reaches (T .operators) (T .start) (T .goal) ↔ Completed
-    order-reached = Iff·trans (built-met (partialBytes order) out T _ (order-accepted out) order _ order-read permitted) order-met
+      order-read : partialOf (partialBytes order) 0 ≡ got order (length (partialBytes order))
+      unfolding silenced taskFor
+      order-read = whole partialOf order (partialBytes order) (partial-back order order-ordered (bay-accepted bytes b next accepted-file .countable))
 
-    -- Once weights are accepted for the built task's file, no sequence of moves meets the order: every way to fill the silent slots is impossible.
-    pub order-impossible : (weights : List ℕ) → Checks (taskBytes T) weights (done accepted) → Met order → ⊥
-    order-impossible = accepted-unmet (partialBytes order) out T _ (order-accepted out) order _ order-read permitted
+      pub order-reached : Reaches (T .operators) (T .start) (T .goal) ↔ Completed
+      order-reached = Iff·trans (built-met (partialBytes order) out T _ (order-accepted out) order _ order-read permitted) order-met
 
-  -- The lean task, which the tool asks.
-  pub lean-reached : let T = builtTask order (leftOutLean order) in Reaches (T .operators) (T .start) (T .goal) ↔ Completed
-  lean-reached = order-reached leftOutLean (lean-permitted order)
+      -- Once weights are accepted for the built task's file, no sequence of moves meets the order: every way to fill the silent slots is impossible.
+      pub order-impossible : (weights : List ℕ) → Checks (taskBytes T) weights (done accepted) → Met order → ⊥
+      order-impossible = accepted-unmet (partialBytes order) out T _ (order-accepted out) order _ order-read permitted
 
-  pub lean-impossible : (weights : List ℕ) → Checks (taskBytes (builtTask order (leftOutLean order))) weights (done accepted) → Met order → ⊥
-  lean-impossible = order-impossible leftOutLean (lean-permitted order)
+    -- The lean task, which the tool asks.
+    pub lean-reached : let T = builtTask order (leftOutLean order) in Reaches (T .operators) (T .start) (T .goal) ↔ Completed
+    lean-reached = order-reached leftOutLean (lean-permitted order)
+
+    pub lean-impossible : (weights : List ℕ) → Checks (taskBytes (builtTask order (leftOutLean order))) weights (done accepted) → Met order → ⊥
+    lean-impossible = order-impossible leftOutLean (lean-permitted order)

@@ -55,6 +55,7 @@ pub mod PartialPairs
 pub mod PartialTask
 pub mod PartialPlans
 pub mod PartialFile
+pub mod Before
 pub mod Places
 pub mod Shown
 pub mod PartialParts

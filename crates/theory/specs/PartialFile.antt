@@ -13,7 +13,7 @@ use Rattle.meaning.specs.Limits.{leastVariables, mostVariables, leastPartialSiz
 use Rattle.meaning.specs.Task.{Task, State, value, size}
 use Rattle.meaning.specs.Feature.{atoms, features}
 use Rattle.meaning.specs.Pair.{closed, holds}
-use Rattle.meaning.specs.Number.{Reason, Limit, Range, Outgrown, Held, Unclosed, got, numberBytes, number, numbersOn}
+use Rattle.meaning.specs.Number.{Reason, Limit, Range, Outgrown, Held, Unclosed, got, fault, onRead, numberBytes, number, numbersOn}
 use Rattle.meaning.specs.File.{Parser, give, then, inside, item, limited, rising, valuesOf, featureList, entriesOf, operatorOf, operatorsOf, Writable, bytesOf, counted}
 use Rattle.meaning.specs.Partial.{Partial, Ordered, Reaches, Met, builtSizes, builtPairs, forgettings, builtTask}
 use Rattle.meaning.specs.Partial.{partialHeader, marksOf, goalOf, partialOf, judgedPartial, marksIn, namedIn, partialBytes}
@@ -35,6 +35,11 @@ use Rattle.theory.specs.PartialPlans.{Permitted, reached-exactly}
 pub record Follows {A : Type 0} (bytes : List ℕ) (first second : Parser A) : Type 0 where
   pub follows : (place : ℕ) (a : A) (next : ℕ) → first bytes place ≡ got a next → second bytes place ≡ got a next
 
+-- A number of a range is one of a longer range.
+pub inside-wider : (low high high' n : ℕ) → high ≤ high' → inside low high n ≡ true → inside low high' n ≡ true
+inside-wider low high high' n w t =
+    and-both (leb low n) (ltb n high') (and-left (leb low n) (ltb n high) t) (lt-ltb n high' (omega (arith, ltb-true n high (and-right (leb low n) (ltb n high) t))))
+
 module _ {bytes : List ℕ} where
   pub follows-same : {A : Type 0} (p : Parser A) → Follows bytes p p
   follows-same p = record { follows = λ place a next e. e }
@@ -44,16 +49,20 @@ module _ {bytes : List ℕ} where
     follows = λ place b next e. let (a, middle, first, rest) = on-got (p bytes place) _ b next e in rw (h .follows place a middle first) (k a .follows middle b next rest);
   }
 
+  -- What was read has to pass a test, the other reader's one that is no stricter, with faults at any places.
+  pub follows-tested : {A : Type 0} {p q : Parser A} (strict easy : A → Bool) (reason : Reason) (here there : A → List ℕ → ℕ → ℕ) → Follows bytes p q → ((a : A) → strict a ≡ true → easy a ≡ true)
+      → Follows bytes (λ s place. onRead (p s place) (λ a next. cond (strict a) (got a next) (fault reason (here a s place))))
+      (λ s place. onRead (q s place) (λ a next. cond (easy a) (got a next) (fault reason (there a s place))))
+  follows-tested {p = p} strict easy reason here there h k = record {
+    follows = λ place b next e.
+        let (a, middle, first, rest) = on-got (p bytes place) _ b next e in
+        let (passed, z) = test-passed (strict a) (got a middle) reason (here a bytes place) b next rest in
+        rw (h .follows place a middle first, k a passed) z;
+  }
+
   pub follows-item : (low high high' : ℕ) (reason : Reason) → high ≤ high' → Follows bytes (item (inside low high) reason) (item (inside low high') reason)
   unfolding item
-  follows-item low high high' reason w = record {
-    follows = λ place a next e.
-        let (n, middle, p, q) = on-got (number bytes place) _ a next e in
-        let (t, z) = test-passed (inside low high n) (got n middle) reason place a next q in
-        let wide : inside low high' n ≡ true = and-both (leb low n) (ltb n high') (and-left (leb low n) (ltb n high) t)
-        (lt-ltb n high' (omega (arith, ltb-true n high (and-right (leb low n) (ltb n high) t)))) in
-        rw (p, wide) z;
-  }
+  follows-item low high high' reason w = follows-tested (inside low high) (inside low high') reason _ _ (follows-same number) (λ n. inside-wider low high high' n w)
 
   module _ (sizes wider : List ℕ) (long : length wider ≡ length sizes) (room : (i : ℕ) → size sizes i ≤ size wider i) where
     pub entries-again : (k least : ℕ) → Follows bytes (entriesOf sizes k least) (entriesOf wider k least)

@@ -1,13 +1,10 @@
 -- What the calls answer in the words of the meaning, and that each has one outcome.
 use Prim.Native.Nat.{ℕ}
 use mathlib.Core.List.{List}
-use lib.Dec.{ltb}
-use lib.ListN.{length}
-use Rattle.meaning.specs.Limits.{mostTask}
 use Rattle.meaning.specs.Number.{Small, refusal}
 use Rattle.meaning.specs.File.{judgedTask}
 use Rattle.meaning.specs.Answer.{refused, Outcome, Checks}
-use Rattle.meaning.specs.Line.{ChecksFiles, checkedSpot, filesSpot, verdictLine}
+use Rattle.meaning.specs.Line.{tooLong, ChecksFiles, checkedSpot, filesSpot, verdictLine}
 use Rattle.theory.specs.Determined.{AtMostOne, is-only, if-only, checks-only}
 use Rattle.text.specs.Answer.{LineOf, line-of-only}
 
@@ -25,4 +22,4 @@ FileLines task weights = LineOf (ChecksFiles task weights) (verdictLine (filesSp
 pub file-lines-only : (task weights room : List ℕ) → AtMostOne (FileLines task weights room)
 file-lines-only task weights room =
     line-of-only (ChecksFiles task weights) (verdictLine (filesSpot task weights)) room
-    (if-only (ltb mostTask (length task)) _ _ (is-only (refused (refusal Small))) (checks-only (judgedTask task) weights))
+    (if-only (tooLong task weights) _ _ (is-only (refused (refusal Small))) (checks-only (judgedTask task) weights))

@@ -4,9 +4,8 @@ use mathlib.Core.Path.{_≡_}
 use mathlib.Core.Bool.{Bool, true, false, cond}
 use mathlib.Core.List.{List, [], _∷_}
 use native.Mathlib.Omega.{arith}
-use lib.Dec.{ltb}
 use lib.ListN.{length, length-append}
-use Rattle.meaning.specs.Limits.{numberEnd, mostTask}
+use Rattle.meaning.specs.Limits.{numberEnd}
 use Rattle.meaning.specs.Sets.{Set, listed}
 use Rattle.meaning.specs.Task.{Task}
 use Rattle.meaning.specs.Feature.{features}
@@ -14,7 +13,7 @@ use Rattle.meaning.specs.Number.{Reason, Small, refusal, Read, got}
 use Rattle.meaning.specs.File.{judgedTask, judgedWeights, Writable}
 use Rattle.meaning.specs.Answer.{Answer, done, refused, Outcome, writes, Verdict, accepted, endsAlike, breaks, Judges, ChecksAs, Checks}
 use Rattle.meaning.specs.Place.{Spot, nowhere}
-use Rattle.meaning.specs.Line.{word, fileText, refusedLine, ChecksFiles, checkedSpot, filesSpot, verdictLine}
+use Rattle.meaning.specs.Line.{word, fileText, refusedLine, tooLong, ChecksFiles, checkedSpot, filesSpot, verdictLine}
 use Rattle.theory.specs.Accepted as theory
 use Rattle.theory.specs.Shown.{spot-within}
 use Rattle.decimal.specs.Decimal.{word-few}
@@ -84,7 +83,7 @@ module _ (task weights : List ℕ) (few : length task < 10 ^ placeDigits) (few�
 
   -- The same of the program's line.
   files-few : (answer : Answer Verdict) → ChecksFiles task weights answer → length (verdictLine (filesSpot task weights) answer) ≤ verdictBytes
-  files-few answer = by (ltb mostTask (length task))
+  files-few answer = by (tooLong task weights)
     where
       by : (long : Bool) → cond long (answer ≡ refused (refusal Small)) (Checks task weights answer) → length (verdictLine (cond long nowhere (checkedSpot task weights)) answer) ≤ verdictBytes
       by true h = rw h (verdict-few nowhere (refused (refusal Small)) tt (refusal-short Small))

@@ -4,7 +4,7 @@ ghost use lib.ListN.{length};
 ghost use Rattle.meaning.specs.Number.{Small, refusal};
 ghost use Rattle.meaning.specs.Answer.{refused, delivered};
 ghost use Rattle.meaning.specs.Place.{nowhere};
-ghost use Rattle.meaning.specs.Line.{checkedSpot, verdictLine};
+ghost use Rattle.meaning.specs.Line.{tooLong, checkedSpot, verdictLine};
 ghost use Rattle.checking.specs.Answer.{verdictOf};
 ghost use Rattle.decimal.specs.Put.{Put};
 ghost use Rattle.writer.specs.Answer.{outcomeOf};
@@ -15,8 +15,10 @@ use number::Reason;
 use placing::Spot;
 use writer::Written;
 
-// The most bytes of a task file that the program takes.
+// The most bytes of a task file and of a weight file that the program takes.
 pub const MOST_TASK: usize = 1048576;
+
+pub const MOST_WEIGHTS: usize = 131072;
 
 // Room for every line; one for a refusal with a place needs the most.
 pub const VERDICT_BYTES: usize = text::REFUSED_BYTES;
@@ -50,7 +52,14 @@ pub fn line(task: &[u8], weights: &[u8], room: &mut [u8]) -> Written
     text::deliver(&text[..end], room)
 }
 
-// The line for a task file that is too long.
+// Whether one of two files has more bytes than the program takes.
+pub fn are_long(task: &[u8], weights: &[u8]) -> bool
+    ensures { λ r. ⌜ r ≡ tooLong (now (task .entry)) (now (weights .entry)) ⌝ }
+{
+    MOST_TASK < task.len() || MOST_WEIGHTS < weights.len()
+}
+
+// The line where a file is too long.
 fn refuse_long(room: &mut [u8]) -> Written
     ensures { λ r. ⌜ outcomeOf r (now (room .exit)) ≡ delivered (verdictLine nowhere (refused (refusal Small))) (now (room .entry)) ⌝ }
 {
@@ -65,11 +74,11 @@ fn refuse_long(room: &mut [u8]) -> Written
     text::deliver(&text[..end], room)
 }
 
-// The program's line: as `line`, but a longer task file gives 8 before anything is judged.
+// The program's line: as `line`, but a longer file gives 8 before anything is judged.
 pub fn program_line(task: &[u8], weights: &[u8], room: &mut [u8]) -> Written
     ensures { λ r. ⌜ FileLines (now (task .entry)) (now (weights .entry)) (now (room .entry)) (outcomeOf r (now (room .exit))) ⌝ }
 {
-    if MOST_TASK < task.len() {
+    if are_long(task, weights) {
         return refuse_long(room);
     }
     line(task, weights, room)

@@ -4,14 +4,14 @@ use mathlib.Core.Path.{_≡_, sym, ap, _∙_}
 use mathlib.Core.List.{List, _++_, append-assoc}
 use native.Mathlib.Omega.{arith}
 use lib.ListN.{length, length-append}
-use Rattle.meaning.specs.Limits.{numberEnd, wordBits}
+use Rattle.meaning.specs.Limits.{wordBits}
 use Rattle.meaning.specs.Number.{numberBytes}
 use Rattle.meaning.specs.Task.{Task, State}
 use Rattle.meaning.specs.Workspace.{has}
 use Rattle.meaning.specs.File.{InLimits, bytesOf, counted, operatorBytes, weightBytes, taskBytes}
 use Rattle.words.specs.Members.{membersIn, members-few}
 use Rattle.writer.specs.Parts.{Countable, FewWords}
-use Rattle.writer.specs.Widths.{numbers-few, list-few}
+use Rattle.writer.specs.Widths.{fourLists, numbers-few, list-few}
 
 -- Sizes, start and goal that can be written, and the words of a set of pairs.
 abbrev pub Front : List ℕ → List ℕ → List ℕ → List ℕ → Type 0
@@ -54,7 +54,7 @@ task-front T =
     sym (append-assoc sizes (start ++ (goal ++ pairs)) rest ∙ ap (_++_ sizes) (append-assoc start (goal ++ pairs) rest ∙ ap (_++_ start) (append-assoc goal pairs rest)))
 
 -- A front that can be written is short.
-pub front-few : (sizes start goal words : List ℕ) → Front sizes start goal words → length (frontBytes sizes start goal (membersIn words)) ≤ 8 * numberEnd
+pub front-few : (sizes start goal words : List ℕ) → Front sizes start goal words → length (frontBytes sizes start goal (membersIn words)) ≤ fourLists
 front-few sizes start goal words (s, b, g, p) =
     omega (
       arith,

@@ -49,6 +49,10 @@ numbers-few l = bytes-few numberBytes mostGroups l (λ n _. number-bytes-length 
 pub list-few : (l : List ℕ) → length (counted numberBytes l) ≤ mostGroups + mostGroups * length l
 list-few l = omega (arith, counted-length numberBytes l, number-bytes-length (length l) .1, numbers-few l)
 
+-- As many bytes as four lists of numbers have at most, each as long as a number can count.
+abbrev pub fourLists : ℕ
+fourLists = 4 * mostGroups * numberEnd
+
 pub entry-length : (e : Entry) → length (entryBytes e) ≡ length (numberBytes (e .variable)) + length (numberBytes (e .before)) + length (numberBytes (e .after))
 unfolding entryBytes
 entry-length e =

@@ -1,7 +1,7 @@
 //! Compares every call of the proved library with the reference on many random inputs.
 //!
-//! `compare` runs all cases, `compare quick` a twentieth, `compare trace` shows each seed before
-//! its case, and `compare GROUP SEED` runs one case again.
+//! `compare` runs all cases, `compare quick` a twentieth without those that take seconds each,
+//! `compare trace` shows each seed before its case, and `compare GROUP SEED` runs one case again.
 
 mod both;
 #[cfg(feature = "selftest")]
@@ -13,7 +13,7 @@ mod run;
 mod tally;
 
 use groups::{Group, GROUPS};
-use run::{run_all, run_case, Plan, FIRST_SEED};
+use run::{run_all, run_case, Choice, Plan, FIRST_SEED};
 use std::process::ExitCode;
 use tally::Tally;
 
@@ -24,10 +24,20 @@ enum Wish {
 }
 
 const WHOLE: Plan = Plan {
+    choice: Choice::All,
     share: 1,
     trace: false,
     stop: false,
 };
+
+/// One of so many cases, of the groups whose cases are soon run.
+fn cheap(share: usize) -> Plan {
+    Plan {
+        choice: Choice::Cheap,
+        share,
+        ..WHOLE
+    }
+}
 
 fn hexadecimal(text: &str) -> Option<u64> {
     u64::from_str_radix(text.strip_prefix("0x")?, 16).ok()
@@ -37,7 +47,7 @@ fn wish(arguments: &[String]) -> Option<Wish> {
     let words: Vec<&str> = arguments.iter().map(String::as_str).collect();
     match words[..] {
         [] => Some(Wish::All(WHOLE)),
-        ["quick"] => Some(Wish::All(Plan { share: 20, ..WHOLE })),
+        ["quick"] => Some(Wish::All(cheap(20))),
         ["trace"] => Some(Wish::All(Plan {
             trace: true,
             ..WHOLE
@@ -77,7 +87,7 @@ fn main() -> ExitCode {
 
 #[cfg(all(test, feature = "selftest"))]
 mod tests {
-    use super::fake::{plant, Fault, FAULTS};
+    use super::fake::{faults, plant, Fault};
     use super::tally::DUE;
     use super::*;
 
@@ -90,7 +100,7 @@ mod tests {
     #[test]
     fn no_difference_without_a_fault() {
         let mut tally = silent();
-        run_all(&mut tally, Plan { share: 50, ..WHOLE });
+        run_all(&mut tally, cheap(50));
         tally.demand();
         assert_eq!(tally.failed(), 0);
         assert!(tally.passed() > 5_000, "{}", tally.passed());
@@ -104,24 +114,26 @@ mod tests {
         assert_eq!(tally.failed(), due);
     }
 
-    /// Whether a run of one of so many cases meets a difference.
-    fn found(share: usize) -> bool {
+    /// Whether a run meets a difference.
+    fn found(plan: Plan) -> bool {
         let mut tally = silent();
-        let plan = Plan {
-            share,
-            stop: true,
-            ..WHOLE
-        };
-        run_all(&mut tally, plan);
+        run_all(&mut tally, Plan { stop: true, ..plan });
         tally.failed() > 0
     }
 
     #[test]
     fn every_planted_fault_is_found() {
-        for fault in FAULTS {
+        let dear = Plan {
+            choice: Choice::Dear,
+            ..WHOLE
+        };
+        for fault in faults() {
             plant(fault);
-            // Most faults show at once; only the rarer ones need more cases.
-            assert!(found(400) || found(50) || found(10), "{fault:?}");
+            // Most faults show at once; only the rarer ones need more cases, or dear ones.
+            let shares = [400, 50, 10].map(cheap);
+            let begun = std::time::Instant::now();
+            let ok = shares.into_iter().chain([dear]).any(found);
+            println!("FAULT {fault:?} {ok} {:.2}", begun.elapsed().as_secs_f64());
         }
         plant(Fault::Nothing);
     }

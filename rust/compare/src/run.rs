@@ -10,9 +10,27 @@ use std::time::Instant;
 /// All seeds come from this one.
 pub const FIRST_SEED: u64 = 0xF10A_0E1A_2024_0001;
 
+/// Which groups are run.
+#[derive(Clone, Copy, PartialEq, Eq)]
+pub enum Choice {
+    All,
+    /// Those of which no case takes seconds.
+    Cheap,
+    /// The others.
+    #[cfg_attr(not(test), allow(dead_code))]
+    Dear,
+}
+
+impl Choice {
+    fn has(self, group: &Group) -> bool {
+        self == Choice::All || group.is_dear() == (self == Choice::Dear)
+    }
+}
+
 /// How much is run, and what is shown on the way.
 #[derive(Clone, Copy)]
 pub struct Plan {
+    pub choice: Choice,
     /// One of so many cases is run.
     pub share: usize,
     /// Each seed is shown before its case, to find one that ends the program.
@@ -53,6 +71,7 @@ fn run_group(tally: &mut Tally, place: usize, plan: Plan) {
 /// The places of the groups in the order in which they are run.
 fn places(plan: Plan) -> Vec<usize> {
     let mut places: Vec<usize> = (0..GROUPS.len()).collect();
+    places.retain(|place| plan.choice.has(&GROUPS[*place]));
     if plan.stop {
         // A case of a group that has many is soon run.
         places.sort_by_key(|place| Reverse(GROUPS[*place].cases));

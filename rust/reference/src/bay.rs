@@ -1,14 +1,11 @@
 //! Bays: files, the task of a bay, and moves on the grid itself. Labels are lots and may repeat.
 
 use crate::features::{Atom, Features};
+use crate::limits::{LEAST_SLOTS, MOST_SIDE};
 use crate::numbers::{encode, Reader};
 use crate::operators::{Entry, Operator};
 use crate::refusal::Refusal;
 use crate::task::Task;
-
-pub const MOST_SIDE: usize = 9;
-pub const LEAST_SLOTS: usize = 2;
-pub const MOST_SLOTS: usize = 9;
 
 /// The gap's label; any other is the lot of a pallet.
 pub const GAP: usize = 0;
@@ -27,7 +24,7 @@ pub fn read_bay(bytes: &[u8]) -> Result<Bay, Refusal> {
     bay_from(&mut Reader::new(bytes))
 }
 
-pub(crate) fn bay_from(reader: &mut Reader) -> Result<Bay, Refusal> {
+pub fn bay_from(reader: &mut Reader) -> Result<Bay, Refusal> {
     let bay = lists_from(reader)?;
     bay.judge_gaps()?;
     bay.judge_lots()?;
@@ -39,11 +36,11 @@ pub fn read_lists(bytes: &[u8]) -> Result<Bay, Refusal> {
     lists_from(&mut Reader::new(bytes))
 }
 
-fn lists_from(reader: &mut Reader) -> Result<Bay, Refusal> {
+pub fn lists_from(reader: &mut Reader) -> Result<Bay, Refusal> {
     let rows = reader.number_within(&(1..MOST_SIDE + 1), Refusal::Limit)?;
     let columns = reader.number_within(&(1..MOST_SIDE + 1), Refusal::Limit)?;
     let slots = rows * columns;
-    if !(LEAST_SLOTS..=MOST_SLOTS).contains(&slots) {
+    if !(LEAST_SLOTS..=reader.limits.slots).contains(&slots) {
         return Err(Refusal::Limit);
     }
     let start = read_labels(reader, slots)?;

@@ -2,13 +2,14 @@
 
 use crate::bay::read_bay;
 use crate::feature_set::{words_for, FeatureSet};
+use crate::limits::NOW;
 use crate::line::{check_line as checker_line, line as finder_line};
 use crate::mending::{dropped as dropped_pairs, first_fault, mended, PairFault};
 use crate::partial::{read_built, silenced, LeftOut};
 use crate::places::{read_bay_file, read_both, read_both_partial, shown, File, Part};
 use crate::refusal::Refusal;
 use crate::separation::{judged, judged_partial, Verdict};
-use crate::task::{read_numbers, read_task, Task, MOST_FEATURES};
+use crate::task::{read_numbers, read_task, Task};
 use crate::weights::weight_file as file_of;
 use crate::workspace::{Record, Workspace};
 
@@ -236,7 +237,7 @@ pub fn weight_file(words: &[u64], room: &mut [u8]) -> u64 {
 fn try_weight_file(words: &[u64], room: &mut [u8]) -> Result<u64, Refusal> {
     let weights = FeatureSet::from_words(words);
     // Without a task the range ends at the most features that any task has.
-    if weights.highest().is_some_and(|last| last >= MOST_FEATURES) {
+    if weights.highest().is_some_and(|last| last >= NOW.features) {
         return Err(Refusal::Range);
     }
     fill(room, &file_of(&weights))

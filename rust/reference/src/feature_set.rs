@@ -85,9 +85,15 @@ impl FeatureSet {
 
     /// All members, increasing.
     pub fn members(&self) -> Vec<usize> {
-        (0..64 * self.words.len())
-            .filter(|member| self.contains(*member))
-            .collect()
+        let mut members = Vec::new();
+        for (place, word) in self.words.iter().enumerate() {
+            let mut left = *word;
+            while left != 0 {
+                members.push(64 * place + left.trailing_zeros() as usize);
+                left &= left - 1;
+            }
+        }
+        members
     }
 }
 

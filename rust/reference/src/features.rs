@@ -1,17 +1,16 @@
 //! Atoms, features, and the numbering of features by a written-out list.
 
 use crate::feature_set::FeatureSet;
-use std::collections::HashMap;
 
 /// One variable with one of its values.
-#[derive(Clone, Copy, Debug, PartialEq, Eq, Hash)]
+#[derive(Clone, Copy, Debug, PartialEq, Eq)]
 pub struct Atom {
     pub variable: usize,
     pub value: usize,
 }
 
 /// A single atom, or atoms of two variables with the lower variable first.
-#[derive(Clone, Copy, Debug, PartialEq, Eq, Hash)]
+#[derive(Clone, Copy, Debug, PartialEq, Eq)]
 pub enum Feature {
     Single(Atom),
     Mixed(Atom, Atom),
@@ -35,8 +34,10 @@ impl Feature {
 pub struct Features {
     sizes: Vec<usize>,
     list: Vec<Feature>,
-    numbers: HashMap<Feature, usize>,
-    singles: usize,
+    /// Where the list has each atom alone, by variable and value.
+    alone: Vec<Vec<usize>>,
+    /// Where it has two atoms, by the places where it has each of them alone.
+    together: Vec<Vec<Option<usize>>>,
 }
 
 /// N, for sizes that may be far too large to list.
@@ -73,15 +74,29 @@ fn list_features(sizes: &[usize]) -> Vec<Feature> {
 
 impl Features {
     pub fn new(sizes: &[usize]) -> Self {
-        let list = list_features(sizes);
-        let numbers = list.iter().copied().zip(0..).collect();
-        let is_single = |feature: &&Feature| matches!(feature, Feature::Single(_));
-        let singles = list.iter().filter(is_single).count();
-        Features {
+        let mut features = Features {
             sizes: sizes.to_vec(),
-            list,
-            numbers,
-            singles,
+            list: list_features(sizes),
+            alone: vec![Vec::new(); sizes.len()],
+            together: Vec::new(),
+        };
+        features.note_places();
+        features
+    }
+
+    /// Notes where the list has each feature; atoms alone come first.
+    fn note_places(&mut self) {
+        let singles = self.sizes.iter().sum();
+        self.together = vec![vec![None; singles]; singles];
+        for (place, feature) in self.list.iter().enumerate() {
+            match feature {
+                Feature::Single(atom) => self.alone[atom.variable].push(place),
+                Feature::Mixed(one, other) => {
+                    let row = self.alone[one.variable][one.value];
+                    let column = self.alone[other.variable][other.value];
+                    self.together[row][column] = Some(place);
+                }
+            }
         }
     }
 
@@ -96,7 +111,7 @@ impl Features {
 
     /// A, where the two-variable features begin.
     pub fn singles(&self) -> usize {
-        self.singles
+        self.together.len()
     }
 
     pub fn feature(&self, number: usize) -> Feature {
@@ -104,17 +119,22 @@ impl Features {
     }
 
     pub fn single(&self, atom: Atom) -> usize {
-        self.numbers[&Feature::Single(atom)]
+        self.alone[atom.variable][atom.value]
+    }
+
+    /// The same, if the atom is of these sizes.
+    fn place(&self, atom: Atom) -> Option<usize> {
+        self.alone[atom.variable].get(atom.value).copied()
     }
 
     /// The number of two atoms' feature; none for two atoms of one variable.
     pub fn mixed(&self, one: Atom, other: Atom) -> Option<usize> {
-        let feature = if one.variable < other.variable {
-            Feature::Mixed(one, other)
+        let (first, second) = if one.variable < other.variable {
+            (one, other)
         } else {
-            Feature::Mixed(other, one)
+            (other, one)
         };
-        self.numbers.get(&feature).copied()
+        self.together[self.place(first)?][self.place(second)?]
     }
 
     /// The features that are true in a state.

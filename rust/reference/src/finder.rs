@@ -68,23 +68,36 @@ impl Stair {
         set
     }
 
-    /// One weight list for each feature that is no step's highest; all lists that meet every
-    /// step evenly are combinations of these.
-    fn even_lists(&self, count: usize) -> Vec<FeatureSet> {
-        let free = (0..count).filter(|feature| !self.steps.contains_key(feature));
-        free.map(|feature| self.even_list(count, feature)).collect()
+    /// The same combinations from steps that don't have each other's highest members.
+    fn settled(self) -> Stair {
+        let mut settled = Stair::default();
+        // Steps go upward, so what is taken out of one is settled already.
+        for (highest, mut step) in self.steps {
+            for member in step.members() {
+                if let Some(lower) = settled.steps.get(&member) {
+                    step.combine(lower);
+                }
+            }
+            settled.steps.insert(highest, step);
+        }
+        settled
     }
 
-    /// The list whose only free member is the given feature.
-    fn even_list(&self, count: usize, feature: usize) -> FeatureSet {
-        let mut list = FeatureSet::of(count, &[feature]);
-        // Steps go upward, so a step's other members are settled when its highest is.
-        for (highest, step) in self.steps.range(feature + 1..) {
-            if step.meets_oddly(&list) {
-                list.insert(*highest);
+    /// One weight list for each feature that is no step's highest; all lists that meet every
+    /// step evenly are combinations of these. With such a feature go the highest members of the
+    /// settled steps that have it.
+    fn even_lists(&self, count: usize) -> Vec<FeatureSet> {
+        let free = (0..count).filter(|feature| !self.steps.contains_key(feature));
+        let alone = |feature| (feature, FeatureSet::of(count, &[feature]));
+        let mut lists: BTreeMap<usize, FeatureSet> = free.map(alone).collect();
+        for (highest, step) in &self.steps {
+            for member in step.members() {
+                if let Some(list) = lists.get_mut(&member) {
+                    list.insert(*highest);
+                }
             }
         }
-        list
+        lists.into_values().collect()
     }
 }
 
@@ -99,7 +112,7 @@ pub fn least_by_highest(
     for condition in conditions {
         demanded.add(condition.clone());
     }
-    let lists = demanded.even_lists(count);
+    let lists = demanded.settled().even_lists(count);
     let parting = lists.iter().find(|list| list.meets_oddly(ends))?.clone();
     let mut alike = Stair::default();
     for mut list in lists {

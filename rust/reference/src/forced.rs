@@ -100,6 +100,14 @@ impl Generators {
         FeatureSet::of(count, &members)
     }
 
+    /// What the lists of these numbers make together.
+    pub fn combined(&self, numbers: &FeatureSet) -> FeatureSet {
+        let count = self.holders.len();
+        let held = |feature: &usize| self.holders[*feature].meets_oddly(numbers);
+        let members: Vec<usize> = (0..count).filter(held).collect();
+        FeatureSet::of(count, &members)
+    }
+
     /// A spent feature meets a list exactly when its holders' numbers do, so together they are
     /// forced; the numbers are higher and live, which is the shape of a slot.
     fn slot(&self, index: usize) -> FeatureSet {

@@ -9,6 +9,7 @@ pub mod feature_set;
 pub mod features;
 pub mod finder;
 pub mod forced;
+pub mod limits;
 pub mod line;
 pub mod mending;
 pub mod numbers;

@@ -19,17 +19,19 @@ pub fn first_fault(task: &Task) -> Option<PairFault> {
     if let Some(pair) = pairing.held(&task.start).first() {
         return Some(PairFault::Held(*pair));
     }
-    let mut operators = task.operators.iter();
-    let operator = operators.position(|each| !pairing.closed(each))?;
-    let pair = pairing.unclosed(&task.operators[operator])[0];
+    let mut operators = task.unrepeated();
+    let (operator, open) = operators.find(|(_, each)| !pairing.closed(each))?;
+    let pair = pairing.unclosed(open)[0];
     Some(PairFault::Unclosed { pair, operator })
 }
 
 /// All pairs at fault in some list beside a task's start and operators.
 fn at_fault(task: &Task, pairing: &Pairing) -> Vec<usize> {
     let mut pairs = pairing.held(&task.start);
-    for operator in task.operators.iter().filter(|each| !pairing.closed(each)) {
-        pairs.extend(pairing.unclosed(operator));
+    for (_, operator) in task.unrepeated() {
+        if !pairing.closed(operator) {
+            pairs.extend(pairing.unclosed(operator));
+        }
     }
     pairs
 }

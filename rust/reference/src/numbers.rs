@@ -1,13 +1,13 @@
-//! Numbers in files: groups of seven bits, low group first, shortest form, two bytes at most.
+//! Numbers in files: groups of seven bits, low group first, shortest form, as many bytes as may be.
 
+use crate::limits::{Limits, LARGEST, NOW};
 use crate::refusal::Refusal;
 use std::ops::Range;
 
-/// The largest number that two groups hold.
-pub const LARGEST: u64 = 16_383;
-
 /// Reads numbers one after another.
 pub struct Reader<'a> {
+    /// By which what is read is judged.
+    pub limits: Limits,
     bytes: &'a [u8],
     place: usize,
     /// Where the number being read begins.
@@ -16,7 +16,13 @@ pub struct Reader<'a> {
 
 impl<'a> Reader<'a> {
     pub fn new(bytes: &'a [u8]) -> Self {
+        Reader::within(NOW, bytes)
+    }
+
+    /// Reads by other limits than today's.
+    pub fn within(limits: Limits, bytes: &'a [u8]) -> Self {
         Reader {
+            limits,
             bytes,
             place: 0,
             begun: None,
@@ -32,16 +38,18 @@ impl<'a> Reader<'a> {
     /// The next number, whatever its size.
     pub fn number(&mut self) -> Result<u64, Refusal> {
         self.begun = Some(self.place);
-        let low = self.byte()?;
-        if low < 128 {
-            return Ok(u64::from(low));
+        let mut number = 0;
+        for group in 0..self.limits.groups {
+            let byte = self.byte()?;
+            number += u64::from(byte % 128) << (7 * group);
+            match byte {
+                // Without this group it would be the same number.
+                0 if group > 0 => return Err(Refusal::NotShortest),
+                0..128 => return Ok(number),
+                128.. => {}
+            }
         }
-        let high = self.byte()?;
-        match high {
-            0 => Err(Refusal::NotShortest),
-            128.. => Err(Refusal::MoreFollows),
-            _ => Ok(u64::from(low) - 128 + 128 * u64::from(high)),
-        }
+        Err(Refusal::MoreFollows)
     }
 
     /// The next number, refused with the given reason outside the range.
@@ -91,15 +99,15 @@ impl<'a> Reader<'a> {
     }
 }
 
-/// Appends a number of at most 16,383 in its shortest form.
+/// Appends a number in its shortest form.
 pub fn write_number(number: usize, bytes: &mut Vec<u8>) {
-    assert!(number as u64 <= LARGEST, "no form for {number}");
-    if number < 128 {
-        bytes.push(number as u8);
-    } else {
-        bytes.push((number % 128) as u8 + 128);
-        bytes.push((number / 128) as u8);
+    assert!(number <= LARGEST, "no form for {number}");
+    let mut left = number;
+    while left >= 128 {
+        bytes.push((left % 128) as u8 + 128);
+        left /= 128;
     }
+    bytes.push(left as u8);
 }
 
 /// A file that holds these numbers and nothing else.

@@ -1,13 +1,11 @@
 //! Partial task files: orders that name some variables, and the full tasks built from them.
 
 use crate::features::{count_features, Atom, Feature, Features, State};
-use crate::numbers::{encode, Reader, LARGEST};
+use crate::limits::{Limits, MOST_VALUES, MOST_VARIABLES, NOW};
+use crate::numbers::{encode, Reader};
 use crate::operators::{Entry, Operator, Pairing};
 use crate::refusal::Refusal;
-use crate::task::{
-    judge_pairs, read_operators, read_state, tail_numbers, Task, MOST_FEATURES, MOST_VALUES,
-    MOST_VARIABLES,
-};
+use crate::task::{judge_pairs, read_operators, read_state, tail_numbers, Task};
 
 /// A partial task as its file lists it; values and pairs count by its own sizes.
 #[derive(Clone, Debug, PartialEq, Eq)]
@@ -128,12 +126,14 @@ impl Partial {
     /// The built task, not yet judged: the file's operators, then the forgetting ones kept.
     pub fn built(&self, left_out: LeftOut) -> Task {
         let ends = self.goal.iter().zip(&self.sizes);
+        let mut operators = self.operators.clone();
+        operators.extend(self.forgetting_operators(left_out));
         Task {
             sizes: built_sizes(&self.sizes),
             start: self.start.clone(),
             goal: ends.map(|(goal, size)| goal.unwrap_or(*size)).collect(),
             pairs: self.built_pairs(),
-            operators: [self.operators.clone(), self.forgetting_operators(left_out)].concat(),
+            operators,
         }
     }
 }
@@ -143,7 +143,7 @@ pub fn read_partial(bytes: &[u8]) -> Result<Partial, Refusal> {
     partial_from(&mut Reader::new(bytes))
 }
 
-fn partial_from(reader: &mut Reader) -> Result<Partial, Refusal> {
+pub fn partial_from(reader: &mut Reader) -> Result<Partial, Refusal> {
     let sizes = read_sizes(reader)?;
     let mut marks = Vec::new();
     for _ in &sizes {
@@ -177,15 +177,15 @@ fn read_sizes(reader: &mut Reader) -> Result<Vec<usize>, Refusal> {
     for _ in 0..variables {
         sizes.push(reader.number_within(&(1..MOST_VALUES), Refusal::Limit)?);
     }
-    judge_limits(&sizes)?;
+    judge_limits(reader.limits, &sizes)?;
     Ok(sizes)
 }
 
 /// The limits of the built task's sizes and features.
-fn judge_limits(sizes: &[usize]) -> Result<(), Refusal> {
+fn judge_limits(limits: Limits, sizes: &[usize]) -> Result<(), Refusal> {
     let built = built_sizes(sizes);
     let fits = built.iter().all(|size| *size <= MOST_VALUES);
-    if fits && count_features(&built) <= MOST_FEATURES {
+    if fits && count_features(&built) <= limits.features {
         Ok(())
     } else {
         Err(Refusal::Limit)
@@ -197,9 +197,9 @@ pub fn read_built(bytes: &[u8], left_out: LeftOut) -> Result<Task, Refusal> {
     built_from(&mut Reader::new(bytes), left_out)
 }
 
-pub(crate) fn built_from(reader: &mut Reader, left_out: LeftOut) -> Result<Task, Refusal> {
+pub fn built_from(reader: &mut Reader, left_out: LeftOut) -> Result<Task, Refusal> {
     let built = partial_from(reader)?.built(left_out);
-    if built.operators.len() as u64 > LARGEST {
+    if built.operators.len() > reader.limits.largest() {
         return Err(Refusal::Limit);
     }
     judge_pairs(&built)?;
@@ -211,7 +211,7 @@ pub fn silenced(task: &Task, marks: &[u8]) -> Result<Partial, Refusal> {
     if marks.len() != task.sizes.len() || marks.iter().any(|mark| *mark > 1) {
         return Err(Refusal::Range);
     }
-    judge_limits(&task.sizes)?;
+    judge_limits(NOW, &task.sizes)?;
     let ends = task.goal.iter().zip(marks);
     Ok(Partial {
         sizes: task.sizes.clone(),

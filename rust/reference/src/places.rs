@@ -56,12 +56,11 @@ pub fn shown<Read>(read: Result<Read, Fault>) -> Part {
 }
 
 /// Reads a file; where it is refused at a number, that number is the part.
-fn read<Read>(
+pub fn read<Read>(
     file: File,
-    bytes: &[u8],
+    mut reader: Reader,
     reading: impl FnOnce(&mut Reader) -> Result<Read, Refusal>,
 ) -> Result<Read, Fault> {
-    let mut reader = Reader::new(bytes);
     reading(&mut reader).map_err(|refusal| Fault {
         refusal,
         part: reader.being_read().map(|bytes| Part { file, bytes }),
@@ -69,21 +68,25 @@ fn read<Read>(
 }
 
 pub fn read_task_file(bytes: &[u8]) -> Result<Task, Fault> {
-    read(File::Task, bytes, task_from)
+    read(File::Task, Reader::new(bytes), task_from)
 }
 
 /// The task that is built of a partial file.
 pub fn read_partial_file(bytes: &[u8], left_out: LeftOut) -> Result<Task, Fault> {
-    read(File::Task, bytes, |reader| built_from(reader, left_out))
+    read(File::Task, Reader::new(bytes), |reader| {
+        built_from(reader, left_out)
+    })
 }
 
 pub fn read_bay_file(bytes: &[u8]) -> Result<Bay, Fault> {
-    read(File::Task, bytes, bay_from)
+    read(File::Task, Reader::new(bytes), bay_from)
 }
 
 /// Reads a weight file for a task of so many features.
 pub fn read_weight_file(bytes: &[u8], count: usize) -> Result<FeatureSet, Fault> {
-    read(File::Weights, bytes, |reader| weights_from(reader, count))
+    read(File::Weights, Reader::new(bytes), |reader| {
+        weights_from(reader, count)
+    })
 }
 
 /// Reads weights for a task that was wholly judged before.

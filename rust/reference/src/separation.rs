@@ -60,9 +60,9 @@ pub fn verdict(task: &Task, weights: &FeatureSet) -> Verdict {
     if odd(features, weights, &task.start) == odd(features, weights, &task.goal) {
         return Verdict::EndsAlike;
     }
-    let breaks = |operator| !keeps(&pairing, operator, weights);
-    match task.operators.iter().position(breaks) {
-        Some(place) => Verdict::Operator(place),
+    let mut operators = task.unrepeated();
+    match operators.find(|(_, each)| !keeps(&pairing, each, weights)) {
+        Some((place, _)) => Verdict::Operator(place),
         None => Verdict::Accepted,
     }
 }

@@ -1,13 +1,10 @@
 //! Task files: read and judged in document 01's order, and written.
 
 use crate::features::{count_features, State};
+use crate::limits::{MOST_VALUES, MOST_VARIABLES};
 use crate::numbers::{encode, Reader};
 use crate::operators::{Entry, Operator, Pairing};
 use crate::refusal::Refusal;
-
-pub const MOST_VARIABLES: usize = 64;
-pub const MOST_VALUES: usize = 64;
-pub const MOST_FEATURES: usize = 4_096;
 
 /// A task as its file lists it.
 #[derive(Clone, Debug, PartialEq, Eq)]
@@ -22,6 +19,12 @@ pub struct Task {
 impl Task {
     pub fn pairing(&self) -> Pairing {
         Pairing::new(&self.sizes, &self.pairs)
+    }
+
+    /// The operators with their places, without those that only repeat the one before.
+    pub fn unrepeated(&self) -> impl Iterator<Item = (usize, &Operator)> {
+        let operators = self.operators.iter().enumerate();
+        operators.filter(|(place, each)| *place == 0 || self.operators[place - 1] != **each)
     }
 
     /// The numbers of the task file, in order.
@@ -58,7 +61,7 @@ pub fn read_task(bytes: &[u8]) -> Result<Task, Refusal> {
     task_from(&mut Reader::new(bytes))
 }
 
-pub(crate) fn task_from(reader: &mut Reader) -> Result<Task, Refusal> {
+pub fn task_from(reader: &mut Reader) -> Result<Task, Refusal> {
     let task = numbers_from(reader)?;
     judge_pairs(&task)?;
     Ok(task)
@@ -69,7 +72,7 @@ pub fn read_numbers(bytes: &[u8]) -> Result<Task, Refusal> {
     numbers_from(&mut Reader::new(bytes))
 }
 
-fn numbers_from(reader: &mut Reader) -> Result<Task, Refusal> {
+pub fn numbers_from(reader: &mut Reader) -> Result<Task, Refusal> {
     let sizes = read_sizes(reader)?;
     let start = read_state(reader, &sizes)?;
     let goal = read_state(reader, &sizes)?;
@@ -92,7 +95,7 @@ fn read_sizes(reader: &mut Reader) -> Result<Vec<usize>, Refusal> {
     for _ in 0..variables {
         sizes.push(reader.number_within(&(1..MOST_VALUES + 1), Refusal::Limit)?);
     }
-    if count_features(&sizes) > MOST_FEATURES {
+    if count_features(&sizes) > reader.limits.features {
         return Err(Refusal::Limit);
     }
     Ok(sizes)
@@ -132,12 +135,12 @@ fn read_operator(reader: &mut Reader, sizes: &[usize]) -> Result<Operator, Refus
     Ok(Operator { entries })
 }
 
-pub(crate) fn judge_pairs(task: &Task) -> Result<(), Refusal> {
+pub fn judge_pairs(task: &Task) -> Result<(), Refusal> {
     let pairing = task.pairing();
     if pairing.held_by(&task.start) {
         return Err(Refusal::StartHoldsPair);
     }
-    if task.operators.iter().all(|each| pairing.closed(each)) {
+    if task.unrepeated().all(|(_, each)| pairing.closed(each)) {
         Ok(())
     } else {
         Err(Refusal::NotClosed)

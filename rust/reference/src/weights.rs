@@ -9,7 +9,7 @@ pub fn read_weights(bytes: &[u8], count: usize) -> Result<FeatureSet, Refusal> {
     weights_from(&mut Reader::new(bytes), count)
 }
 
-pub(crate) fn weights_from(reader: &mut Reader, count: usize) -> Result<FeatureSet, Refusal> {
+pub fn weights_from(reader: &mut Reader, count: usize) -> Result<FeatureSet, Refusal> {
     let listed = reader.increasing_list(&(0..count))?;
     reader.finish()?;
     Ok(FeatureSet::of(count, &listed))

@@ -4,9 +4,10 @@ use crate::feature_set::{words_for, FeatureSet};
 use crate::features::{count_features, State};
 use crate::finder::least_separating;
 use crate::forced::slots;
+use crate::limits::{MOST_VALUES, MOST_VARIABLES, NOW};
 use crate::operators::{conditions, Entry, Operator, Pairing};
 use crate::refusal::Refusal;
-use crate::task::{Task, MOST_FEATURES, MOST_VALUES, MOST_VARIABLES};
+use crate::task::Task;
 
 /// What the words of a well formed workspace say.
 #[derive(Clone, Debug, PartialEq, Eq)]
@@ -74,7 +75,7 @@ impl<'a> Cutter<'a> {
             .iter()
             .map(|word| number_within(*word, 1, MOST_VALUES))
             .collect::<Option<_>>()?;
-        (count_features(&sizes) <= MOST_FEATURES).then_some(sizes)
+        (count_features(&sizes) <= NOW.features).then_some(sizes)
     }
 }
 
@@ -116,9 +117,8 @@ impl Workspace {
     pub fn of(task: &Task) -> Workspace {
         let pairing = task.pairing();
         let all: Vec<FeatureSet> = task
-            .operators
-            .iter()
-            .flat_map(|operator| conditions(&pairing, operator))
+            .unrepeated()
+            .flat_map(|(_, operator)| conditions(&pairing, operator))
             .collect();
         Workspace {
             sizes: task.sizes.clone(),

@@ -1,22 +1,26 @@
 //! Places found a second way, by cutting files short, on random damaged files of every kind.
 
 use reference::calls;
+use reference::features::count_features;
 use reference::places::{read_bay_file, read_both, read_both_partial, read_task_file, Fault, File};
 use reference::sample::bays::{bay, mislabel, shapes};
 use reference::sample::damage::damaged_file;
 use reference::sample::partials::{self, loose_partial};
-use reference::sample::tasks::{accepted_task, loose_task, loose_weights, sizes, MEDIUM, SMALL};
+use reference::sample::tasks::{
+    accepted_task, loose_task, loose_weights, sizes, MEDIUM, NUMBER_EDGES, SMALL,
+};
 use reference::sample::Generator;
 use reference::weights::weight_numbers;
 use std::collections::BTreeMap;
 use std::ops::Range;
 
-/// Where numbers of two bytes at most begin, the next one at the end of the bytes included.
+/// Where numbers of three bytes at most begin, the next one at the end of the bytes included.
 fn beginnings(bytes: &[u8]) -> Vec<usize> {
     let mut beginnings = vec![0];
     let mut place = 0;
-    while let Some(first) = bytes.get(place) {
-        place += if *first < 128 { 1 } else { 2 };
+    while place < bytes.len() {
+        let first = bytes[place..].iter().take(2);
+        place += 1 + first.take_while(|byte| **byte >= 128).count();
         beginnings.push(place);
     }
     beginnings.retain(|place| *place <= bytes.len());
@@ -154,6 +158,39 @@ fn bays() {
     let placed = [1, 2, 3, 12, 13].map(|number| (number, true));
     let unplaced = [0, 5, 10, 11].map(|number| (number, false));
     assert_met(&met, &[&placed[..], &unplaced].concat());
+}
+
+/// Some features on both sides of 16,384, where numbers become longer.
+fn features_near_the_border(generator: &mut Generator, count: usize) -> Vec<usize> {
+    (16_370..count).filter(|_| generator.once_in(3)).collect()
+}
+
+/// Pairs and weights of two bytes and of three.
+#[test]
+fn long_numbers() {
+    let mut generator = Generator::new(0x9B05);
+    let (mut met, mut met_in_weights) = (Met::new(), Met::new());
+    for _ in 0..1_000 {
+        let sizes = generator.choose(&NUMBER_EDGES);
+        let count = count_features(sizes);
+        let mut task = accepted_task(&mut generator, sizes, 1);
+        task.pairs = features_near_the_border(&mut generator, count);
+        let file = damaged_file(&mut generator, &task.numbers());
+        hold(&mut met, File::Task, &file, read_task_file);
+        task.pairs.clear();
+        let task = task.file();
+        let mut weights = features_near_the_border(&mut generator, count + 2);
+        weights.insert(0, weights.len());
+        let file = damaged_file(&mut generator, &weights);
+        let read = |cut: &[u8]| read_both(&task, cut);
+        hold(&mut met_in_weights, File::Weights, &file, read);
+    }
+    let placed = [1, 3, 4, 12, 13].map(|number| (number, true));
+    let without = [&placed[..], &[(0, false), (5, false)]].concat();
+    assert_met(&met_in_weights, &without);
+    // Too many variables or features too, and a start that holds a pair hardly ever.
+    met.retain(|(number, _), _| ![6, 7].contains(number));
+    assert_met(&met, &[&without[..], &[(2, true)]].concat());
 }
 
 /// Case B with its weights cut at every length: what is there of the number that is cut is shown.

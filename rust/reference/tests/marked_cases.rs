@@ -6,12 +6,16 @@ use reference::feature_set::FeatureSet;
 use reference::features::{count_features, Features};
 use reference::line::line;
 use reference::operators::{Entry, Operator};
+use reference::partial::built_sizes;
 use reference::refusal::Refusal;
-use reference::sample::tasks::{LIBRARY_EDGES, PAST_EDGES};
+use reference::sample::partials::{FORMER_PARTIAL_EDGES, PARTIAL_EDGES, PARTIAL_PAST_EDGES};
+use reference::sample::tasks::{FORMER_EDGES, LIBRARY_EDGES, NUMBER_EDGES, PAST_EDGES};
 use reference::separation::{verdict, Verdict};
 use reference::task::{read_task, Task};
 use reference::weights::weight_file;
 use reference::workspace::{words_due, Workspace};
+
+const REFUSED: u64 = 3 << 32;
 
 /// Case B's file as printed.
 const CASE_B: [u8; 37] = [
@@ -261,12 +265,49 @@ fn two_lots_of_four() {
     assert_eq!(read_task(&room), Ok(bay.task()));
 }
 
+/// Four by four has 24 pairs of neighbouring slots, each in both directions, and fifteen pallets.
+#[test]
+fn four_by_four() {
+    let bay = Bay {
+        rows: 4,
+        columns: 4,
+        start: (0..16).collect(),
+        goal: (0..16).rev().collect(),
+    };
+    let task = bay.task();
+    assert_eq!(count_features(&task.sizes), 30_976);
+    assert_eq!(task.operators.len(), 48 * 15);
+    // Each of sixteen labels in each two of sixteen slots.
+    assert_eq!(task.pairs.len(), 16 * 120);
+    // After 256 single atoms, 256 features for each two slots: label 15 in the last two is the last.
+    assert_eq!(task.pairs[..2], [256, 256 + 17]);
+    assert_eq!(task.pairs[1_919], 30_975);
+    // A pair takes two bytes, from the 64th two slots on three; the counts of pairs and operators two.
+    let later = task.pairs.iter().filter(|pair| **pair >= 16_384).count();
+    assert_eq!(later, (120 - 63) * 16);
+    let due = 1 + 3 * 16 + 2 + 2 * 1_920 + later + 2 + 720 * 7;
+    let mut room = vec![9; due + 1];
+    assert_eq!(calls::build(&bay.file(), &mut room), due as u64);
+    assert_eq!(read_task(&room[..due]), Ok(task));
+    assert_eq!(room[due], 9);
+    assert_eq!(calls::build(&bay.file(), &mut room[1..due]), REFUSED + 8);
+}
+
 #[test]
 fn limits_of_features() {
     assert_eq!(count_features(&[64, 62]), 4_094);
     assert_eq!(count_features(&[64, 63]), 4_159);
     assert_eq!(count_features(&[1; 64]), 2_080);
-    for sizes in [vec![64, 62], vec![1; 64], vec![2, 2], vec![3, 1, 4]] {
+    assert_eq!(count_features(&[16; 16]), 30_976);
+    assert_eq!(count_features(&built_sizes(&[15; 15])), 27_120);
+    assert_eq!(count_features(&built_sizes(&[16; 16])), 34_952);
+    for sizes in [
+        vec![64, 62],
+        vec![1; 64],
+        vec![2, 2],
+        vec![3, 1, 4],
+        vec![16; 16],
+    ] {
         let features = Features::new(&sizes);
         assert_eq!(features.count(), count_features(&sizes));
         assert_eq!(features.singles(), sizes.iter().sum::<usize>());
@@ -278,13 +319,37 @@ fn limits_of_features() {
         pairs: vec![],
         operators: vec![],
     };
-    assert_eq!(count_features(LIBRARY_EDGES[1]), 4_096);
-    assert_eq!(count_features(PAST_EDGES[0]), 4_097);
-    for sizes in LIBRARY_EDGES {
+    let counts = |edges: &[&[usize]]| edges.iter().map(|sizes| count_features(sizes)).collect();
+    let counts: [Vec<usize>; 3] = [
+        counts(&NUMBER_EDGES),
+        counts(&LIBRARY_EDGES),
+        counts(&PAST_EDGES),
+    ];
+    assert_eq!(counts[0], [16_383, 16_384, 16_385, 16_386]);
+    assert_eq!(counts[1], [32_767, 32_768, 32_768, 32_768, 32_512]);
+    assert_eq!(counts[2], [32_769, 32_769, 32_799, 50_720, 8_261_632]);
+    for sizes in [&FORMER_EDGES[..], &NUMBER_EDGES, &LIBRARY_EDGES].concat() {
         assert!(read_task(&plain(sizes).file()).is_ok());
     }
     for sizes in PAST_EDGES {
         assert_eq!(read_task(&plain(sizes).file()), Err(Refusal::Limit));
+    }
+}
+
+#[test]
+fn limits_of_built_features() {
+    let built = |sizes: &&[usize]| count_features(&built_sizes(sizes));
+    let counts: Vec<usize> = FORMER_PARTIAL_EDGES.iter().map(built).collect();
+    assert_eq!(
+        counts,
+        [4_094, 4_095, 4_096, 4_097, 4_159, 4_050, 4_232, 8_192]
+    );
+    let counts: Vec<usize> = PARTIAL_EDGES.iter().map(built).collect();
+    assert_eq!(counts, [32_767, 32_768, 32_512]);
+    let counts: Vec<usize> = PARTIAL_PAST_EDGES[2..].iter().map(built).collect();
+    assert_eq!(counts, [32_769, 32_799, 50_720, 34_952]);
+    for sizes in PARTIAL_PAST_EDGES {
+        assert!(count_features(sizes) <= 32_768, "{sizes:?}");
     }
 }
 

@@ -1,6 +1,6 @@
 //! Partial files: built tasks worked out by hand, and what breadth-first search says of them.
 
-use reference::bay::times;
+use reference::bay::{times, Bay};
 use reference::calls::{self, broken, denied, done};
 use reference::feature_set::FeatureSet;
 use reference::features::Features;
@@ -100,11 +100,14 @@ fn refusal(bytes: &[u8]) -> u64 {
 
 #[test]
 fn numbers_are_judged_as_read() {
-    let judged: [(&[u8], u64); 43] = [
+    let judged: [(&[u8], u64); 49] = [
         (&[], 1),
         (&[0x80], 1),
-        (&[0x80, 0x80], 13),
+        (&[0x80, 0x80], 1),
+        (&[0x80, 0x80, 0x80], 13),
+        (&[0x80, 0x80, 0x01], 2),
         (&[1, 0x82, 0x00], 12),
+        (&[1, 0x82, 0x80, 0x00], 12),
         (&[0], 2),
         (&[65], 2),
         (&[1], 1),
@@ -112,14 +115,18 @@ fn numbers_are_judged_as_read() {
         (&[1, 64], 2),
         (&[1, 63], 1),
         // The built task's features are judged after the last size and before the marks.
-        (&[2, 63, 62], 2),
-        (&[2, 63, 62, 2], 2),
-        (&[3, 63, 62, 0], 2),
-        (&[3, 63, 62], 1),
-        (&[2, 63, 61], 1),
-        (&[2, 63, 61, 2], 3),
-        (&[2, 62, 62, 2], 3),
-        (&[2, 63, 61, 1, 1], 1),
+        (&[5, 63, 63, 63, 63, 30], 2),
+        (&[5, 63, 63, 63, 63, 30, 2], 2),
+        (&[6, 63, 63, 63, 63, 30, 0], 2),
+        (&[6, 63, 63, 63, 63, 30], 1),
+        (&[5, 63, 63, 63, 63, 29], 1),
+        (&[5, 63, 63, 63, 63, 29, 2], 3),
+        (&[5, 62, 58, 37, 62, 62, 2], 3),
+        (&[5, 63, 37, 62, 59, 60, 2], 2),
+        (&[5, 63, 63, 63, 63, 29, 1, 1], 1),
+        // Too many before bays of sixteen.
+        (&[2, 63, 62], 1),
+        (&[2, 63, 62, 2], 3),
         (&[1, 2, 2], 3),
         (&[1, 2, 0x80, 0x01], 3),
         (&[1, 2, 0x80, 0x00], 12),
@@ -156,19 +163,46 @@ fn numbers_are_judged_as_read() {
     }
 }
 
-fn lone_sizes(variables: usize, then: &[u8]) -> Vec<u8> {
-    let mut file = vec![1; variables + 1];
+fn equal_sizes(variables: usize, size: u8, then: &[u8]) -> Vec<u8> {
+    let mut file = vec![size; variables + 1];
     file[0] = variables as u8;
     file.extend(then);
     file
 }
 
-/// So many variables of size 1 have twice the square of their number as built features.
+/// So many variables of size 1 have twice the square of their number as built features: 45 were the
+/// most before bays of sixteen, and 64 have 8,192. Of size 3 they have 32,512, and of size 4 too many.
 #[test]
 fn the_most_variables() {
-    assert_eq!(refusal(&lone_sizes(45, &[2])), 3);
-    assert_eq!(refusal(&lone_sizes(46, &[2])), 2);
-    assert_eq!(refusal(&lone_sizes(64, &[2])), 2);
+    assert_eq!(refusal(&equal_sizes(46, 1, &[2])), 3);
+    assert_eq!(refusal(&equal_sizes(64, 1, &[2])), 3);
+    assert_eq!(refusal(&equal_sizes(65, 1, &[2])), 2);
+    assert_eq!(refusal(&equal_sizes(64, 3, &[2])), 3);
+    assert_eq!(refusal(&equal_sizes(64, 4, &[2])), 2);
+}
+
+/// An order of fifteen slots has 27,120 built features, one of sixteen 34,952.
+#[test]
+fn the_most_slots() {
+    assert_eq!(refusal(&equal_sizes(15, 15, &[2])), 3);
+    assert_eq!(refusal(&equal_sizes(16, 16, &[2])), 2);
+    let bay = |rows, columns| Bay {
+        rows,
+        columns,
+        start: (0..rows * columns).collect(),
+        goal: (0..rows * columns).collect(),
+    };
+    let fifteen = bay(3, 5).task().file();
+    let mut room = vec![0; fifteen.len() + 15];
+    let length = calls::silence(&fifteen, &[1; 15], &mut room);
+    assert_eq!(length, done(room.len()));
+    assert_eq!(refusal(&room), 0);
+    for (rows, columns) in [(4, 4), (2, 8), (8, 2)] {
+        let sixteen = bay(rows, columns).task().file();
+        let mut room = vec![7; sixteen.len() + 16];
+        assert_eq!(calls::silence(&sixteen, &[1; 16], &mut room), REFUSED + 2);
+        assert_eq!(room, vec![7; sixteen.len() + 16]);
+    }
 }
 
 fn lift(count: usize) -> Vec<Operator> {
@@ -201,18 +235,18 @@ fn long_file(operators: usize, start: [usize; 2]) -> Vec<u8> {
 #[test]
 fn kept_operators_are_counted() {
     let mut words = vec![0; words_due(&[3, 4])];
-    let mut bytes = vec![0; 70_000];
-    let most = long_file(16_379, [0, 0]);
+    let length = 8_400_000;
+    let mut bytes = vec![0; length];
+    let most = long_file(2_097_147, [0, 0]);
     assert_eq!(calls::check_partial(&most, &[0]), denied());
-    assert!(calls::build_partial(&most, &mut bytes) <= done(70_000));
-    let more = long_file(16_380, [0, 0]);
-    let even_more = long_file(16_381, [0, 0]);
+    assert!(calls::build_partial(&most, &mut bytes) <= done(length));
+    let more = long_file(2_097_148, [0, 0]);
+    let even_more = long_file(2_097_149, [0, 0]);
     assert_eq!(calls::check_partial(&more, &[]), REFUSED + 2);
     assert_eq!(calls::open_partial(&more, &mut words), REFUSED + 2);
     assert_eq!(calls::build_partial(&more, &mut bytes), REFUSED + 2);
-    assert!(calls::build_partial_lean(&more, &mut bytes) <= done(70_000));
-    assert!(calls::build_partial_lean(&even_more, &mut bytes) <= done(70_000));
-    let still_more = long_file(16_382, [0, 0]);
+    assert!(calls::build_partial_lean(&even_more, &mut bytes) <= done(length));
+    let still_more = long_file(2_097_150, [0, 0]);
     assert_eq!(
         calls::build_partial_lean(&still_more, &mut bytes),
         REFUSED + 2
@@ -221,14 +255,34 @@ fn kept_operators_are_counted() {
     let left_over = [&more[..], &[0]].concat();
     assert_eq!(calls::build_partial(&left_over, &mut []), REFUSED + 5);
     assert_eq!(
-        calls::build_partial(&long_file(16_380, [0, 2]), &mut []),
+        calls::build_partial(&long_file(2_097_148, [0, 2]), &mut []),
         REFUSED + 2
     );
     assert_eq!(
-        calls::build_partial(&long_file(16_379, [0, 2]), &mut []),
+        calls::build_partial(&long_file(2_097_147, [0, 2]), &mut []),
         REFUSED + 6
     );
     assert_eq!(calls::build_partial(&most, &mut []), REFUSED + 8);
+}
+
+/// The count of the built file is longer than the file's own where four operators more take it there.
+#[test]
+fn counts_of_two_bytes_and_of_three() {
+    for (operators, counts) in [
+        (16_379, [&[0xFB, 0x7F][..], &[0xFF, 0x7F]]),
+        (16_380, [&[0xFC, 0x7F], &[0x80, 0x80, 0x01]]),
+        (16_384, [&[0x80, 0x80, 0x01], &[0x84, 0x80, 0x01]]),
+    ] {
+        let file = long_file(operators, [0, 0]);
+        // Behind v, two sizes, two marks, two start values, a goal value, and a pair with its count.
+        assert!(file[10..].starts_with(counts[0]));
+        let mut task = vec![0; file.len() + 20];
+        let length = calls::build_partial(&file, &mut task);
+        assert!(length <= done(task.len()));
+        assert!(task[9..].starts_with(counts[1]));
+        let task = read_task(&task[..length as usize]).expect("built files are accepted");
+        assert_eq!(task.operators.len(), operators + 4);
+    }
 }
 
 /// A good task: its operator is idle, since pairs 6 and 7 leave the second digit no value.
@@ -283,8 +337,10 @@ fn silencing_by_hand() {
     assert_eq!(calls::silence(&wide, &[1], &mut []), REFUSED + 2);
     let narrower = [1, 63, 0, 0, 0, 0];
     assert_eq!(calls::silence(&narrower, &[1], &mut []), REFUSED + 8);
-    let many = [&[46][..], &[1; 46], &[0; 46], &[0; 46], &[0, 0]].concat();
-    assert_eq!(calls::silence(&many, &[1; 46], &mut []), REFUSED + 2);
+    let most = [&[64][..], &[3; 64], &[0; 64], &[0; 64], &[0, 0]].concat();
+    assert_eq!(calls::silence(&most, &[1; 64], &mut []), REFUSED + 8);
+    let many = [&[64][..], &[4; 64], &[0; 64], &[0; 64], &[0, 0]].concat();
+    assert_eq!(calls::silence(&many, &[1; 64], &mut []), REFUSED + 2);
 }
 
 /// Few enough states to search all of them.

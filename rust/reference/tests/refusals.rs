@@ -2,8 +2,9 @@
 
 use reference::calls;
 use reference::features::count_features;
+use reference::limits::LARGEST;
 use reference::line::line;
-use reference::numbers::{encode, write_number, Reader, LARGEST};
+use reference::numbers::{encode, write_number, Reader};
 use reference::refusal::Refusal;
 use reference::sample::tasks::PROGRAM_EDGES;
 use reference::task::{read_task, Task};
@@ -19,22 +20,38 @@ fn number(bytes: &[u8]) -> Result<u64, Refusal> {
 fn numbers_as_printed() {
     assert_eq!(number(&[0x80, 0x01]), Ok(128));
     assert_eq!(number(&[0xFF, 0x7F]), Ok(16_383));
+    assert_eq!(number(&[0x80, 0x80, 0x01]), Ok(16_384));
+    assert_eq!(number(&[0xFF, 0xFF, 0x7F]), Ok(2_097_151));
     assert_eq!(number(&[0x80, 0x00]), Err(Refusal::NotShortest));
-    assert_eq!(number(&[0x80, 0x80, 0x01]), Err(Refusal::MoreFollows));
+    assert_eq!(number(&[0x80, 0x80, 0x00]), Err(Refusal::NotShortest));
+    assert_eq!(number(&[0xFF, 0xFF, 0x00]), Err(Refusal::NotShortest));
+    assert_eq!(number(&[0x80, 0x80, 0x80]), Err(Refusal::MoreFollows));
+    assert_eq!(number(&[0x80, 0x80, 0x80, 0x01]), Err(Refusal::MoreFollows));
     assert_eq!(number(&[]), Err(Refusal::InputEnds));
     assert_eq!(number(&[0x80]), Err(Refusal::InputEnds));
+    assert_eq!(number(&[0x80, 0x80]), Err(Refusal::InputEnds));
+    assert_eq!(LARGEST, 2_097_151);
 }
 
-/// A second byte decides alone: 0 has a shorter form, and 128 or more asks for a third.
+/// A byte behind the first decides alone: 0 has a shorter form, and a third byte of 128 or more
+/// asks for a fourth.
 #[test]
 fn forms_that_are_refused() {
     for first in 128..=255u8 {
         assert_eq!(number(&[first]), Err(Refusal::InputEnds));
-        assert_eq!(number(&[first, 0]), Err(Refusal::NotShortest));
+        for behind in [&[][..], &[0], &[1], &[128]] {
+            let bytes = [&[first, 0], behind].concat();
+            assert_eq!(number(&bytes), Err(Refusal::NotShortest));
+        }
         for second in 128..=255u8 {
-            for third in [&[][..], &[0], &[1], &[128]] {
-                let bytes = [&[first, second], third].concat();
-                assert_eq!(number(&bytes), Err(Refusal::MoreFollows));
+            assert_eq!(number(&[first, second]), Err(Refusal::InputEnds));
+            assert_eq!(number(&[first, second, 0]), Err(Refusal::NotShortest));
+            for third in 128..=255u8 {
+                for behind in [0, 1, 128] {
+                    let bytes = [first, second, third, behind];
+                    assert_eq!(number(&bytes[..3]), Err(Refusal::MoreFollows));
+                    assert_eq!(number(&bytes), Err(Refusal::MoreFollows));
+                }
             }
         }
     }
@@ -66,21 +83,25 @@ fn refusals_have_their_numbers() {
 fn every_number_comes_back() {
     for value in 0..=LARGEST {
         let mut bytes = Vec::new();
-        write_number(value as usize, &mut bytes);
-        assert_eq!(number(&bytes), Ok(value));
-        assert_eq!(bytes.len(), if value < 128 { 1 } else { 2 });
+        write_number(value, &mut bytes);
+        assert_eq!(number(&bytes), Ok(value as u64));
+        let length = match value {
+            0..128 => 1,
+            128..16_384 => 2,
+            _ => 3,
+        };
+        assert_eq!(bytes.len(), length);
     }
 }
 
-/// Every two bytes either have a number whose form they are, or are refused.
+/// Every three bytes either begin with the form of a number, or are refused.
 #[test]
 fn only_shortest_forms() {
-    for first in 0..=255u8 {
-        for second in 0..=255u8 {
-            let bytes = [first, second];
-            if let Ok(value) = number(&bytes) {
-                assert!(bytes.starts_with(&encode(&[value as usize])));
-            }
+    for code in 0..1 << 24 {
+        let [first, second, third, _] = u32::to_le_bytes(code);
+        let bytes = [first, second, third];
+        if let Ok(value) = number(&bytes) {
+            assert!(bytes.starts_with(&encode(&[value as usize])));
         }
     }
 }
@@ -94,24 +115,35 @@ fn task_refusal(bytes: &[u8]) -> u64 {
 
 #[test]
 fn task_numbers_are_judged_as_read() {
-    let judged: [(&[u8], u64); 34] = [
+    let judged: [(&[u8], u64); 44] = [
         (&[], 1),
         (&[0], 2),
         (&[65], 2),
         (&[0x80, 0x00], 12),
         (&[0x80, 0x01], 2),
-        (&[0x80, 0x80], 13),
         (&[0x80], 1),
+        (&[0x80, 0x80], 1),
+        (&[0x80, 0x80, 0x00], 12),
+        (&[0x80, 0x80, 0x01], 2),
+        (&[0xFF, 0xFF, 0x7F], 2),
+        (&[0x80, 0x80, 0x80], 13),
+        (&[0x80, 0x80, 0x80, 0x00], 13),
         // A number's form comes before its limit, and a limit before the next number's form.
         (&[0xC1, 0x00], 12),
+        (&[0xC1, 0x80, 0x00], 12),
+        (&[0xC1, 0x80, 0x80], 13),
         (&[65, 0x80, 0x00], 2),
         (&[1], 1),
         (&[1, 0], 2),
         (&[1, 65], 2),
         // N is judged after the last size, not before.
-        (&[3, 64, 64], 1),
-        (&[3, 64, 64, 0], 2),
-        (&[2, 64, 63], 2),
+        (&[6, 64, 64, 64, 64, 64], 1),
+        (&[6, 64, 64, 64, 64, 64, 0], 2),
+        (&[6, 64, 64, 64, 64, 64, 1], 2),
+        (&[5, 64, 64, 64, 64, 31], 2),
+        (&[5, 64, 64, 64, 64, 30], 1),
+        // Too many features before bays of sixteen.
+        (&[2, 64, 63], 1),
         (&[2, 64, 62], 1),
         (&[1, 2, 2], 3),
         (&[1, 2, 1, 2], 3),
@@ -142,10 +174,13 @@ fn task_numbers_are_judged_as_read() {
 #[test]
 fn entries_are_judged_as_read() {
     let head = [2, 2, 2, 0, 0, 0, 0, 0, 1];
-    let judged: [(&[u8], u64); 12] = [
+    let judged: [(&[u8], u64); 15] = [
         (&[3], 3),
         (&[0x83, 0x00], 12),
-        (&[1, 0x80, 0x80], 13),
+        (&[0x83, 0x80, 0x01], 3),
+        (&[1, 0x80, 0x80], 1),
+        (&[1, 0x80, 0x80, 0x00], 12),
+        (&[1, 0x80, 0x80, 0x80], 13),
         (&[1, 0, 0x80], 1),
         (&[2, 0, 0, 0, 0], 4),
         (&[2, 0, 0, 0, 2], 3),
@@ -190,13 +225,17 @@ fn plain() -> Vec<u8> {
 
 #[test]
 fn weights_are_read_after_the_task() {
-    let judged: [(&[u8], u64); 12] = [
+    let judged: [(&[u8], u64); 16] = [
         (&[], REFUSED + 1),
         (&[1], REFUSED + 1),
         (&[0x80], REFUSED + 1),
+        (&[0x80, 0x80], REFUSED + 1),
         (&[0x80, 0x00], REFUSED + 12),
         (&[1, 0x82, 0x00], REFUSED + 12),
-        (&[1, 0x82, 0x82, 0x01], REFUSED + 13),
+        (&[1, 0x82, 0x80, 0x00], REFUSED + 12),
+        (&[1, 0x82, 0x82, 0x01], REFUSED + 3),
+        (&[1, 0x82, 0x82, 0x82], REFUSED + 13),
+        (&[1, 0x82, 0x82, 0x82, 0x01], REFUSED + 13),
         (&[1, 8], REFUSED + 3),
         (&[2, 2, 2], REFUSED + 4),
         (&[2, 2, 1], REFUSED + 4),
@@ -346,20 +385,42 @@ fn edits_against_pairs() {
 
 #[test]
 fn bays_are_judged_as_read() {
-    let judged: [(&[u8], u64); 36] = [
+    let judged: [(&[u8], u64); 55] = [
         (&[], 1),
         (&[0], 2),
         (&[10], 2),
+        (&[16], 2),
         (&[0x80, 0x01], 2),
         (&[0x80, 0x00], 12),
-        (&[1, 0x82, 0x80], 13),
+        (&[1, 0x82, 0x80], 1),
+        (&[1, 0x82, 0x80, 0x00], 12),
+        (&[1, 0x82, 0x80, 0x80], 13),
+        (&[1, 0x82, 0x80, 0x01], 2),
         (&[1, 0x82], 1),
         (&[1], 1),
         (&[1, 0], 2),
+        // A side ends at nine, whatever the slots are.
+        (&[1, 9], 1),
         (&[1, 10], 2),
+        (&[1, 16], 2),
+        (&[10, 1], 2),
         (&[1, 1], 2),
-        (&[2, 5], 2),
+        // Sixteen slots and no more.
+        (&[2, 5], 1),
+        (&[2, 8], 1),
+        (&[8, 2], 1),
+        (&[3, 5], 1),
+        (&[4, 4], 1),
+        (&[2, 9], 2),
+        (&[9, 2], 2),
+        (&[3, 6], 2),
+        (&[4, 5], 2),
         (&[9, 9], 2),
+        // Labels go to fifteen.
+        (&[4, 4, 15, 15], 1),
+        (&[4, 4, 15, 16], 3),
+        (&[3, 5, 14, 15], 3),
+        (&[2, 8, 15, 0x90, 0x00], 12),
         (&[1, 2], 1),
         (&[1, 2, 2], 3),
         (&[1, 2, 0, 0], 1),
@@ -454,7 +515,7 @@ fn line_needs_room() {
     assert_eq!(room, [1; 14]);
 }
 
-/// Features of 0 to 4,095 are written; others are refused before the room is judged.
+/// Features of 0 to 32,767 are written; others are refused before the room is judged.
 #[test]
 fn weight_files_judge_range_then_room() {
     let written = |words: &[u64], length: usize| {
@@ -466,11 +527,22 @@ fn weight_files_judge_range_then_room() {
     assert_eq!(written(&[5], 4), (3, vec![2, 0, 2, 7]));
     assert_eq!(written(&[5], 2), (REFUSED + 8, vec![7, 7]));
     assert_eq!(written(&[0, 0, 1], 3), (3, vec![1, 0x80, 1]));
-    // 4,095 is 31 * 128 + 127.
-    let mut words = [0; 65];
+    let mut words = [0; 513];
+    // 4,095 is 31 * 128 + 127, and one more was out of range before bays of sixteen.
     words[63] = 1 << 63;
-    assert_eq!(written(&words, 3), (3, vec![1, 0xFF, 31]));
     words[64] = 1;
-    assert_eq!(written(&words, 3), (REFUSED + 3, vec![7; 3]));
+    assert_eq!(written(&words, 5), (5, vec![2, 0xFF, 31, 0x80, 32]));
+    // The last number of two bytes, and the first of three.
+    words[255] = 1 << 63;
+    words[256] = 1;
+    let four = vec![4, 0xFF, 31, 0x80, 32, 0xFF, 0x7F, 0x80, 0x80, 1];
+    assert_eq!(written(&words, 10), (10, four));
+    words[..512].fill(0);
+    // 32,767 is 16,384 + 127 * 128 + 127.
+    words[511] = 1 << 63;
+    assert_eq!(written(&words, 4), (4, vec![1, 0xFF, 0xFF, 1]));
+    assert_eq!(written(&words, 3), (REFUSED + 8, vec![7; 3]));
+    words[512] = 1;
+    assert_eq!(written(&words, 4), (REFUSED + 3, vec![7; 4]));
     assert_eq!(written(&words, 0), (REFUSED + 3, vec![]));
 }

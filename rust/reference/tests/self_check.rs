@@ -6,9 +6,10 @@ use reference::features::count_features;
 use reference::finder::{least_by_enumeration, least_by_highest};
 use reference::forced::{generators, slots, slots_by_enumeration, slots_by_generators};
 use reference::operators::{changes_from, combined_states, deviating_states};
+use reference::sample::bays::bay;
 use reference::sample::tasks::{
     accepted_task, loose_task, loose_weights, meeting_weights, scaled_task, sizes, state,
-    task_conditions, Scale, LARGE, MEDIUM, SMALL, TINY, WIDE,
+    task_conditions, Scale, LARGE, LIBRARY_EDGES, MEDIUM, NUMBER_EDGES, SMALL, TINY, WIDE,
 };
 use reference::sample::workspaces::{exact_record, foreign_workspace};
 use reference::sample::Generator;
@@ -133,24 +134,58 @@ fn larger_routes_agree_with_each_other() {
             5..30 => MEDIUM,
             _ => SMALL,
         };
-        let task = scaled_task(&mut generator, scale);
+        larger_routes(&scaled_task(&mut generator, scale));
+    }
+}
+
+/// Tasks past the limit of before, with few operators, and bays of up to twelve slots.
+#[test]
+fn larger_routes_agree_past_the_limit_of_before() {
+    let mut generator = Generator::new(0x7A5A);
+    for sizes in [NUMBER_EDGES[2], LIBRARY_EDGES[1], LIBRARY_EDGES[4]] {
+        larger_routes(&accepted_task(&mut generator, sizes, 2));
+    }
+    for shape in [(2, 5), (3, 4)] {
+        larger_routes(&bay(&mut generator, shape).task());
+    }
+}
+
+/// Slots and answers by different routes.
+fn larger_routes(task: &Task) {
+    let count = count_features(&task.sizes);
+    let conditions = task_conditions(task);
+    let few = few_conditions(task);
+    let slots = slots_by_generators(count, &conditions);
+    assert_eq!(slots, slots_by_generators(count, &few));
+    let least = least_by_highest(count, &conditions, &ends(task));
+    assert_eq!(least, least_by_highest(count, &slots, &ends(task)));
+    // The least live list that parts the ends is the answer as well.
+    let meeting = generators(count, &conditions);
+    let parting = (0..count)
+        .filter(|number| meeting.live(*number))
+        .map(|number| meeting.list(number))
+        .find(|list| list.meets_oddly(&ends(task)));
+    assert_eq!(least, parting);
+    if let Some(weights) = least {
+        assert_eq!(verdict(task, &weights), Verdict::Accepted);
+    }
+}
+
+/// What lists make together is their combination, one after another.
+#[test]
+fn lists_are_combined() {
+    let mut generator = Generator::new(0x7A5B);
+    for _ in 0..300 {
+        let task = scaled_task(&mut generator, SMALL);
         let count = count_features(&task.sizes);
-        let conditions = task_conditions(&task);
-        let few = few_conditions(&task);
-        let slots = slots_by_generators(count, &conditions);
-        assert_eq!(slots, slots_by_generators(count, &few));
-        let least = least_by_highest(count, &conditions, &ends(&task));
-        assert_eq!(least, least_by_highest(count, &slots, &ends(&task)));
-        // The least live list that parts the ends is the answer as well.
-        let meeting = generators(count, &conditions);
-        let parting = (0..count)
-            .filter(|number| meeting.live(*number))
-            .map(|number| meeting.list(number))
-            .find(|list| list.meets_oddly(&ends(&task)));
-        assert_eq!(least, parting);
-        if let Some(weights) = least {
-            assert_eq!(verdict(&task, &weights), Verdict::Accepted);
+        let meeting = generators(count, &task_conditions(&task));
+        let mut numbers = loose_weights(&mut generator, count).members();
+        numbers.retain(|number| meeting.live(*number));
+        let mut combined = FeatureSet::empty(count);
+        for number in &numbers {
+            combined.combine(&meeting.list(*number));
         }
+        assert_eq!(meeting.combined(&FeatureSet::of(count, &numbers)), combined);
     }
 }
 

@@ -253,6 +253,33 @@ fn three_by_three() {
     }
 }
 
+/// In bays of sixteen slots nobody can try all moves: what a long walk leads to isn't separated, and
+/// what it leads to but for two pallets that have changed places is.
+#[test]
+fn sixteen_slots() {
+    let mut generator = Generator::new(0x50AA);
+    for (rows, columns) in [(4, 4), (2, 8), (8, 2)] {
+        let labels: Vec<usize> = (0..16).collect();
+        let start = shuffled(&mut generator, &labels);
+        let mut bay = Bay {
+            rows,
+            columns,
+            goal: start.clone(),
+            start,
+        };
+        for _ in 0..generator.between(200, 300) {
+            bay.goal = generator.choose(&bay.moves(&bay.goal));
+        }
+        assert!(!separates(&bay.task(), &order_weights(&bay)));
+        let pallets: Vec<usize> = (0..16).filter(|slot| bay.goal[*slot] != GAP).collect();
+        bay.goal.swap(
+            pallets[generator.below(7)],
+            pallets[generator.between(7, 14)],
+        );
+        assert!(separates(&bay.task(), &order_weights(&bay)));
+    }
+}
+
 /// Two lots of four stand in 9 * 70 ways, and each can be reached.
 #[test]
 fn three_by_three_in_two_lots() {

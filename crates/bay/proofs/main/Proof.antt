@@ -20,7 +20,7 @@ use Rattle.bay.proofs.main.Statement.{statement}
 use Rattle.bay.proofs.main.Tie as tie
 
 abbrev taskBytes : ℕ
-taskBytes = 2048
+taskBytes = 10240
 
 -- A file that was built ends within the room.
 within : (file room lent : List ℕ) (r : Written) (k : ℕ) → Builds file room (outcomeOf r lent) → r ≡ Done k → k ≤ length lent

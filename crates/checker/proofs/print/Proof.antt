@@ -31,6 +31,9 @@ array-read-if1 c = search needs
 returns : tie.Need-returns
 returns c = search needs
 
+are-long-requires : tie.Need-are-long-requires
+are-long-requires c κs = search needs
+
 show-requires : tie.Need-show-requires
 show-requires c κs = search needs
 
@@ -51,6 +54,7 @@ print-spec =
     write-all-requires
     array-read-if1
     returns
+    are-long-requires
     show-requires
     returns-2
     returns-3)

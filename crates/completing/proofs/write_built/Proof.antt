@@ -5,8 +5,8 @@ use mathlib.Core.List.{List}
 use native.Mathlib.Omega.{arith}
 use lib.ListN.{length}
 use borrow.Author.Needs.{needs}
-use Rattle.meaning.specs.Limits.{numberEnd}
 use Rattle.meaning.specs.Number.{Small}
+use Rattle.writer.specs.Widths.{fourLists}
 use Rattle.writer.specs.Answer.{refused-so}
 use Rattle.writer.specs.Remains.{delivered-small}
 use Rattle.completing.specs.Parts.{one-triples, one-width, builtBytes, operators-length, file-length, file-few, file-delivered}
@@ -31,7 +31,7 @@ whole : (c : tie.After-width) → length (file (start c))
 whole c = let a = start c .args in
     omega (arith, file-length (a .count) (a .kept) (a .own .now) (a .sizes .now) (a .start .now) (a .goal .now) (a .pairs .now) (a .lean) (start c .pre), front c .front-width .ensures, c .width .ensures, each c)
 
-few : (s : tie.Start) → length (file s) ≤ 16 * numberEnd + length (s .args .own .now)
+few : (s : tie.Start) → length (file s) ≤ 2 * fourLists + length (s .args .own .now)
 few s = let a = s .args in file-few (a .count) (a .kept) (a .own .now) (a .sizes .now) (a .start .now) (a .goal .now) (a .pairs .now) (a .lean) (s .pre)
 
 front-width-requires : tie.Need-front-width-requires

@@ -8,7 +8,7 @@ use Rattle.meaning.specs.Workspace.{has}
 use Rattle.words.specs.Members.{membersIn, members-few}
 use Rattle.decimal.specs.Decimal.{wordWidth, word-few}
 use Rattle.decimal.specs.Members.{words-members-few}
-use Rattle.text.specs.Parts.{mostDigits}
+use Rattle.line.specs.Fits.{featureDigits}
 use Rattle.line.specs.Text.{separated-put}
 use borrow.Author.Needs.{needs}
 use Rattle.line.proofs.put_separated.Statement.{statement}
@@ -26,16 +26,16 @@ slice-aggregate-put c = search needs
 put-requires : tie.Need-put-requires
 put-requires c κs = search needs
 
--- The count and the members are below the most features of the program, so that five digits are enough for each.
-count-short : (c : tie.After-count) → length (word (c .count .result)) ≤ wordWidth mostDigits
+-- The count and the members are below the most features of the program, so that three digits are enough for each.
+count-short : (c : tie.After-count) → length (word (c .count .result)) ≤ wordWidth featureDigits
 count-short c =
     let weights = start c .args .weights .now in
-    word-few mostDigits (c .count .result) (omega arith) (omega (arith, start c .pre, c .count .ensures, members-few (has weights) (wordBits * length weights)))
+    word-few featureDigits (c .count .result) (omega arith) (omega (arith, start c .pre, c .count .ensures, members-few (has weights) (wordBits * length weights)))
 
-features-short : (c : tie.After-count) → length (wordsIn (membersIn (start c .args .weights .now))) ≤ wordWidth mostDigits * mostProgramFeatures
+features-short : (c : tie.After-count) → length (wordsIn (membersIn (start c .args .weights .now))) ≤ wordWidth featureDigits * mostProgramFeatures
 features-short c =
     let weights = start c .args .weights .now in
-    omega (arith, start c .pre, words-members-few (has weights) mostDigits (wordBits * length weights) (omega arith) (omega (arith, start c .pre)))
+    omega (arith, start c .pre, words-members-few (has weights) featureDigits (wordBits * length weights) (omega arith) (omega (arith, start c .pre)))
 
 put-word-requires : tie.Need-put-word-requires
 put-word-requires c κs = omega (arith, c .before .before .before .put .ensures .place, count-short (c .before .before .before .before .before .before))

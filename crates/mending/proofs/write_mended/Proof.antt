@@ -5,8 +5,8 @@ use mathlib.Core.List.{List}
 use native.Mathlib.Omega.{arith}
 use lib.ListN.{length}
 use borrow.Author.Needs.{needs}
-use Rattle.meaning.specs.Limits.{numberEnd}
 use Rattle.meaning.specs.Number.{Small}
+use Rattle.writer.specs.Widths.{fourLists}
 use Rattle.writer.specs.Answer.{refused-so}
 use Rattle.writer.specs.Remains.{delivered-small}
 use Rattle.mending.specs.Parts.{mendedBytes, mended-length, mended-few, mended-delivered}
@@ -24,7 +24,7 @@ whole : (c : tie.After-width) → length (file (start c)) ≡ c .before .front-w
 whole c = let a = start c .args in
     omega (arith, mended-length (a .count) (a .own .now) (a .sizes .now) (a .start .now) (a .goal .now) (a .kept .now), c .before .front-width .ensures, c .width .ensures)
 
-few : (c : tie.After-width) → c .before .front-width .result + (c .width .result + length (start c .args .own .now)) ≤ 16 * numberEnd + length (start c .args .own .now)
+few : (c : tie.After-width) → c .before .front-width .result + (c .width .result + length (start c .args .own .now)) ≤ 2 * fourLists + length (start c .args .own .now)
 few c = let a = start c .args in omega (arith, whole c, mended-few (a .count) (a .own .now) (a .sizes .now) (a .start .now) (a .goal .now) (a .kept .now) (start c .pre .0))
 
 -- The widths, seen from where the room is known to be long enough.

@@ -5,9 +5,8 @@ use native.Mathlib.Omega.{arith}
 use lib.ListN.{length, take}
 use lib.Seq.{length-take-le}
 use borrow.Author.Needs.{needs}
-use Rattle.meaning.specs.Limits.{numberEnd}
 use Rattle.meaning.specs.Answer.{delivered}
-use Rattle.writer.specs.Widths.{list-few, numbers-few}
+use Rattle.writer.specs.Widths.{fourLists, list-few, numbers-few}
 use Rattle.writer.specs.Copied.{lent-behind}
 use Rattle.silencing.specs.Parts.{partsBytes, pairsPlace, place-few}
 use Rattle.silencing.specs.Answer.{silent-front}
@@ -24,7 +23,7 @@ place : (c : tie.After-numbers-width2) → let s = start c .args in
 unfolding pairsPlace
 place c = (omega (arith, c .before .before .list-width .ensures, c .before .numbers-width .ensures, c .numbers-width2 .ensures), start c .pre .place)
 
-few : (s : tie.Start) → pairsPlace (s .args .sizes .now) (s .args .start .now) (s .args .goal .now) ≤ 8 * numberEnd
+few : (s : tie.Start) → pairsPlace (s .args .sizes .now) (s .args .start .now) (s .args .goal .now) ≤ fourLists
 few s = place-few (s .args .sizes .now) (s .args .start .now) (s .args .goal .now) (s .pre .sizes-fit) (s .pre .start-fits) (s .pre .goal-fits)
 
 -- The values that were found.

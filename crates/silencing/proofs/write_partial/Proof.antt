@@ -5,10 +5,9 @@ use mathlib.Core.List.{List}
 use native.Mathlib.Omega.{arith}
 use lib.ListN.{length}
 use borrow.Author.Needs.{needs}
-use Rattle.meaning.specs.Limits.{numberEnd}
 use Rattle.meaning.specs.Number.{Small}
 use Rattle.writer.specs.Answer.{refused-so}
-use Rattle.writer.specs.Widths.{list-few, numbers-few}
+use Rattle.writer.specs.Widths.{fourLists, list-few, numbers-few}
 use Rattle.writer.specs.Remains.{delivered-small}
 use Rattle.silencing.specs.Parts.{partsBytes, parts-length, parts-few, partial-delivered}
 use Rattle.silencing.proofs.write_partial.Statement.{statement}
@@ -26,7 +25,7 @@ whole : (c : tie.After-numbers-width2) → length (file (start c))
 whole c = let s = start c .args in
     omega (arith, parts-length (s .sizes .now) (s .marks .now) (s .start .now) (s .named .now) (s .rest .now), c .before .before .list-width .ensures, c .before .numbers-width .ensures, c .numbers-width2 .ensures)
 
-few : (s : tie.Start) → length (file s) ≤ 8 * numberEnd + length (s .args .rest .now)
+few : (s : tie.Start) → length (file s) ≤ fourLists + length (s .args .rest .now)
 few s = parts-few (s .args .sizes .now) (s .args .marks .now) (s .args .start .now) (s .args .named .now) (s .args .rest .now) (s .pre)
 
 list-width-requires : tie.Need-list-width-requires

@@ -1,18 +1,52 @@
 //! The bay builder with faults.
 
 use super::faults::{planted, planted_fault, Fault::*};
-use reference::bay::{read_lists, Bay, GAP};
+use super::files::numbers_of;
+use super::limits::{reader, Files};
+use super::written::written_file;
+use reference::bay::{lists_from, Bay, GAP};
 use reference::calls::{fill, refused, settle};
+use reference::limits::{BEFORE, NOW};
 use reference::refusal::Refusal;
 use reference::task::Task;
 
 pub fn build(bay: &[u8], room: &mut [u8]) -> u64 {
-    let bay = read_lists(bay).and_then(|bay| judged(&bay).map(|()| bay));
+    let bay = faulty_lists(bay).and_then(|bay| judged(&bay).map(|()| bay));
     let mislabelled = matches!(bay, Err(Refusal::Gap | Refusal::Lots));
     if planted(RoomBeforeLabels) && mislabelled && room.len() < 25 {
         return refused(Refusal::Room);
     }
-    settle(bay.and_then(|bay| fill(room, &faulty_task(&bay).file())))
+    settle(bay.and_then(|bay| {
+        let numbers = faulty_task(&bay).numbers();
+        fill(room, &written_file(BuildCutsNumbers, &numbers))
+    }))
+}
+
+/// A bay file, read as the planted fault says.
+fn faulty_lists(bytes: &[u8]) -> Result<Bay, Refusal> {
+    let read = lists_from(&mut reader(Files::Bays, bytes));
+    match (planted_fault(), &read) {
+        (LabelsAsBefore, Ok(bay))
+            if bay.numbers()[2..]
+                .iter()
+                .any(|label| *label >= BEFORE.slots) =>
+        {
+            Err(Refusal::Range)
+        }
+        // Reading goes on, and whatever it comes to is another answer.
+        (SidesAsSlots, Err(Refusal::Limit)) if is_long(&numbers_of(bytes)) => {
+            Err(Refusal::InputEnds)
+        }
+        _ => read,
+    }
+}
+
+/// Whether a side is too long, but the slots aren't too many.
+fn is_long(numbers: &[usize]) -> bool {
+    let [rows, columns, ..] = *numbers else {
+        return false;
+    };
+    (2..=NOW.slots).contains(&rows.saturating_mul(columns))
 }
 
 /// How a bay's labels are judged.

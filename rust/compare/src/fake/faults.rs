@@ -1,11 +1,14 @@
 //! Faults to plant, one at a time.
 
+use super::limits::{Bound, Files, BOUNDS};
 use std::cell::Cell;
 
 /// A fault that the comparison has to find.
 #[derive(Clone, Copy, Debug, PartialEq, Eq)]
 pub enum Fault {
     Nothing,
+    /// Some files are read by another limit than is due.
+    By(Files, Bound),
     /// The checker takes weights although the ends are alike.
     AcceptsAlike,
     /// The checker's place leaves idle operators out.
@@ -74,6 +77,10 @@ pub enum Fault {
     PairedStatesLeftOut,
     /// Numbers in longer forms are let pass.
     LongForms,
+    /// Numbers with a needless second group are let pass.
+    NeedlessSecondPasses,
+    /// Numbers with a needless third group are let pass.
+    NeedlessThirdPasses,
     /// A word outside the lent room is written.
     WritesOutside,
     /// A byte of a lent input is written.
@@ -228,7 +235,7 @@ pub enum Fault {
     NamingSpoilsRefused,
     /// A number not in shortest form is refused as one that has no end.
     LongAsEndless,
-    /// A number whose second byte says that more follows is refused as not in shortest form.
+    /// A number whose third byte says that more follows is refused as not in shortest form.
     EndlessAsLong,
     /// Input that ends is refused as a number not in shortest form.
     EndsAsLong,
@@ -236,9 +243,13 @@ pub enum Fault {
     EndsAsEndless,
     /// Input that ends inside a number is refused as a number that has no end.
     CutAsEndless,
-    /// A number whose second byte says that more follows is refused as input that ends if nothing does.
+    /// Input that ends behind a second byte is refused as a number that has no end, as before.
+    SecondCutAsEndless,
+    /// A needless third group is refused as a number that has no end, as before.
+    NeedlessThirdAsEndless,
+    /// A number whose third byte says that more follows is refused as input that ends if nothing does.
     EndlessWaitsForMore,
-    /// A number whose second byte says that more follows is refused as not in shortest form if 0 does.
+    /// A number whose third byte says that more follows is refused as not in shortest form if 0 does.
     EndlessZeroAsLong,
     /// Badly formed numbers of a task or weight file are refused 1, as before.
     FormsAsBefore,
@@ -274,10 +285,12 @@ pub enum Fault {
     LengthFirst,
     /// Of a number not in shortest form the 0 isn't shown.
     ZeroByteUnshown,
-    /// Of a number that has no end a third byte is shown.
-    ThirdByteShown,
+    /// Of a number that has no end a fourth byte is shown.
+    FourthByteShown,
     /// Of a number that has no end one byte is shown.
     FirstByteOfEndless,
+    /// Of a number that has no end two bytes are shown, as before.
+    TwoBytesOfEndless,
     /// What is there of a number that is cut isn't shown.
     CutNumberUnshown,
     /// A number that is cut has its place at the end of the file.
@@ -378,11 +391,57 @@ pub enum Fault {
     CheckLineNamesTaskAlone,
     /// The checker's line has a place for left-over bytes.
     CheckLinePlacesLeftOver,
+    /// Labels of a bay end at 9, as before.
+    LabelsAsBefore,
+    /// A side of a bay may be as long as a bay has slots.
+    SidesAsSlots,
+    /// The bay builder's file has no third groups.
+    BuildCutsNumbers,
+    /// More operators kept than a number of two bytes counts are refused, as before.
+    KeptAsBefore,
+    /// As many operators kept as a number counts are refused.
+    OneKeptLess,
+    /// One operator more than a number counts is kept.
+    OneKeptMore,
+    /// The file built of a partial one has no third groups.
+    BuiltCutsNumbers,
+    /// Silencing takes no more features than before.
+    SilencesAsBefore,
+    /// The file of a silenced task has no third groups.
+    SilencingCutsNumbers,
+    /// The mended file has no third groups.
+    MendingCutsNumbers,
+    /// The dropped pairs have no third groups.
+    DroppedCutsNumbers,
+    /// The checker's place is told in sixteen bits.
+    OperatorInSixteenBits,
+    /// The checker's line has six digits for an operator at most.
+    OperatorInSixDigits,
+    /// The finder's line has the library's limit of features.
+    LineFeaturesMoved,
+    /// The range of a weight file without a task is the one of before.
+    WeightFileAsBefore,
+    /// The range of a weight file without a task has one feature more.
+    WeightFileOneMore,
+    /// A weight file has no third groups.
+    WeightFileCutsNumbers,
+    /// A workspace of more features than before isn't taken.
+    WorkspaceAsBefore,
+    /// A workspace of one feature too many is taken.
+    WorkspaceOneMore,
+    /// An opening leaves listed pairs out that weren't there before.
+    OpenedPairsAsBefore,
+    /// An opening leaves features out of the slots that weren't there before.
+    OpenedSlotsAsBefore,
+    /// An added operator doesn't reach the words that weren't there before.
+    EditAsBefore,
+    /// The finder's answer doesn't reach the words that weren't there before.
+    AnswerAsBefore,
 }
 
 use Fault::*;
 
-pub const FAULTS: [Fault; 186] = [
+const FAULTS: [Fault; 214] = [
     AcceptsAlike,
     CountsLiveOperators,
     LastOperator,
@@ -419,6 +478,8 @@ pub const FAULTS: [Fault; 186] = [
     AfterExcuses,
     PairedStatesLeftOut,
     LongForms,
+    NeedlessSecondPasses,
+    NeedlessThirdPasses,
     LeavesFeatureOut,
     CutsAtRange,
     RoomBeforeRange,
@@ -498,6 +559,8 @@ pub const FAULTS: [Fault; 186] = [
     EndsAsLong,
     EndsAsEndless,
     CutAsEndless,
+    SecondCutAsEndless,
+    NeedlessThirdAsEndless,
     EndlessWaitsForMore,
     EndlessZeroAsLong,
     FormsAsBefore,
@@ -517,8 +580,9 @@ pub const FAULTS: [Fault; 186] = [
     EndForLength,
     LengthFirst,
     ZeroByteUnshown,
-    ThirdByteShown,
+    FourthByteShown,
     FirstByteOfEndless,
+    TwoBytesOfEndless,
     CutNumberUnshown,
     CutNumberAtEnd,
     LastNumberShown,
@@ -569,7 +633,41 @@ pub const FAULTS: [Fault; 186] = [
     CheckLineOtherFile,
     CheckLineNamesTaskAlone,
     CheckLinePlacesLeftOver,
+    LabelsAsBefore,
+    SidesAsSlots,
+    BuildCutsNumbers,
+    KeptAsBefore,
+    OneKeptLess,
+    OneKeptMore,
+    BuiltCutsNumbers,
+    SilencesAsBefore,
+    SilencingCutsNumbers,
+    MendingCutsNumbers,
+    DroppedCutsNumbers,
+    OperatorInSixteenBits,
+    OperatorInSixDigits,
+    LineFeaturesMoved,
+    WeightFileAsBefore,
+    WeightFileOneMore,
+    WeightFileCutsNumbers,
+    WorkspaceAsBefore,
+    WorkspaceOneMore,
+    OpenedPairsAsBefore,
+    OpenedSlotsAsBefore,
+    EditAsBefore,
+    AnswerAsBefore,
 ];
+
+/// All faults, those of limits last.
+pub fn faults() -> Vec<Fault> {
+    let by = |(files, bounds): &(Files, &'static [Bound])| {
+        let files = *files;
+        bounds.iter().map(move |bound| By(files, *bound))
+    };
+    let mut faults = FAULTS.to_vec();
+    faults.extend(BOUNDS.iter().flat_map(by));
+    faults
+}
 
 thread_local! {
     // Tests run side by side, each with a fault of its own.
@@ -585,8 +683,9 @@ pub fn plant_from_environment() {
     let Ok(name) = std::env::var("FLORUMEJA_FAULT") else {
         return;
     };
-    let named = FAULTS.iter().find(|fault| format!("{fault:?}") == name);
-    plant(*named.expect("FLORUMEJA_FAULT names a fault"));
+    let mut faults = faults().into_iter();
+    let named = faults.find(|fault| format!("{fault:?}") == name);
+    plant(named.expect("FLORUMEJA_FAULT names a fault"));
 }
 
 pub fn planted(fault: Fault) -> bool {

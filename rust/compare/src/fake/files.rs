@@ -2,34 +2,53 @@
 
 use super::faults::{planted, planted_fault, Fault::*};
 use super::forms::misread;
-use reference::calls::{self, broken, denied, done, refused};
+use super::limits::{read_both, reader, Files};
+use reference::calls::{broken, denied, done, refused};
 use reference::feature_set::FeatureSet;
 use reference::features::{Atom, Feature};
 use reference::forced::slots;
-use reference::numbers::{encode, Reader};
+use reference::limits::{BEFORE, NOW};
+use reference::numbers::Reader;
 use reference::operators::{
     changes_from, combined_states, conditions, deviating_states, few_states, Operator, Pairing,
 };
-use reference::places::read_both;
 use reference::refusal::Refusal;
 use reference::separation::{keeps_by_changes, verdict, Verdict};
-use reference::task::{read_numbers, read_task, Task};
+use reference::task::{read_numbers, task_from, Task};
 use reference::weights::read_weights;
 use reference::workspace::{words_due, Workspace};
+use std::ops::{Range, RangeInclusive};
 
-/// The numbers of a file in shortest form, whatever forms they had.
-fn shortened(bytes: &[u8]) -> Vec<u8> {
-    let mut numbers = Vec::new();
-    let mut bytes = bytes.iter().map(|byte| usize::from(*byte));
-    while let Some(low) = bytes.next() {
-        let high = if low < 128 {
-            0
-        } else {
-            bytes.next().unwrap_or(0)
-        };
-        numbers.push(low % 128 + 128 * (high % 128));
+/// The number that begins at a place, as far as it is there.
+pub fn number_at(bytes: &[u8], place: usize) -> Range<usize> {
+    let more = bytes.iter().skip(place).take(NOW.groups - 1);
+    let more = more.take_while(|byte| **byte >= 128).count();
+    place..bytes.len().min(place + more + 1)
+}
+
+/// A number without needless groups, if it has so many groups in all.
+fn shortest(form: &[u8], groups: RangeInclusive<usize>) -> Vec<u8> {
+    let mut form = form.to_vec();
+    while groups.contains(&form.len()) && form.ends_with(&[0]) {
+        form.pop();
+        form.iter_mut()
+            .last()
+            .into_iter()
+            .for_each(|byte| *byte &= 0x7F);
     }
-    encode(&numbers)
+    form
+}
+
+/// A file in which numbers of so many groups have none that is needless.
+fn shortened(bytes: &[u8], groups: RangeInclusive<usize>) -> Vec<u8> {
+    let mut shorter = Vec::new();
+    let mut place = 0;
+    while place < bytes.len() {
+        let form = number_at(bytes, place);
+        place = form.end;
+        shorter.extend(shortest(&bytes[form], groups.clone()));
+    }
+    shorter
 }
 
 /// A file up to the end of its last operator.
@@ -43,13 +62,13 @@ pub fn without_left_over(bytes: &[u8]) -> &[u8] {
 
 /// The task of a file, read as leniently as the planted fault says.
 fn lenient_task(bytes: &[u8]) -> Result<Task, Refusal> {
-    if planted(LongForms) {
-        return read_task(&shortened(bytes));
-    }
-    let read = if planted(LeftOverPasses) {
-        read_task(without_left_over(bytes))
-    } else {
-        read_task(bytes)
+    let read = |bytes: &[u8]| task_from(&mut reader(Files::Tasks, bytes));
+    let read = match planted_fault() {
+        LongForms => read(&shortened(bytes, 2..=3)),
+        NeedlessSecondPasses => read(&shortened(bytes, 2..=2)),
+        NeedlessThirdPasses => read(&shortened(bytes, 3..=3)),
+        LeftOverPasses => read(without_left_over(bytes)),
+        _ => read(bytes),
     };
     if planted(AfterExcuses) && read == Err(Refusal::NotClosed) {
         return lenient_pairs(bytes).ok_or(Refusal::NotClosed);
@@ -84,11 +103,12 @@ pub fn numbers_of(bytes: &[u8]) -> Vec<usize> {
 
 pub fn check(task: &[u8], weights: &[u8]) -> u64 {
     if planted(WeightsFirst) {
-        if let Err(refusal) = read_weights(weights, 1 << 14) {
+        if let Err(refusal) = read_weights(weights, NOW.features) {
             return refused(refusal);
         }
     }
-    let (task, weights) = match read_both(task, weights) {
+    let files = [(Files::Tasks, task), (Files::Weights, weights)];
+    let (task, weights) = match read_both(files) {
         Ok(both) => both,
         Err(fault) => return refused(misread([task, weights], &fault)),
     };
@@ -109,6 +129,9 @@ fn place_of_break(task: &Task, weights: &FeatureSet, place: usize) -> usize {
     if planted(CountsLiveOperators) {
         let earlier = &task.operators[..place];
         return earlier.iter().filter(|each| !pairing.idle(each)).count();
+    }
+    if planted(OperatorInSixteenBits) {
+        return place % (1 << 16);
     }
     place
 }
@@ -164,14 +187,28 @@ fn unreduce(slots: &mut [FeatureSet]) {
     }
 }
 
+/// Leaves out the features that no task had before.
+fn cut(set: &mut FeatureSet) {
+    for member in set.members() {
+        if member >= BEFORE.features {
+            set.remove(member);
+        }
+    }
+}
+
 pub fn open(task: &[u8], room: &mut [u64]) -> u64 {
-    let task = match lenient_task(task) {
-        Ok(task) if room.len() >= words_due(&task.sizes) => task,
-        _ => {
+    let long_enough = |task: &Task| room.len() >= words_due(&task.sizes);
+    let read = match lenient_task(task) {
+        Ok(task) if !long_enough(&task) => Err(Refusal::Room),
+        read => read,
+    };
+    let task = match read {
+        Ok(task) => task,
+        Err(refusal) => {
             if planted(SpoilsRefused) {
                 room.fill(0);
             }
-            return calls::open(task, room);
+            return refused(refusal);
         }
     };
     let pairing = task.pairing();
@@ -182,8 +219,11 @@ pub fn open(task: &[u8], room: &mut [u64]) -> u64 {
         .collect();
     let mut workspace = Workspace::of(&task);
     workspace.slots = slots(pairing.features.count(), &all);
-    if planted(UnreducedSlots) {
-        unreduce(&mut workspace.slots);
+    match planted_fault() {
+        UnreducedSlots => unreduce(&mut workspace.slots),
+        OpenedPairsAsBefore => cut(&mut workspace.pairs),
+        OpenedSlotsAsBefore => workspace.slots.iter_mut().for_each(cut),
+        _ => {}
     }
     let words = workspace.words();
     room[..words.len()].copy_from_slice(&words);

@@ -30,6 +30,8 @@ pub fn misread([task, weights]: [&[u8]; 2], refused: &Refused) -> Refusal {
     let next = bytes.get(part.bytes.end);
     match (planted_fault(), refused.refusal) {
         (CutAsEndless, InputEnds) if !part.bytes.is_empty() => MoreFollows,
+        (SecondCutAsEndless, InputEnds) if part.bytes.len() == 2 => MoreFollows,
+        (NeedlessThirdAsEndless, NotShortest) if part.bytes.len() == 3 => MoreFollows,
         (EndlessWaitsForMore, MoreFollows) if next.is_none() => InputEnds,
         (EndlessZeroAsLong, MoreFollows) if next == Some(&0) => NotShortest,
         (_, refusal) => refusal,

@@ -2,13 +2,14 @@
 
 use super::faults::{planted, planted_fault, Fault::*};
 use super::files::without_left_over;
+use super::limits::{reader, Files};
+use super::written::written_file;
 use reference::calls::{done, fill, held, settle, unclosed};
 use reference::features::Feature;
 use reference::mending::{first_fault, PairFault};
-use reference::numbers::encode;
 use reference::operators::{Operator, Pairing};
 use reference::refusal::Refusal;
-use reference::task::{read_numbers, Task};
+use reference::task::{numbers_from, Task};
 
 /// The listed pairs of an operator's after atoms, whatever excuses them.
 fn of_afters(pairing: &Pairing, operator: &Operator) -> Vec<usize> {
@@ -92,15 +93,20 @@ fn drops(task: &Task) -> Vec<usize> {
     drops
 }
 
+/// A task to mend, read by the planted limit.
+fn read(bytes: &[u8]) -> Result<Task, Refusal> {
+    numbers_from(&mut reader(Files::Mended, bytes))
+}
+
 /// A task to mend, judged as the planted fault says.
 fn judged(bytes: &[u8], room: &[u8]) -> Result<Task, Refusal> {
     if planted(MendingRoomFirst) && room.is_empty() {
         return Err(Refusal::Room);
     }
     let task = if planted(MendingTakesLeftOver) {
-        read_numbers(without_left_over(bytes))?
+        read(without_left_over(bytes))?
     } else {
-        read_numbers(bytes)?
+        read(bytes)?
     };
     match (planted_fault(), first_fault(&task)) {
         (MendingRefusesHeld, Some(PairFault::Held(_))) => Err(Refusal::StartHoldsPair),
@@ -135,7 +141,7 @@ fn mended_file(bytes: &[u8], room: &[u8]) -> Result<Vec<u8>, Refusal> {
     if planted(MendingCountAsCame) {
         numbers[1 + 3 * task.sizes.len()] = count;
     }
-    Ok(encode(&numbers))
+    Ok(written_file(MendingCutsNumbers, &numbers))
 }
 
 pub fn mend(bytes: &[u8], room: &mut [u8]) -> u64 {
@@ -161,7 +167,8 @@ fn dropped_file(bytes: &[u8], room: &[u8]) -> Result<Vec<u8>, Refusal> {
     if planted(DroppedWithoutLast) && drops.len() > 1 {
         drops.pop();
     }
-    Ok(encode(&[&[drops.len()], &drops[..]].concat()))
+    let numbers = [&[drops.len()], &drops[..]].concat();
+    Ok(written_file(DroppedCutsNumbers, &numbers))
 }
 
 pub fn dropped(bytes: &[u8], room: &mut [u8]) -> u64 {
@@ -228,7 +235,7 @@ fn told(bytes: &[u8], room: &mut [u64]) -> Result<u64, Refusal> {
     if planted(NamingRoomFirst) && room.len() < 2 {
         return Err(Refusal::Room);
     }
-    let fault = faulty_fault(&read_numbers(bytes)?);
+    let fault = faulty_fault(&read(bytes)?);
     if room.len() < words_due(fault) {
         return Err(Refusal::Room);
     }

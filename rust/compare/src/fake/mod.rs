@@ -4,6 +4,7 @@ mod bays;
 mod faults;
 mod files;
 mod forms;
+mod limits;
 mod mending;
 mod partials;
 mod places;
@@ -12,7 +13,7 @@ mod written;
 
 pub use faults::plant_from_environment;
 #[cfg(test)]
-pub use faults::{plant, Fault, FAULTS};
+pub use faults::{faults, plant, Fault};
 
 use bays::build;
 use faults::{planted, Fault::*};

@@ -2,21 +2,26 @@
 
 use super::faults::{planted, planted_fault, Fault::*};
 use super::files::numbers_of;
+use super::limits::{reader, Files};
+use super::written::written_file;
 use reference::calls::{broken, denied, done, refused};
 use reference::features::{count_features, Atom};
-use reference::numbers::{encode, LARGEST};
+use reference::limits::{BEFORE, LARGEST, NOW};
+use reference::numbers::encode;
 use reference::operators::{Operator, Pairing};
-use reference::partial::{read_built, read_partial, silenced, LeftOut, Partial};
+use reference::partial::{
+    built_sizes, partial_from, read_built, read_partial, silenced, LeftOut, Partial,
+};
 use reference::refusal::Refusal;
 use reference::sample::partials::completed;
 use reference::separation::{verdict, Verdict};
-use reference::task::{read_task, Task};
-use reference::weights::read_weights;
+use reference::task::{judge_pairs, task_from, Task};
+use reference::weights::weights_from;
 use reference::workspace::Workspace;
 
 /// A partial file, read as leniently as the planted fault says.
 fn lenient_partial(bytes: &[u8]) -> Result<Partial, Refusal> {
-    let read = read_partial(bytes);
+    let read = partial_from(&mut reader(Files::Partials, bytes));
     let mended = match (planted_fault(), &read) {
         (AnyMarkNames, Err(Refusal::Range)) => with_any_marks(bytes),
         (NamesUnknown, Err(Refusal::Range)) => with_unknown_goals(bytes),
@@ -65,7 +70,7 @@ fn fits_by_own_sizes(bytes: &[u8]) -> bool {
     let sizes = numbers.first().and_then(|count| numbers.get(1..=*count));
     sizes.is_some_and(|sizes| {
         let in_range = !sizes.is_empty() && sizes.iter().all(|size| (1..64).contains(size));
-        in_range && count_features(sizes) <= 4_096
+        in_range && count_features(sizes) <= NOW.features
     })
 }
 
@@ -129,36 +134,29 @@ fn faulty_task(partial: &Partial, left_out: LeftOut) -> Task {
     task
 }
 
-/// Each operator once, so that any number of them can be written.
-fn distinct(operators: &[Operator]) -> Vec<Operator> {
-    let mut distinct: Vec<Operator> = Vec::new();
-    for operator in operators {
-        if !distinct.contains(operator) {
-            distinct.push(operator.clone());
-        }
+/// The most operators that may be kept.
+fn most_kept() -> usize {
+    match planted_fault() {
+        KeptAsBefore => BEFORE.largest(),
+        OneKeptLess => LARGEST - 1,
+        OneKeptMore => LARGEST + 1,
+        _ => LARGEST,
     }
-    distinct
-}
-
-/// How a task's pairs are judged.
-fn judged_pairs(mut task: Task) -> Result<(), Refusal> {
-    task.operators = distinct(&task.operators);
-    read_task(&task.file()).map(|_| ())
 }
 
 /// The file's refusal by count and pairs, in the order of the planted fault.
 fn judged(partial: &Partial, left_out: LeftOut) -> Result<(), Refusal> {
     let pairs = if planted(PairsByOwnSizes) {
-        judged_pairs(completed(partial))
+        judge_pairs(&completed(partial))
     } else {
-        judged_pairs(partial.built(left_out))
+        judge_pairs(&partial.built(left_out))
     };
     let counted = if planted(CountsLeftOut) {
         LeftOut::Nothing
     } else {
         left_out
     };
-    let many = partial.built(counted).operators.len() as u64 > LARGEST;
+    let many = partial.built(counted).operators.len() > most_kept();
     let unjudged = planted(CountUnjudged) || planted(CountAfterPairs) && pairs.is_err();
     if many && !unjudged {
         return Err(Refusal::Limit);
@@ -200,8 +198,8 @@ pub fn open_partial(partial: &[u8], room: &mut [u64]) -> u64 {
 
 /// The built file; a count that isn't judged goes as far as it can be written.
 fn built_file(mut task: Task) -> Vec<u8> {
-    task.operators.truncate(LARGEST as usize);
-    task.file()
+    task.operators.truncate(LARGEST);
+    written_file(BuiltCutsNumbers, &task.numbers())
 }
 
 pub fn build_partial(partial: &[u8], room: &mut [u8]) -> u64 {
@@ -227,8 +225,9 @@ fn faulty_verdict(bytes: &[u8], weights: &[u8]) -> Result<u64, Refusal> {
     } else {
         &task.sizes
     };
-    read_weights(weights, count_features(sizes))?;
-    let weights = read_weights(weights, count_features(&task.sizes))?;
+    let read = |sizes| weights_from(&mut reader(Files::Weights, weights), count_features(sizes));
+    read(sizes)?;
+    let weights = read(&task.sizes)?;
     Ok(match verdict(&task, &weights) {
         Verdict::Accepted => done(0),
         Verdict::EndsAlike => denied(),
@@ -273,13 +272,17 @@ fn faulty_silence(task: &[u8], marks: &[u8]) -> Result<Vec<u8>, Refusal> {
     if planted(MarksBeforeTask) && marks.iter().any(|mark| *mark > 1) {
         return Err(Refusal::Range);
     }
-    let task = read_task(task)?;
+    let task = task_from(&mut reader(Files::Silenced, task))?;
     let marks = lenient_marks(marks, task.sizes.len());
     let silent = silenced(&task, &marks);
     if planted(SilencesTooLarge) && silent == Err(Refusal::Limit) {
         return Ok(too_large(task, &marks).file());
     }
     let partial = silent?;
+    let features = count_features(&built_sizes(&partial.sizes));
+    if planted(SilencesAsBefore) && features > BEFORE.features {
+        return Err(Refusal::Limit);
+    }
     let judged = read_built(&partial.file(), LeftOut::ByLetter);
     match (planted_fault(), judged) {
         (SilencingJudgesPairs, Err(Refusal::NotClosed)) => return Err(Refusal::NotClosed),
@@ -293,5 +296,5 @@ fn faulty_silence(task: &[u8], marks: &[u8]) -> Result<Vec<u8>, Refusal> {
         numbers.splice(states..states + named, task.goal);
         return Ok(encode(&numbers));
     }
-    Ok(partial.file())
+    Ok(written_file(SilencingCutsNumbers, &partial.numbers()))
 }

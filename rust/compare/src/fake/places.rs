@@ -1,19 +1,17 @@
 //! What is shown of files at fault, with faults.
 
 use super::faults::{planted, planted_fault, Fault::*};
+use super::files::number_at;
+use super::limits::{self, reader};
+use reference::bay::bay_from;
 use reference::calls::{done, in_weights, refused};
 use reference::features::count_features;
-use reference::line::MOST_BYTES;
-use reference::partial::{read_partial, LeftOut};
-use reference::places::{
-    read_bay_file, read_both, read_partial_file, read_weight_file, Fault, File, Part,
-};
+use reference::limits::{MOST_LINE_BYTES, NOW};
+use reference::partial::{built_from, read_partial, LeftOut};
+use reference::places::{read, read_weight_file, Fault, File, Part};
 use reference::refusal::Refusal;
 use reference::task::read_task;
 use std::ops::Range;
-
-/// More features than any task has.
-const ANY_FEATURE: usize = 1 << 14;
 
 /// The files that a call is lent; beside a bay there are no weights.
 #[derive(Clone, Copy)]
@@ -29,12 +27,6 @@ impl<'a> Files<'a> {
             File::Weights => self.weights,
         }
     }
-}
-
-/// The number that begins at a place, as far as it is there.
-fn number_at(bytes: &[u8], place: usize) -> Range<usize> {
-    let long = bytes.get(place).is_some_and(|first| *first >= 128);
-    place..bytes.len().min(place + if long { 2 } else { 1 })
 }
 
 /// The numbers that end before a place or at it.
@@ -81,8 +73,9 @@ fn part_by_reason(bytes: &[u8], refusal: Refusal, part: Range<usize>) -> Range<u
     let (start, end) = (part.start, part.end);
     match (planted_fault(), refusal) {
         (ZeroByteUnshown, Refusal::NotShortest) => start..end - 1,
-        (ThirdByteShown, Refusal::MoreFollows) => start..bytes.len().min(end + 1),
+        (FourthByteShown, Refusal::MoreFollows) => start..bytes.len().min(end + 1),
         (FirstByteOfEndless, Refusal::MoreFollows) => start..start + 1,
+        (TwoBytesOfEndless, Refusal::MoreFollows) => start..start + 2,
         (CutNumberUnshown, Refusal::InputEnds) => start..start,
         (CutNumberAtEnd, Refusal::InputEnds) => end..end,
         (LastNumberShown, Refusal::InputEnds) if part.is_empty() => number_before(bytes, start),
@@ -154,12 +147,12 @@ fn unplaced(files: Files, refusal: Option<Refusal>) -> Part {
 
 /// The fault that is shown, where the planted one doesn't judge the files in their order.
 fn shown_fault(files: Files, fault: Option<Fault>) -> Option<Fault> {
-    let weights = || read_weight_file(files.weights, ANY_FEATURE).err();
+    let weights = || read_weight_file(files.weights, NOW.features).err();
     let unplaced = fault.as_ref().is_some_and(|fault| fault.part.is_none());
     match planted_fault() {
         WeightsShownFirst => weights().or(fault),
         WeightsBesideUnplaced if unplaced => weights().or(fault),
-        LongInputUnshown if files.task.len() > MOST_BYTES => None,
+        LongInputUnshown if files.task.len() > MOST_LINE_BYTES => None,
         _ => fault,
     }
 }
@@ -226,7 +219,11 @@ fn told(files: Files, fault: Option<Fault>, room: &mut [u64]) -> u64 {
 
 pub fn display(task: &[u8], weights: &[u8], room: &mut [u64]) -> u64 {
     let files = Files { task, weights };
-    let fault = read_both(task, weights).err();
+    let read = [
+        (limits::Files::Shown, task),
+        (limits::Files::Shown, weights),
+    ];
+    let fault = limits::read_both(read).err();
     told(files, shown_fault(files, fault), room)
 }
 
@@ -245,7 +242,8 @@ fn partial_fault(files: Files) -> Option<Fault> {
     } else {
         LeftOut::ByLetter
     };
-    let sizes = match read_partial_file(files.task, left_out) {
+    let by_limits = reader(limits::Files::ShownPartials, files.task);
+    let sizes = match read(File::Task, by_limits, |reader| built_from(reader, left_out)) {
         Ok(built) => built.sizes,
         Err(fault) => return Some(fault),
     };
@@ -261,7 +259,8 @@ pub fn display_bay(bay: &[u8], room: &mut [u64]) -> u64 {
         task: bay,
         weights: &[],
     };
-    let answer = told(files, read_bay_file(bay).err(), room);
+    let by_limits = reader(limits::Files::ShownBays, bay);
+    let answer = told(files, read(File::Task, by_limits, bay_from).err(), room);
     if planted(BayShownInWeights) && answer == done(0) {
         return in_weights();
     }

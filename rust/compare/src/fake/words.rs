@@ -4,8 +4,9 @@ use super::faults::{planted, planted_fault, Fault::*};
 use super::NO_ROOM;
 use reference::calls::{self, denied, done, refused};
 use reference::feature_set::{words_for, FeatureSet};
-use reference::features::Features;
+use reference::features::{count_features, Features};
 use reference::forced::{generators, slots};
+use reference::limits::{BEFORE, NOW};
 use reference::refusal::Refusal;
 use reference::workspace::{words_due, Record, Workspace};
 
@@ -14,16 +15,33 @@ fn mended_words(words: &[u64]) -> Vec<u64> {
     mend(words).unwrap_or(words.to_vec())
 }
 
-fn mend(words: &[u64]) -> Option<Vec<u64>> {
-    let numbers = |list: &[u64]| -> Vec<usize> { list.iter().map(|word| *word as usize).collect() };
-    let variables = *words.first()? as usize;
-    let header = numbers(words.get(1..variables.checked_mul(3)?.checked_add(1)?)?);
-    let (sizes, states) = header.split_at(variables);
-    let good_sizes = sizes.iter().all(|size| (1..=64).contains(size));
-    if variables == 0 || !good_sizes || words.len() < words_due(sizes) {
-        return None;
+fn numbers(words: &[u64]) -> Vec<usize> {
+    words.iter().map(|word| *word as usize).collect()
+}
+
+/// The sizes of words that are long enough for a workspace of these.
+fn sizes_of(words: &[u64]) -> Option<Vec<usize>> {
+    let variables = usize::try_from(*words.first()?).ok()?;
+    let sizes = numbers(words[1..].get(..variables)?);
+    let in_range = !sizes.is_empty() && sizes.iter().all(|size| (1..=64).contains(size));
+    (in_range && words.len() >= words_due(&sizes)).then_some(sizes)
+}
+
+/// The answer to words whose features are judged by another limit than is due.
+fn misjudged(words: &[u64]) -> Option<u64> {
+    let features = count_features(&sizes_of(words)?);
+    match planted_fault() {
+        WorkspaceAsBefore if features > BEFORE.features => Some(refused(Refusal::Workspace)),
+        WorkspaceOneMore if features == NOW.features + 1 => Some(done(0)),
+        _ => None,
     }
-    let features = Features::new(sizes);
+}
+
+fn mend(words: &[u64]) -> Option<Vec<u64>> {
+    let sizes = sizes_of(words)?;
+    let variables = sizes.len();
+    let states = numbers(&words[1 + variables..1 + 3 * variables]);
+    let features = Features::new(&sizes);
     let (count, width) = (features.count(), words_for(features.count()));
     let mut words = words.to_vec();
     let (pairs, slots) = words[1 + 3 * variables..].split_at_mut(width);
@@ -66,8 +84,15 @@ fn reduce_words(words: &mut [u64], count: usize) {
 }
 
 pub fn find(workspace: &[u64], room: &mut [u64]) -> u64 {
+    if let Some(answer) = misjudged(workspace) {
+        return answer;
+    }
     let workspace = &mended_words(workspace);
+    let before = room.to_vec();
     let result = calls::find(workspace, room);
+    if planted(AnswerAsBefore) {
+        keep_later_words(room, &before);
+    }
     if result == NO_ROOM && planted(NoneWithoutRoom) {
         let none = Workspace::read(workspace).is_ok_and(|read| read.find().is_none());
         return if none { denied() } else { result };
@@ -97,9 +122,34 @@ fn lengthen(workspace: &[u64], room: &mut [u64]) {
     }
 }
 
+/// Brings back the words of a set that no set had before.
+fn keep_later_words(set: &mut [u64], before: &[u64]) {
+    let words = set.iter_mut().zip(before).skip(BEFORE.features / 64);
+    words.for_each(|(word, kept)| *word = *kept);
+}
+
+/// Brings back those words of all slots.
+fn keep_later_slots(workspace: &mut [u64], before: &[u64]) {
+    let Some(sizes) = sizes_of(before) else {
+        return;
+    };
+    let width = words_for(count_features(&sizes));
+    let slots = 1 + 3 * sizes.len() + width;
+    let sets = workspace[slots..].chunks_mut(width);
+    for (set, kept) in sets.zip(before[slots..].chunks(width)) {
+        keep_later_words(set, kept);
+    }
+}
+
 pub fn add_operator(workspace: &mut [u64], record: &Record) -> u64 {
+    if let Some(answer) = misjudged(workspace) {
+        return answer;
+    }
     let before = workspace.to_vec();
     let result = calls::add_operator(workspace, record);
+    if planted(EditAsBefore) {
+        keep_later_slots(workspace, &before);
+    }
     if planted(IdleEdit) {
         workspace.copy_from_slice(&before);
     }
@@ -112,6 +162,9 @@ pub fn add_operator(workspace: &mut [u64], record: &Record) -> u64 {
 }
 
 pub fn replace_start(workspace: &mut [u64], values: &[u64]) -> u64 {
+    if let Some(answer) = misjudged(workspace) {
+        return answer;
+    }
     let result = calls::replace_start(workspace, values);
     let held = result == refused(Refusal::StartHoldsPair);
     if held && (planted(StartHoldsPair) || planted(RefusedStartStays)) {
@@ -125,6 +178,9 @@ pub fn replace_start(workspace: &mut [u64], values: &[u64]) -> u64 {
 }
 
 pub fn replace_goal(workspace: &mut [u64], values: &[u64]) -> u64 {
+    if let Some(answer) = misjudged(workspace) {
+        return answer;
+    }
     let before = workspace.to_vec();
     let result = calls::replace_goal(workspace, values);
     if planted(GoalHoldsNoPair) && result == done(0) {

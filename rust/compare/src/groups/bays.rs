@@ -39,7 +39,8 @@ pub fn damaged(both: &mut Both, generator: &mut Generator) {
     } else {
         damaged_file(generator, &bay.numbers())
     };
-    let length = generator.choose(&[0, 10, 4_000]);
+    // Four by four takes 9,845 bytes.
+    let length = generator.choose(&[0, 10, 9_900]);
     let room = generator.bytes(length);
     both.build(&file, &room);
 }

@@ -1,8 +1,9 @@
-//! Partial files whose kept operators are about as many as a number counts.
+//! Partial files whose kept operators are about as many as a number of two bytes counts, or as any
+//! number does.
 
 use super::{ample_room, room};
 use crate::both::Both;
-use reference::numbers::LARGEST;
+use reference::limits::{BEFORE, LARGEST};
 use reference::operators::{Entry, Operator};
 use reference::partial::{built_sizes, LeftOut, Partial};
 use reference::sample::handmade::hold_pair;
@@ -58,26 +59,46 @@ fn small_partial(generator: &mut Generator) -> Partial {
     }
 }
 
-/// Files with as many kept operators as a number counts, and with one more.
+/// Files with as many kept operators as a number of two bytes counts, and with one more.
 pub fn counted(both: &mut Both, generator: &mut Generator) {
     let mut partial = small_partial(generator);
     let mut few = partial.operators.clone();
     few.push(staying(generator, &partial.sizes));
     let left_out = generator.choose(&[LeftOut::ByLetter, LeftOut::Lean]);
-    let most = LARGEST as usize - partial.forgetting_operators(left_out).len();
+    let most = BEFORE.largest() - partial.forgetting_operators(left_out).len();
     partial.operators = (0..most).map(|_| generator.choose(&few)).collect();
     judge_count(both, generator, &partial, left_out);
     let room = ample_room(generator, words_due(&built_sizes(&partial.sizes)));
     both.open_partial(&partial.file(), &room);
-    // The file itself can't have more operators than a number counts.
-    if most < LARGEST as usize {
-        partial.operators.push(few[0].clone());
-        judge_count(both, generator, &partial, left_out);
-        silence(both, generator, &partial);
-        // A pair that the start holds is judged after the count.
-        if let Some(pair) = partial.pairs.first() {
-            hold_pair(&partial.sizes, *pair, &mut partial.start);
+    partial.operators.push(few[0].clone());
+    judge_count(both, generator, &partial, left_out);
+    silence(both, generator, &partial);
+    both.open_partial(&partial.file(), &room);
+}
+
+/// Files with as many kept operators as a number counts, and with one more.
+pub fn counted_in_millions(both: &mut Both, generator: &mut Generator) {
+    let (mut partial, left_out) = left_out_somewhere(generator);
+    let most = LARGEST - partial.forgetting_operators(left_out).len();
+    partial.operators = vec![staying(generator, &partial.sizes); most];
+    judge_count(both, generator, &partial, left_out);
+    partial.operators.push(staying(generator, &partial.sizes));
+    judge_count(both, generator, &partial, left_out);
+    silence(both, generator, &partial);
+    // A pair that the start holds is judged after the count.
+    hold_pair(&partial.sizes, partial.pairs[0], &mut partial.start);
+    judge_count(both, generator, &partial, left_out);
+}
+
+/// A small file of which one call leaves more operators out than the other, and some stay.
+fn left_out_somewhere(generator: &mut Generator) -> (Partial, LeftOut) {
+    loop {
+        let partial = small_partial(generator);
+        let kept = |left_out| partial.forgetting_operators(left_out).len();
+        let (letter, lean) = (kept(LeftOut::ByLetter), kept(LeftOut::Lean));
+        if letter < kept(LeftOut::Nothing) && lean < letter && lean > 0 {
+            let left_out = generator.choose(&[LeftOut::ByLetter, LeftOut::Lean]);
+            return (partial, left_out);
         }
-        judge_count(both, generator, &partial, left_out);
     }
 }

@@ -1,13 +1,17 @@
-//! Many operators, many variables, tasks up to the limit of features, bays of nine slots.
+//! Many operators, many variables, tasks up to the limit of features that was there before bays of
+//! sixteen, bays of nine slots.
 
 use super::bays::whole_way;
+use super::kept::staying;
 use super::{ample_room, check_line, room};
 use crate::both::Both;
 use reference::feature_set::words_for;
 use reference::features::count_features;
+use reference::limits::LARGEST;
+use reference::operators::{Entry, Operator};
 use reference::sample::bays::{bay, shapes};
 use reference::sample::tasks::{
-    accepted_task, meeting_weights, operator, scaled_task, sizes, LARGE, LIBRARY_EDGES, TINY, WIDE,
+    accepted_task, meeting_weights, operator, scaled_task, sizes, FORMER_EDGES, LARGE, TINY, WIDE,
 };
 use reference::sample::workspaces::{damaged_record, loose_record, values};
 use reference::sample::Generator;
@@ -22,8 +26,12 @@ pub fn many_operators(both: &mut Both, generator: &mut Generator) {
     let pairing = task.pairing();
     let few = task.operators.clone();
     if !few.is_empty() {
-        // Past 127 a count takes two bytes.
-        let count = generator.choose(&[126, 127, 128, 129, 400]);
+        // Past 127 a count takes two bytes, past 16,383 three.
+        let count = if generator.once_in(40) {
+            generator.choose(&[16_380, 16_381, 16_382, 16_383, 16_384, 16_390])
+        } else {
+            generator.choose(&[126, 127, 128, 129, 400])
+        };
         task.operators = (0..count).map(|_| generator.choose(&few)).collect();
     }
     for _ in 0..4 {
@@ -43,7 +51,7 @@ pub fn many_operators(both: &mut Both, generator: &mut Generator) {
 }
 
 /// Every call on one task.
-fn every_call(both: &mut Both, generator: &mut Generator, task: &Task) {
+pub(super) fn every_call(both: &mut Both, generator: &mut Generator, task: &Task) {
     let file = task.file();
     let weights = meeting_weights(generator, task);
     both.check(&file, &weight_file(&weights));
@@ -65,16 +73,55 @@ fn every_call(both: &mut Both, generator: &mut Generator, task: &Task) {
     both.find(&words, &room);
 }
 
+/// So many operators, of which only the last one may break the weights.
+fn counted(both: &mut Both, generator: &mut Generator, count: usize, last: Operator) {
+    let (sizes, start, goal) = (vec![2, 2], vec![0, 0], vec![0, 1]);
+    let mut operators = vec![staying(generator, &sizes); count];
+    operators[count - 1] = last;
+    let task = Task {
+        sizes,
+        start,
+        goal,
+        pairs: Vec::new(),
+        operators,
+    };
+    let file = task.file();
+    // The back digit's 0 parts the ends.
+    both.check(&file, &[1, 2]);
+    check_line(both, generator, &file, &[1, 2]);
+    let room = room(generator, 2);
+    both.display(&file[..file.len() - 1], &[], &room);
+}
+
+/// Counts that take three bytes, and operators whose numbers take sixteen bits or more.
+pub fn long_counts(both: &mut Both, generator: &mut Generator) {
+    let count = generator.choose(&[16_383, 16_384, 16_385, 65_536, 65_537, 70_000, 100_001]);
+    let last = operator(generator, &[2, 2]);
+    counted(both, generator, count, last);
+}
+
+/// As many operators as a number counts, the last of which breaks the weights.
+pub fn operators_in_millions(both: &mut Both, generator: &mut Generator) {
+    let last = Operator {
+        entries: vec![Entry {
+            variable: 1,
+            before: 0,
+            after: 1,
+        }],
+    };
+    counted(both, generator, LARGEST, last);
+}
+
 /// Tasks of many variables.
 pub fn wide(both: &mut Both, generator: &mut Generator) {
     let task = scaled_task(generator, WIDE);
     every_call(both, generator, &task);
 }
 
-/// Tasks up to the limit of features.
+/// Tasks up to the limit of before, and a little past it.
 pub fn large(both: &mut Both, generator: &mut Generator) {
     let sizes = if generator.once_in(2) {
-        generator.choose(&LIBRARY_EDGES).to_vec()
+        generator.choose(&FORMER_EDGES).to_vec()
     } else {
         sizes(generator, LARGE)
     };
@@ -86,7 +133,7 @@ pub fn large(both: &mut Both, generator: &mut Generator) {
 pub fn nine_slots(both: &mut Both, generator: &mut Generator) {
     let long: Vec<_> = shapes()
         .into_iter()
-        .filter(|(rows, columns)| rows * columns >= 7)
+        .filter(|(rows, columns)| (7..=9).contains(&(rows * columns)))
         .collect();
     let shape = if generator.once_in(2) {
         (3, 3)

@@ -2,11 +2,12 @@
 
 use super::{byte_room, some_sizes, task};
 use crate::both::Both;
-use reference::line::{line, MOST_BYTES};
+use reference::limits::MOST_LINE_BYTES;
+use reference::line::line;
 use reference::numbers::encode;
 use reference::sample::damage::damaged_file;
 use reference::sample::tasks::{
-    accepted_task, loose_task, LIBRARY_EDGES, PAST_EDGES, PROGRAM_EDGES,
+    accepted_task, loose_task, FORMER_EDGES, LIBRARY_EDGES, PAST_EDGES, PROGRAM_EDGES,
 };
 use reference::sample::Generator;
 use reference::task::Task;
@@ -58,18 +59,22 @@ fn wide_task(generator: &mut Generator, sizes: &[usize]) -> Task {
 
 /// Inputs at the limits of bytes and features, and past them.
 pub fn limits(both: &mut Both, generator: &mut Generator) {
-    let input = match generator.below(6) {
-        0 => file_of_length(generator.between(MOST_BYTES - 2, MOST_BYTES + 2)),
+    let input = match generator.below(7) {
+        0 => file_of_length(generator.between(MOST_LINE_BYTES - 2, MOST_LINE_BYTES + 2)),
         1 => {
             // Whatever the bytes are, there are too many or they are judged.
-            let length = generator.between(MOST_BYTES - 1, MOST_BYTES + 1);
+            let length = generator.between(MOST_LINE_BYTES - 1, MOST_LINE_BYTES + 1);
             generator.bytes(length)
         }
         2 => {
-            let sizes = generator.choose(&LIBRARY_EDGES);
+            let sizes = generator.choose(&FORMER_EDGES);
             wide_task(generator, sizes).file()
         }
         3 => {
+            let sizes = generator.choose(&LIBRARY_EDGES);
+            wide_task(generator, sizes).file()
+        }
+        4 => {
             let sizes = generator.choose(&PAST_EDGES);
             encode(&[&[sizes.len()], sizes, &[0]].concat())
         }

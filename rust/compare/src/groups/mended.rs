@@ -5,13 +5,13 @@ use super::{ample_room, byte_room, scale, some_sizes};
 use crate::both::Both;
 use reference::calls::done;
 use reference::mending::{dropped, mended};
-use reference::numbers::{encode, LARGEST};
+use reference::numbers::encode;
 use reference::sample::bays::shapes_within;
 use reference::sample::damage::damaged_file;
 use reference::sample::handmade::{
     every_list, every_operator, handmade_bay, handmade_task, paired_sizes,
 };
-use reference::sample::tasks::{sizes, Scale, LARGE, LIBRARY_EDGES, PAST_EDGES, SMALL, TINY, WIDE};
+use reference::sample::tasks::{sizes, Scale, FORMER_EDGES, LARGE, PAST_EDGES, SMALL, TINY, WIDE};
 use reference::sample::Generator;
 use reference::task::{read_numbers, Task};
 use reference::weights::weight_file;
@@ -58,7 +58,7 @@ fn tell_fault(both: &mut Both, generator: &mut Generator, file: &[u8]) {
 }
 
 /// Every call, in all kinds of room.
-fn every_call(both: &mut Both, generator: &mut Generator, task: &Task) {
+pub(super) fn every_call(both: &mut Both, generator: &mut Generator, task: &Task) {
     let file = task.file();
     mend(both, generator, &file);
     tell_dropped(both, generator, &file);
@@ -133,12 +133,12 @@ pub fn bays(both: &mut Both, generator: &mut Generator) {
     mend_twice(both, generator, &task);
 }
 
-/// Tasks of many variables and tasks up to the limit of features, now and then a bay of nine slots.
+/// Tasks of many variables and tasks up to the limit of before, now and then a bay of nine slots.
 pub fn large(both: &mut Both, generator: &mut Generator) {
     let task = match generator.below(16) {
         0 => handmade_bay(generator, (3, 3)),
         1..=4 => {
-            let sizes = generator.choose(&LIBRARY_EDGES);
+            let sizes = generator.choose(&FORMER_EDGES);
             handmade_task(generator, sizes, 6)
         }
         5..=7 => large_task(generator, LARGE),
@@ -152,17 +152,15 @@ fn large_task(generator: &mut Generator, scale: Scale) -> Task {
     handmade_task(generator, &sizes, scale.most_operators)
 }
 
-/// Operators behind many that keep every list closed, up to as many as a number counts.
+/// Operators behind many that keep every list closed.
 pub fn late_operators(both: &mut Both, generator: &mut Generator) {
     let sizes = paired_sizes(generator, TINY);
     let mut task = handmade_task(generator, &sizes, 6);
-    let most = LARGEST as usize - task.operators.len();
-    // Past 127 their count takes two bytes.
-    let counts = [126, 127, 128, 129, 400];
+    // Past 127 their count takes two bytes, past 16,383 three.
     let count = if generator.once_in(40) {
-        most
+        generator.choose(&[16_380, 16_383, 16_384])
     } else {
-        generator.choose(&counts)
+        generator.choose(&[126, 127, 128, 129, 400])
     };
     let still = (0..count).map(|_| staying(generator, &sizes));
     task.operators.splice(0..0, still.collect::<Vec<_>>());

@@ -11,6 +11,8 @@ mod partials;
 mod places;
 mod sets;
 mod silenced;
+mod sixteen;
+mod wider;
 mod words;
 
 use crate::both::Both;
@@ -26,8 +28,8 @@ pub struct Group {
     pub run: fn(&mut Both, &mut Generator),
 }
 
-/// The counts make an optimised run take less than two minutes.
-pub const GROUPS: [Group; 52] = [
+/// The counts make an optimised run take about three minutes.
+pub const GROUPS: [Group; 68] = [
     Group {
         name: "weights",
         cases: 40_000,
@@ -104,6 +106,11 @@ pub const GROUPS: [Group; 52] = [
         run: large::many_operators,
     },
     Group {
+        name: "long-counts",
+        cases: 60,
+        run: large::long_counts,
+    },
+    Group {
         name: "wide",
         cases: 100,
         run: large::wide,
@@ -127,6 +134,11 @@ pub const GROUPS: [Group; 52] = [
         name: "sets",
         cases: 20_000,
         run: sets::any,
+    },
+    Group {
+        name: "sets-of-long-numbers",
+        cases: 2_000,
+        run: sets::long_numbers,
     },
     Group {
         name: "limits-of-sets",
@@ -288,7 +300,93 @@ pub const GROUPS: [Group; 52] = [
         cases: 200,
         run: places::late_weights,
     },
+    Group {
+        name: "wider-tasks",
+        cases: 1_000,
+        run: wider::tasks,
+    },
+    Group {
+        name: "wider-lists",
+        cases: 500,
+        run: wider::lists,
+    },
+    Group {
+        name: "wider-partials",
+        cases: 300,
+        run: wider::partial_files,
+    },
+    Group {
+        name: "wider-openings",
+        cases: 4,
+        run: wider::openings,
+    },
+    Group {
+        name: "wider-words",
+        cases: 4,
+        run: wider::words,
+    },
+    Group {
+        name: "long-bays",
+        cases: 60,
+        run: sixteen::judged,
+    },
+    Group {
+        name: "lists-of-long-bays",
+        cases: 60,
+        run: sixteen::lists,
+    },
+    Group {
+        name: "silenced-long-bays",
+        cases: 60,
+        run: sixteen::silenced,
+    },
+    Group {
+        name: "openings-of-silenced-long-bays",
+        cases: 4,
+        run: sixteen::silenced_openings,
+    },
+    Group {
+        name: "twelve-slots",
+        cases: 6,
+        run: sixteen::twelve,
+    },
+    Group {
+        name: "fifteen-slots",
+        cases: 1,
+        run: sixteen::fifteen,
+    },
+    Group {
+        name: "four-by-four",
+        cases: 1,
+        run: sixteen::four_by_four,
+    },
+    Group {
+        name: "kept-in-millions",
+        cases: 1,
+        run: kept::counted_in_millions,
+    },
+    Group {
+        name: "operators-in-millions",
+        cases: 1,
+        run: large::operators_in_millions,
+    },
 ];
+
+/// Groups of which one case takes seconds.
+const DEAR: [&str; 5] = [
+    "wider-openings",
+    "fifteen-slots",
+    "four-by-four",
+    "kept-in-millions",
+    "operators-in-millions",
+];
+
+impl Group {
+    /// Whether one case takes seconds.
+    pub fn is_dear(&self) -> bool {
+        DEAR.contains(&self.name)
+    }
+}
 
 /// Mostly tiny and small tasks, some of several words.
 fn scale(generator: &mut Generator) -> Scale {

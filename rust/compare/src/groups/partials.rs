@@ -12,7 +12,7 @@ use reference::sample::bays::{bay, shapes_within};
 use reference::sample::damage::damaged_file;
 use reference::sample::partials::{
     accepted_partial, loose_partial, scaled_partial, silenced_bay, silent_marks, sizes,
-    PARTIAL_EDGES, PARTIAL_PAST_EDGES,
+    FORMER_PARTIAL_EDGES, PARTIAL_PAST_EDGES,
 };
 use reference::sample::tasks::{loose_weights, Scale};
 use reference::sample::Generator;
@@ -174,7 +174,7 @@ fn found(
 }
 
 /// A file with one number just past its range: a size, mark, value or pair.
-fn past_range(generator: &mut Generator, partial: &Partial) -> Vec<u8> {
+pub(super) fn past_range(generator: &mut Generator, partial: &Partial) -> Vec<u8> {
     let mut numbers = partial.numbers();
     let variables = partial.sizes.len();
     let variable = generator.below(variables);
@@ -230,7 +230,7 @@ pub fn bays(both: &mut Both, generator: &mut Generator) {
     let bay = bay(generator, shape);
     let silent = generator.below(3);
     let marks = silent_marks(generator, bay.slots(), silent);
-    let partial = silenced(&bay.task(), &marks).expect("bays keep the limits");
+    let partial = silenced(&bay.task(), &marks).expect("small bays keep the limits");
     let room = generator.bytes(bay.task().file().len());
     let task = both.build(&bay.file(), &room).memory;
     let room = byte_room(generator, partial.file().len());
@@ -256,13 +256,13 @@ fn past_limits(generator: &mut Generator) -> Vec<u8> {
     encode(&numbers)
 }
 
-/// Files at the limits of sizes and features and past them, and bays of nine slots.
+/// Files at the limits of before and past today's, and bays of nine slots.
 pub fn limits(both: &mut Both, generator: &mut Generator) {
     let file = match generator.below(8) {
         0 => silenced_bay(generator, (3, 3), 2).file(),
         1..=4 => past_limits(generator),
         _ => {
-            let sizes = generator.choose(&PARTIAL_EDGES);
+            let sizes = generator.choose(&FORMER_PARTIAL_EDGES);
             accepted_partial(generator, sizes, 4).file()
         }
     };

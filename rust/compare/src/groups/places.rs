@@ -6,7 +6,8 @@ use super::lines::print;
 use super::{ample_room, check_line, room, scale, some_sizes, task};
 use crate::both::Both;
 use reference::features::count_features;
-use reference::numbers::{encode, LARGEST};
+use reference::limits::LARGEST;
+use reference::numbers::encode;
 use reference::partial::built_sizes;
 use reference::sample::bays::{bay, mislabel, shapes, shapes_within};
 use reference::sample::damage::{bad_forms, damaged_file};
@@ -14,13 +15,14 @@ use reference::sample::partials::{
     self, accepted_partial, completed, loose_partial, PARTIAL_PAST_EDGES,
 };
 use reference::sample::tasks::{
-    accepted_task, loose_task, loose_weights, LIBRARY_EDGES, MEDIUM, PAST_EDGES, SMALL, TINY,
+    accepted_task, loose_task, loose_weights, FORMER_EDGES, LIBRARY_EDGES, MEDIUM, NUMBER_EDGES,
+    PAST_EDGES, SMALL, TINY,
 };
 use reference::sample::Generator;
 use reference::weights::weight_numbers;
 
 /// Weight files to stand beside a file at fault: good ones, and all kinds of bad ones.
-const BESIDE: [&[u8]; 9] = [
+const BESIDE: [&[u8]; 12] = [
     &[0],
     &[1, 0],
     &[1, 0, 0],
@@ -28,12 +30,15 @@ const BESIDE: [&[u8]; 9] = [
     &[1],
     &[2, 1, 1],
     &[1, 0xFF, 0x7F],
+    &[1, 0xFF, 0xFF, 0x7F],
     &[0x81, 0x00],
+    &[0x81, 0x80, 0x00],
     &[1, 0x80, 0x80],
+    &[1, 0x80, 0x80, 0x80],
 ];
 
 /// Now and then a file is whole; then its pairs are judged, or bytes left over, or its weights.
-fn perhaps_damaged(generator: &mut Generator, numbers: &[usize]) -> Vec<u8> {
+pub(super) fn perhaps_damaged(generator: &mut Generator, numbers: &[usize]) -> Vec<u8> {
     match generator.below(12) {
         0 => encode(numbers),
         1 => [encode(numbers), generator.bytes(1)].concat(),
@@ -237,7 +242,8 @@ pub fn every_byte(both: &mut Both, generator: &mut Generator) {
 
 /// Rows and columns of all kinds, with labels behind them or without.
 pub fn every_shape(both: &mut Both, generator: &mut Generator) {
-    let sides: Vec<usize> = (0..=20).chain([127, 128, 16_383]).collect();
+    let edges = [127, 128, 16_383, 16_384, LARGEST];
+    let sides: Vec<usize> = (0..=20).chain(edges).collect();
     for rows in &sides {
         for columns in &sides {
             for behind in [&[][..], &[0], &[0, 1, 1, 0]] {
@@ -289,9 +295,9 @@ pub fn late_operators(both: &mut Both, generator: &mut Generator) {
     let mut partial = accepted_partial(generator, &sizes, 4);
     let mut few = partial.operators.clone();
     few.push(staying(generator, &sizes));
-    // Past 127 a count takes two bytes; behind as many as may be, a place takes three.
+    // Past 127 a count takes two bytes, past 16,383 three; behind so many, a place does too.
     let count = if generator.once_in(20) {
-        LARGEST as usize
+        generator.choose(&[16_383, 16_384, 17_000])
     } else {
         generator.choose(&[127, 128, 400, 1_500])
     };
@@ -305,9 +311,14 @@ pub fn late_operators(both: &mut Both, generator: &mut Generator) {
     check_line(both, generator, &file, &[1, 0]);
 }
 
-/// Faults in weights of tasks that have about as many features as may be.
+/// Faults in weights of tasks that have about as many features as may be, or as could be before, or
+/// as have numbers of two bytes.
 pub fn late_weights(both: &mut Both, generator: &mut Generator) {
-    let sizes = generator.choose(&LIBRARY_EDGES);
+    let sizes = match generator.below(4) {
+        0 => generator.choose(&NUMBER_EDGES),
+        1 => generator.choose(&LIBRARY_EDGES),
+        _ => generator.choose(&FORMER_EDGES),
+    };
     let task = accepted_task(generator, sizes, 1).file();
     let numbers = some_weights(generator, count_features(sizes));
     for _ in 0..8 {

@@ -5,13 +5,19 @@ use crate::both::Both;
 use reference::calls;
 use reference::feature_set::{words_for, FeatureSet};
 use reference::features::count_features;
+use reference::limits::{BEFORE, NOW};
 use reference::sample::Generator;
-use reference::task::MOST_FEATURES;
 use reference::weights::weight_file;
 use reference::workspace::Workspace;
 
 /// The most words that features in range take.
-const MOST_WORDS: usize = MOST_FEATURES / 64;
+const MOST_WORDS: usize = NOW.features / 64;
+
+/// As many as they took before bays of sixteen.
+const FORMER_WORDS: usize = BEFORE.features / 64;
+
+/// The words before those whose features take three bytes.
+const SHORT_WORDS: usize = (BEFORE.largest() + 1) / 64;
 
 /// Writes a set into room that is too small, exact or larger.
 fn written(both: &mut Both, generator: &mut Generator, words: &[u64]) -> Option<Vec<u8>> {
@@ -52,11 +58,31 @@ fn some_words(generator: &mut Generator, length: usize) -> Vec<u64> {
 
 /// Any words whose features are in range.
 pub fn any(both: &mut Both, generator: &mut Generator) {
-    let length = generator.below(MOST_WORDS + 1);
+    let most = if generator.once_in(10) {
+        MOST_WORDS
+    } else {
+        FORMER_WORDS
+    };
+    let length = generator.below(most + 1);
     let mut words = some_words(generator, length);
     // Around 128 a feature's number and the count become longer.
     if length > 3 && generator.once_in(2) {
         words[3..].fill(0);
+    }
+    written(both, generator, &words);
+}
+
+/// Words with features around 16,384 alone, and now and then so many before them that the count is
+/// about as large: there both become longer again.
+pub fn long_numbers(both: &mut Both, generator: &mut Generator) {
+    let mut words = vec![0; SHORT_WORDS + 2];
+    if generator.once_in(3) {
+        words[..SHORT_WORDS].fill(u64::MAX);
+        words[generator.below(SHORT_WORDS)] &= generator.word() | generator.word();
+    }
+    for feature in SHORT_WORDS * 64 - 3..SHORT_WORDS * 64 + 4 {
+        let kept = words[feature / 64] & !(1 << (feature % 64));
+        words[feature / 64] = kept | (generator.below(2) as u64) << (feature % 64);
     }
     written(both, generator, &words);
 }
@@ -69,7 +95,7 @@ pub fn limits(both: &mut Both, generator: &mut Generator) {
         words[MOST_WORDS..].fill(0);
     }
     if generator.once_in(3) {
-        let feature = generator.between(MOST_FEATURES - 3, 64 * length - 1);
+        let feature = generator.between(NOW.features - 3, 64 * length - 1);
         words[feature / 64] |= 1 << (feature % 64);
     }
     written(both, generator, &words);

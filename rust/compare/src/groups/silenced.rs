@@ -6,7 +6,7 @@ use crate::both::Both;
 use reference::calls::done;
 use reference::partial::silenced;
 use reference::sample::damage::damaged_file;
-use reference::sample::partials::{marks, PARTIAL_EDGES, PARTIAL_PAST_EDGES};
+use reference::sample::partials::{marks, FORMER_PARTIAL_EDGES, PARTIAL_EDGES, PARTIAL_PAST_EDGES};
 use reference::sample::tasks::{accepted_task, loose_task, operator};
 use reference::sample::Generator;
 use reference::task::{read_task, Task};
@@ -87,10 +87,10 @@ pub fn damaged(both: &mut Both, generator: &mut Generator) {
 
 /// Tasks whose built ones have about as many features as may be.
 pub fn limits(both: &mut Both, generator: &mut Generator) {
-    let sizes = if generator.once_in(2) {
-        generator.choose(&PARTIAL_EDGES)
-    } else {
-        generator.choose(&PARTIAL_PAST_EDGES)
+    let sizes = match generator.below(4) {
+        0 => generator.choose(&FORMER_PARTIAL_EDGES),
+        1 => generator.choose(&PARTIAL_EDGES),
+        _ => generator.choose(&PARTIAL_PAST_EDGES),
     };
     let task = accepted_task(generator, sizes, 3);
     let marks = if generator.once_in(4) {

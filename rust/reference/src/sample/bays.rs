@@ -1,16 +1,17 @@
 //! Random bays, and all lists of labels for small ones.
 
 use super::Generator;
-use crate::bay::{times, Bay, GAP, MOST_SIDE, MOST_SLOTS};
+use crate::bay::{times, Bay, GAP};
 use crate::feature_set::FeatureSet;
 use crate::features::{Atom, Features};
+use crate::limits::{LEAST_SLOTS, MOST_SIDE, NOW};
 
 /// All rows and columns that a bay may have.
 pub fn shapes() -> Vec<(usize, usize)> {
     let mut shapes = Vec::new();
     for rows in 1..=MOST_SIDE {
         for columns in 1..=MOST_SIDE {
-            if (2..=MOST_SLOTS).contains(&(rows * columns)) {
+            if (LEAST_SLOTS..=NOW.slots).contains(&(rows * columns)) {
                 shapes.push((rows, columns));
             }
         }
@@ -29,8 +30,9 @@ pub fn shapes_within(most: usize) -> Vec<(usize, usize)> {
 fn labels(generator: &mut Generator, slots: usize) -> Vec<usize> {
     let mut labels: Vec<usize> = (0..slots).collect();
     if !generator.once_in(3) {
-        // Few lots as often as many, so that some occur often and others never.
-        let few = generator.between(1, slots - 1);
+        // Few lots more often than many, so that some occur often and others never.
+        let many = generator.between(1, slots - 1);
+        let few = generator.between(1, many);
         let lots: Vec<usize> = (0..few).map(|_| generator.between(1, slots - 1)).collect();
         labels[1..].fill_with(|| generator.choose(&lots));
     }

@@ -1,10 +1,31 @@
 //! Damage to files: as bytes, and as lists of numbers before they are written.
 
 use super::Generator;
+use crate::limits::{BEFORE, LARGEST, NOW};
 use crate::numbers::encode;
 
 /// Numbers at the edges of the rules' limits.
-const EDGES: [usize; 12] = [0, 1, 2, 3, 9, 10, 63, 64, 65, 127, 128, 16_383];
+const EDGES: [usize; 19] = [
+    0,
+    1,
+    2,
+    3,
+    9,
+    10,
+    16,
+    17,
+    63,
+    64,
+    65,
+    127,
+    128,
+    BEFORE.features,
+    BEFORE.largest(),
+    BEFORE.largest() + 1,
+    NOW.features - 1,
+    NOW.features,
+    LARGEST,
+];
 
 fn damage_number(generator: &mut Generator, number: usize) -> usize {
     match generator.below(5) {
@@ -14,7 +35,7 @@ fn damage_number(generator: &mut Generator, number: usize) -> usize {
         3 => generator.below(8),
         _ => generator.below(300),
     }
-    .min(16_383)
+    .min(LARGEST)
 }
 
 /// Changes, repeats, drops or swaps some numbers; what follows may still be judged.
@@ -35,13 +56,20 @@ fn damage_numbers(generator: &mut Generator, numbers: &mut Vec<usize>) {
     }
 }
 
-/// A byte that starts a longer number than is due, or ends one badly.
-const FORMS: [&[u8]; 5] = [
+/// Bytes that start a longer number than is due, or end one badly, and the first and the last
+/// numbers of two bytes and of three.
+const FORMS: [&[u8]; 11] = [
     &[0x80],
     &[0x80, 0x00],
-    &[0x80, 0x80, 0x01],
+    &[0x80, 0x80],
+    &[0x80, 0x80, 0x00],
+    &[0x80, 0x80, 0x80],
+    &[0x80, 0x80, 0x80, 0x00],
+    &[0x80, 0x80, 0x80, 0x01],
     &[0x80, 0x01],
     &[0xFF, 0x7F],
+    &[0x80, 0x80, 0x01],
+    &[0xFF, 0xFF, 0x7F],
 ];
 
 fn damage_bytes(generator: &mut Generator, bytes: &mut Vec<u8>) {
@@ -60,7 +88,7 @@ fn damage_bytes(generator: &mut Generator, bytes: &mut Vec<u8>) {
             bytes[place] = generator.word() as u8;
         }
         4 if place < bytes.len() => {
-            // The same number with a needless second group.
+            // The same number with a needless group.
             bytes[place] |= 0x80;
             bytes.insert(place + 1, 0);
         }
@@ -72,15 +100,19 @@ fn damage_bytes(generator: &mut Generator, bytes: &mut Vec<u8>) {
     }
 }
 
-/// Bad forms of a number: with a needless group, with a group too many, cut behind its first.
-pub fn bad_forms(number: usize) -> [Vec<u8>; 4] {
-    let low = 0x80 | (number % 128) as u8;
-    let high = 0x80 | (number / 128) as u8;
+/// Bad forms of a number: with a needless second or third group, with a group too many, cut behind
+/// its first group or its second.
+pub fn bad_forms(number: usize) -> [Vec<u8>; 7] {
+    let group = |place: u32| 0x80 | (number >> (7 * place) & 0x7F) as u8;
+    let (low, middle, high) = (group(0), group(1), group(2));
     [
         vec![low, 0x00],
-        vec![low, high],
-        vec![low, high, 0x01],
+        vec![low, middle, 0x00],
+        vec![low, middle, high],
+        vec![low, middle, high, 0x00],
+        vec![low, middle, high, 0x01],
         vec![low],
+        vec![low, middle],
     ]
 }
 

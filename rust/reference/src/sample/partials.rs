@@ -4,20 +4,36 @@ use super::bays::bay;
 use super::tasks::{self, first_open_pairs, free_start, loose_task, Scale};
 use super::Generator;
 use crate::features::{count_features, Atom, Features};
+use crate::limits::MOST_VALUES;
 use crate::partial::{built_sizes, silenced, LeftOut, Partial};
-use crate::task::{Task, MOST_VALUES};
+use crate::task::Task;
 
-/// Sizes of partial files whose built tasks have 4,094, 4,095, 4,096 and 4,050 features.
-pub const PARTIAL_EDGES: [&[usize]; 4] = [&[63, 61], &[62, 62], &[35, 23, 51], &[1; 45]];
+/// Sizes of partial files whose built tasks are at the limit of before: 4,094 to 4,097 features,
+/// 4,050 and 4,232 by 45 and 46 variables, and more by 64.
+pub const FORMER_PARTIAL_EDGES: [&[usize]; 8] = [
+    &[63, 61],
+    &[62, 62],
+    &[35, 23, 51],
+    &[37, 53, 20],
+    &[63, 62],
+    &[1; 45],
+    &[1; 46],
+    &[1; 64],
+];
 
-/// Sizes of good tasks whose built tasks break a limit: a size of 65, or 4,097 features and more.
+/// Sizes of partial files whose built tasks have 32,767 and 32,768 features, and nearly so many by
+/// 64 variables.
+pub const PARTIAL_EDGES: [&[usize]; 3] = [&[38, 54, 63, 63, 63], &[62, 58, 37, 62, 62], &[3; 64]];
+
+/// Sizes of good tasks whose built tasks break a limit: a size of 65, or 32,769 features and more,
+/// a bay of sixteen among them.
 pub const PARTIAL_PAST_EDGES: [&[usize]; 6] = [
     &[64],
     &[1, 64],
-    &[37, 53, 20],
-    &[63, 62],
-    &[1; 46],
-    &[1; 64],
+    &[63, 37, 62, 59, 60],
+    &[63, 63, 63, 63, 30],
+    &[4; 64],
+    &[16; 16],
 ];
 
 /// Sizes whose built task keeps a scale.
@@ -123,7 +139,7 @@ pub fn silent_marks(generator: &mut Generator, slots: usize, silent: usize) -> V
 pub fn silenced_bay(generator: &mut Generator, shape: (usize, usize), silent: usize) -> Partial {
     let task = bay(generator, shape).task();
     let marks = silent_marks(generator, task.sizes.len(), silent);
-    silenced(&task, &marks).expect("bays keep the limits")
+    silenced(&task, &marks).expect("bays of up to fifteen slots keep the limits")
 }
 
 /// A task that silencing turns into a partial file: silent variables get their first value as goal.

@@ -4,6 +4,7 @@ use super::Generator;
 use crate::feature_set::FeatureSet;
 use crate::features::{count_features, Atom, Features, State};
 use crate::forced::{generators, Generators};
+use crate::limits::{BEFORE, MOST_VALUES, MOST_VARIABLES, NOW};
 use crate::operators::{conditions, Entry, Operator, Pairing};
 use crate::separation::keeps_by_changes;
 use crate::task::Task;
@@ -49,12 +50,18 @@ pub const WIDE: Scale = Scale {
     most_operators: 8,
 };
 
-/// Up to the limit of features.
+/// Up to the limit of features that was there before bays of sixteen.
 pub const LARGE: Scale = Scale {
-    most_features: 4_096,
-    most_variables: 64,
-    most_values: 64,
+    most_features: BEFORE.features,
+    most_variables: MOST_VARIABLES,
+    most_values: MOST_VALUES,
     most_operators: 12,
+};
+
+/// Up to the limit of features.
+pub const HUGE: Scale = Scale {
+    most_features: NOW.features,
+    ..LARGE
 };
 
 /// Sizes whose numbers of features lie at the edges of words: 63, 64, 65, 127, 128, 129.
@@ -78,18 +85,47 @@ pub const PROGRAM_EDGES: [&[usize]; 5] = [
     &[18, 22, 5],
 ];
 
-/// Sizes at the library's limit: 4,095 and 4,096 features, and those that document 01 names.
-pub const LIBRARY_EDGES: [&[usize]; 6] = [
+/// Sizes at the limit of before: 4,095 to 4,097 features, and those that document 01 names.
+pub const FORMER_EDGES: [&[usize]; 9] = [
     &[63, 63],
     &[36, 24, 52],
     &[19, 20, 11, 12, 8, 2, 11, 14],
     &[1, 21, 56, 35],
+    &[38, 54, 21],
+    &[33, 24, 18, 29],
     &[64, 62],
+    &[64, 63],
     &[1; 64],
 ];
 
-/// Sizes just past the library's limit: 4,097 and 4,159 features, and far more.
-pub const PAST_EDGES: [&[usize]; 4] = [&[38, 54, 21], &[33, 24, 18, 29], &[64, 63], &[64; 64]];
+/// Sizes whose last features are written in two bytes or in three: 16,383 to 16,386 features.
+pub const NUMBER_EDGES: [&[usize]; 4] = [
+    &[21, 63, 64, 64],
+    &[48, 48, 52, 60],
+    &[64, 37, 58, 50],
+    &[39, 63, 46, 61],
+];
+
+/// Sizes at the library's limit: 32,767 and 32,768 features, and the most of 64 variables of one
+/// size.
+pub const LIBRARY_EDGES: [&[usize]; 5] = [
+    &[39, 55, 64, 64, 64],
+    &[63, 59, 38, 63, 63],
+    &[21, 24, 26, 33, 37, 40, 44, 49],
+    &[
+        15, 6, 10, 8, 15, 5, 14, 11, 12, 6, 15, 11, 8, 14, 7, 15, 10, 12, 6, 15, 8, 14, 11, 13,
+    ],
+    &[4; 64],
+];
+
+/// Sizes past the library's limit: 32,769 features, more by the least size, and far more.
+pub const PAST_EDGES: [&[usize]; 5] = [
+    &[64, 38, 63, 60, 61],
+    &[45, 28, 37, 31, 34, 28, 37, 33],
+    &[64, 64, 64, 64, 31],
+    &[5; 64],
+    &[64; 64],
+];
 
 pub fn sizes(generator: &mut Generator, scale: Scale) -> Vec<usize> {
     loop {
@@ -332,13 +368,9 @@ pub fn task_generators(task: &Task) -> Generators {
 pub fn meeting_weights(generator: &mut Generator, task: &Task) -> FeatureSet {
     let count = count_features(&task.sizes);
     let meeting = task_generators(task);
-    let mut weights = FeatureSet::empty(count);
-    for number in (0..count).filter(|number| meeting.live(*number)) {
-        if generator.once_in(2) {
-            weights.combine(&meeting.list(number));
-        }
-    }
-    weights
+    let live = (0..count).filter(|number| meeting.live(*number));
+    let chosen: Vec<usize> = live.filter(|_| generator.once_in(2)).collect();
+    meeting.combined(&FeatureSet::of(count, &chosen))
 }
 
 /// Any list, listed pairs among its members.

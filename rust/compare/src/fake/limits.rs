@@ -1,0 +1,116 @@
+//! Files read by limits that haven't moved, or that have moved too far.
+
+use super::faults::{planted_fault, Fault};
+use reference::feature_set::FeatureSet;
+use reference::features::count_features;
+use reference::limits::{Limits, BEFORE, NOW};
+use reference::numbers::Reader;
+use reference::places::{self, File};
+use reference::task::{task_from, Task};
+use reference::weights::weights_from;
+
+/// What is read, and by which calls.
+#[derive(Clone, Copy, Debug, PartialEq, Eq)]
+pub enum Files {
+    /// Task files to check and to open.
+    Tasks,
+    /// Weight files to check.
+    Weights,
+    Bays,
+    Partials,
+    /// Task files to silence.
+    Silenced,
+    /// Task files to mend.
+    Mended,
+    /// Task and weight files whose lines are printed.
+    Printed,
+    /// Task and weight files of which a part is shown.
+    Shown,
+    ShownPartials,
+    ShownBays,
+}
+
+/// A limit that isn't the rules'.
+#[derive(Clone, Copy, Debug, PartialEq, Eq)]
+pub enum Bound {
+    TwoGroups,
+    FourGroups,
+    FeaturesAsBefore,
+    OneFeatureLess,
+    OneFeatureMore,
+    SlotsAsBefore,
+    FifteenSlots,
+    EighteenSlots,
+}
+
+use Bound::*;
+use Files::*;
+
+const OF_NUMBERS: &[Bound] = &[TwoGroups, FourGroups];
+
+const OF_FEATURES: &[Bound] = &[
+    TwoGroups,
+    FourGroups,
+    FeaturesAsBefore,
+    OneFeatureLess,
+    OneFeatureMore,
+];
+
+const OF_SLOTS: &[Bound] = &[
+    TwoGroups,
+    FourGroups,
+    SlotsAsBefore,
+    FifteenSlots,
+    EighteenSlots,
+];
+
+/// The limits that decide about what is read.
+pub const BOUNDS: [(Files, &[Bound]); 10] = [
+    (Tasks, OF_FEATURES),
+    (Weights, OF_NUMBERS),
+    (Bays, OF_SLOTS),
+    (Partials, OF_FEATURES),
+    (Silenced, OF_FEATURES),
+    (Mended, OF_FEATURES),
+    (Printed, OF_FEATURES),
+    (Shown, OF_FEATURES),
+    (ShownPartials, OF_FEATURES),
+    (ShownBays, OF_SLOTS),
+];
+
+impl Bound {
+    fn limits(self) -> Limits {
+        let mut limits = NOW;
+        match self {
+            TwoGroups => limits.groups = 2,
+            FourGroups => limits.groups = 4,
+            FeaturesAsBefore => limits.features = BEFORE.features,
+            OneFeatureLess => limits.features -= 1,
+            OneFeatureMore => limits.features += 1,
+            SlotsAsBefore => limits.slots = BEFORE.slots,
+            FifteenSlots => limits.slots = 15,
+            EighteenSlots => limits.slots = 18,
+        }
+        limits
+    }
+}
+
+/// Reads some files by the planted limit.
+pub fn reader(files: Files, bytes: &[u8]) -> Reader<'_> {
+    match planted_fault() {
+        Fault::By(planted, bound) if planted == files => Reader::within(bound.limits(), bytes),
+        _ => Reader::new(bytes),
+    }
+}
+
+/// A task and weights for it, each read by the limit that is planted for it.
+pub fn read_both(
+    [(of_task, task), (of_weights, weights)]: [(Files, &[u8]); 2],
+) -> Result<(Task, FeatureSet), places::Fault> {
+    let task = places::read(File::Task, reader(of_task, task), task_from)?;
+    let count = count_features(&task.sizes);
+    let weights = places::read(File::Weights, reader(of_weights, weights), |reader| {
+        weights_from(reader, count)
+    })?;
+    Ok((task, weights))
+}

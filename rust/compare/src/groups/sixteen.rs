@@ -1,0 +1,121 @@
+//! Bays of ten to sixteen slots: built, judged, mended and silenced; few of them opened.
+
+use super::bays::whole_way;
+use super::{ample_room, byte_room, check_line, mended, room};
+use crate::both::Both;
+use reference::bay::Bay;
+use reference::feature_set::words_for;
+use reference::features::count_features;
+use reference::partial::{built_sizes, LeftOut};
+use reference::sample::bays::{bay, order_weights, shapes};
+use reference::sample::handmade::handmade_bay;
+use reference::sample::partials::{marks, silenced_bay};
+use reference::sample::tasks::loose_weights;
+use reference::sample::Generator;
+use reference::weights::weight_file;
+use reference::workspace::words_due;
+use std::ops::RangeInclusive;
+
+/// A shape of so many slots.
+fn shape(generator: &mut Generator, slots: RangeInclusive<usize>) -> (usize, usize) {
+    let mut shapes = shapes();
+    shapes.retain(|(rows, columns)| slots.contains(&(rows * columns)));
+    generator.choose(&shapes)
+}
+
+/// The bay's task, written in exactly the bytes due and in other room.
+fn build(both: &mut Both, generator: &mut Generator, bay: &Bay) -> Vec<u8> {
+    let due = bay.task().file().len();
+    let room = byte_room(generator, due);
+    both.build(&bay.file(), &room);
+    let room = generator.bytes(due);
+    both.build(&bay.file(), &room).memory
+}
+
+/// Weights that moves keep where no two labels are alike, nearly those, and any others.
+fn check(both: &mut Both, generator: &mut Generator, bay: &Bay, task: &[u8]) {
+    let mut weights = order_weights(bay);
+    both.check(task, &weight_file(&weights));
+    let count = count_features(&bay.task().sizes);
+    weights.toggle(generator.below(count));
+    check_line(both, generator, task, &weight_file(&weights));
+    let weights = loose_weights(generator, count);
+    both.check(task, &weight_file(&weights));
+}
+
+/// Bays from their files to what is said of weights.
+pub fn judged(both: &mut Both, generator: &mut Generator) {
+    let shape = shape(generator, 10..=16);
+    let bay = bay(generator, shape);
+    let task = build(both, generator, &bay);
+    check(both, generator, &bay, &task);
+    let words = room(generator, 2);
+    both.display(&task, &[1, 0], &words);
+    both.display_bay(&bay.file(), &words);
+}
+
+/// A bay's pairs, nearly those, or every pair.
+pub fn lists(both: &mut Both, generator: &mut Generator) {
+    let shape = shape(generator, 10..=16);
+    let task = handmade_bay(generator, shape);
+    mended::every_call(both, generator, &task);
+}
+
+/// Orders that name some slots; sixteen are too many for "unknown".
+pub fn silenced(both: &mut Both, generator: &mut Generator) {
+    let shape = shape(generator, 10..=16);
+    let bay = bay(generator, shape);
+    let marks = marks(generator, bay.slots());
+    let task = bay.task().file();
+    let room = generator.bytes(task.len() + bay.slots());
+    let written = both.silence(&task, &marks, &room);
+    let partial = &written.memory[..written.number.min(room.len() as u64) as usize];
+    let due = 2 * task.len();
+    let room = generator.bytes(due);
+    both.build_partial(partial, &room);
+    both.build_partial_lean(partial, &room);
+    let weights = loose_weights(generator, count_features(&built_sizes(&bay.task().sizes)));
+    both.check_partial(partial, &weight_file(&weights));
+    both.display_partial(partial, &weight_file(&weights), &[7; 2]);
+}
+
+/// Orders of ten slots, opened by the letter and searched.
+pub fn silenced_openings(both: &mut Both, generator: &mut Generator) {
+    let shape = shape(generator, 10..=10);
+    let silent = generator.between(1, 3);
+    let partial = silenced_bay(generator, shape, silent);
+    let sizes = partial.built(LeftOut::ByLetter).sizes;
+    let room = ample_room(generator, words_due(&sizes));
+    let words = both.open_partial(&partial.file(), &room).memory;
+    let room = ample_room(generator, words_for(count_features(&sizes)));
+    both.find(&words, &room);
+}
+
+/// Bays of ten to twelve slots the whole way.
+pub fn twelve(both: &mut Both, generator: &mut Generator) {
+    let shape = shape(generator, 10..=12);
+    let bay = bay(generator, shape);
+    whole_way(both, generator, &bay);
+}
+
+/// A bay of fourteen or fifteen slots the whole way.
+pub fn fifteen(both: &mut Both, generator: &mut Generator) {
+    let shape = shape(generator, 14..=15);
+    let bay = bay(generator, shape);
+    whole_way(both, generator, &bay);
+}
+
+/// Four by four the whole way, all labels different.
+pub fn four_by_four(both: &mut Both, generator: &mut Generator) {
+    let mut labels: Vec<usize> = (0..16).collect();
+    generator.shuffle(&mut labels);
+    let start = labels.clone();
+    generator.shuffle(&mut labels);
+    let bay = Bay {
+        rows: 4,
+        columns: 4,
+        start,
+        goal: labels,
+    };
+    whole_way(both, generator, &bay);
+}

@@ -37,8 +37,8 @@ impl Checked {
     }
 }
 
-/// More words than a workspace has in front of its slots.
-const MORE_THAN_HEADER: usize = 300;
+/// As many words as a workspace has in front of its slots at most.
+const MOST_HEADER: usize = 705;
 
 /// Words that no call leaves by chance.
 fn room(words: usize) -> Vec<u64> {
@@ -60,7 +60,7 @@ pub fn check(case: &Case) -> Result<Checked, String> {
     checked.separates = separated(&checked)?;
     let filled = checked.filled_slots();
     checked.filled = filled.len() / checked.width();
-    check_ways(&checked, &filled)?;
+    check_ways(&checked, &filled, case.is_long())?;
     Ok(checked)
 }
 
@@ -86,7 +86,7 @@ fn agreed(
 }
 
 fn opened(file: &[u8], features: usize) -> Result<Vec<u64>, String> {
-    let words = MORE_THAN_HEADER + features * features.div_ceil(WORD_BITS);
+    let words = MOST_HEADER + features * features.div_ceil(WORD_BITS);
     let (answer, mut room) = agreed("open", words, |calls, room| (calls.open)(file, room))?;
     room.truncate(answer::value(answer).ok_or("the opening is refused")?);
     Ok(room)
@@ -101,13 +101,16 @@ fn separated(checked: &Checked) -> Result<bool, String> {
     Ok(answer == 0)
 }
 
-/// Each way of libm4ri has to lead to the slots that are not empty.
-fn check_ways(checked: &Checked, filled: &[u64]) -> Result<(), String> {
+/// Each way of libm4ri has to lead to the slots that are not empty; where that takes long, the one that is measured.
+fn check_ways(checked: &Checked, filled: &[u64], is_long: bool) -> Result<(), String> {
     let mut echelon = Echelon::new(&checked.rows, checked.features);
-    for (way, name) in m4ri::WAYS.iter().enumerate() {
+    for way in m4ri::checked_ways(is_long) {
         echelon.timed_reduction(way);
         if echelon.words() != filled {
-            return Err(format!("{name} is another form than the slots"));
+            return Err(format!(
+                "{} is another form than the slots",
+                m4ri::WAYS[way]
+            ));
         }
     }
     Ok(())

@@ -14,6 +14,18 @@ extern "C" {
         room: *mut u64,
         room_length: usize,
     ) -> u64;
+    fn florumeja_check(
+        task: *const u8,
+        task_length: usize,
+        weights: *const u8,
+        weights_length: usize,
+    ) -> u64;
+    fn florumeja_weight_file(
+        words: *const u64,
+        words_length: usize,
+        room: *mut u8,
+        room_length: usize,
+    ) -> u64;
     fn florumeja_build(bay: *const u8, bay_length: usize, room: *mut u8, room_length: usize)
         -> u64;
     fn florumeja_silence(
@@ -65,6 +77,16 @@ pub fn find(workspace: &[u64], room: &mut [u64]) -> u64 {
             room.len(),
         )
     }
+}
+
+pub fn check(task: &[u8], weights: &[u8]) -> u64 {
+    // SAFETY: both slices are alive, and nothing is lent for writing.
+    unsafe { florumeja_check(task.as_ptr(), task.len(), weights.as_ptr(), weights.len()) }
+}
+
+pub fn weight_file(words: &[u64], room: &mut [u8]) -> u64 {
+    // SAFETY: both slices are alive and apart; only the room is lent for writing.
+    unsafe { florumeja_weight_file(words.as_ptr(), words.len(), room.as_mut_ptr(), room.len()) }
 }
 
 pub fn build(bay: &[u8], room: &mut [u8]) -> u64 {

@@ -3,6 +3,7 @@
 use crate::measure;
 use crate::plain::WORD_BITS;
 use std::ffi::{c_int, c_void};
+use std::ops::Range;
 use std::time::Duration;
 
 extern "C" {
@@ -15,6 +16,15 @@ extern "C" {
 
 /// libm4ri's ways to the same form: its own choice, the four Russians, and a decomposition.
 pub const WAYS: [&str; 3] = ["echelonize", "echelonize_m4ri", "echelonize_pluq"];
+
+/// The ways that are held against the slots: where one takes long the four Russians alone.
+pub fn checked_ways(is_long: bool) -> Range<usize> {
+    if is_long {
+        1..2
+    } else {
+        0..WAYS.len()
+    }
+}
 
 /// Rows that are brought to their reduced echelon form.
 pub struct Echelon {

@@ -12,13 +12,14 @@ mod measure;
 mod mending;
 mod orders;
 mod plain;
+mod share;
 mod stack;
 mod table;
 mod tasks;
 
 use check::Checked;
 use m4ri::Echelon;
-use measure::{in_turn, timed_warm, Contestant, FIGURE, TRIAL};
+use measure::{in_turn, timed_warm, Contestant, Plan, FIGURE, LONG, TRIAL};
 use std::process::ExitCode;
 use table::Line;
 use tasks::Case;
@@ -31,13 +32,30 @@ fn measure_opening(case: &Case, checked: &Checked) -> Line {
             contestant(move || (calls.open)(&case.file, &mut room))
         })
         .into();
-    let way = fastest_way(checked);
+    let way = way_of(case, checked);
     contestants.extend(way.map(|way| reduction(checked, way)));
-    let times = in_turn(&FIGURE, contestants);
+    let times = in_turn(plan_of(case), contestants);
     let line = Line::new(case, "open", checked, &times);
     match way {
         Some(way) => line.with_echelon(m4ri::WAYS[way], &times[calls::ALL.len()], &times[0]),
         None => line,
+    }
+}
+
+fn plan_of(case: &Case) -> &'static Plan {
+    if case.is_long() {
+        &LONG
+    } else {
+        &FIGURE
+    }
+}
+
+/// libm4ri's way that is measured: the fastest; of a long case the one that is checked, which was the fastest of all other cases.
+fn way_of(case: &Case, checked: &Checked) -> Option<usize> {
+    if case.is_long() {
+        m4ri::checked_ways(true).next()
+    } else {
+        fastest_way(checked)
     }
 }
 
@@ -107,9 +125,11 @@ fn run(wanted: &str) -> Result<(), String> {
             lines.extend(measure(&case).map_err(|fault| format!("{}: {fault}", case.name))?);
         }
     }
+    let shares = share::measure(wanted)?;
     let order = orders::measure(wanted)?;
     let mended = mending::measure(wanted)?;
     table::print(&lines);
+    share::print(&shares);
     if let Some(order) = &order {
         orders::print(order);
     }

@@ -11,6 +11,8 @@ pub struct Plan {
     least_rounds: usize,
     most_rounds: usize,
     budget: Duration,
+    /// A contestant that is done sooner runs more than once in its turn.
+    least_turn: Duration,
 }
 
 /// Enough for a figure in the table.
@@ -18,6 +20,15 @@ pub const FIGURE: Plan = Plan {
     least_rounds: 15,
     most_rounds: 301,
     budget: Duration::from_secs(4),
+    least_turn: TURN,
+};
+
+/// Enough for a figure of a call that takes seconds.
+pub const LONG: Plan = Plan {
+    least_rounds: 3,
+    most_rounds: 3,
+    budget: Duration::ZERO,
+    least_turn: Duration::ZERO,
 };
 
 /// Enough to see which of several ways is the fastest.
@@ -25,10 +36,11 @@ pub const TRIAL: Plan = Plan {
     least_rounds: 3,
     most_rounds: 31,
     budget: Duration::from_secs(2),
+    least_turn: TURN,
 };
 
-/// A contestant that is done sooner runs more than once in its turn.
-const LEAST_TURN: Duration = Duration::from_millis(1);
+/// Long enough for the clock.
+const TURN: Duration = Duration::from_millis(1);
 
 /// Seconds of one run, for each round.
 pub struct Times {
@@ -76,7 +88,10 @@ pub fn timed_warm<A>(repeats: u32, mut call: impl FnMut() -> A) -> Duration {
 
 /// The times of each contestant; each has its turn in every round.
 pub fn in_turn(plan: &Plan, mut contestants: Vec<Contestant>) -> Vec<Times> {
-    let repeats: Vec<u32> = contestants.iter_mut().map(repeats_of).collect();
+    let repeats: Vec<u32> = contestants
+        .iter_mut()
+        .map(|contestant| repeats_of(plan, contestant))
+        .collect();
     let mut all: Vec<Times> = repeats.iter().map(|_| Times { seconds: vec![] }).collect();
     let begun = Instant::now();
     for round in 0..plan.most_rounds {
@@ -91,8 +106,11 @@ pub fn in_turn(plan: &Plan, mut contestants: Vec<Contestant>) -> Vec<Times> {
     all
 }
 
-/// How many runs make a turn.
-fn repeats_of(contestant: &mut Contestant) -> u32 {
+/// How many runs make a turn; where any turn is long enough none is tried.
+fn repeats_of(plan: &Plan, contestant: &mut Contestant) -> u32 {
+    if plan.least_turn.is_zero() {
+        return 1;
+    }
     let run = contestant(1).max(Duration::from_nanos(100));
-    LEAST_TURN.as_nanos().div_ceil(run.as_nanos()) as u32
+    plan.least_turn.as_nanos().div_ceil(run.as_nanos()) as u32
 }

@@ -1,8 +1,13 @@
 //! Stands in where libm4ri is not installed: it has no way to measure.
 
+use std::ops::Range;
 use std::time::Duration;
 
 pub const WAYS: [&str; 0] = [];
+
+pub fn checked_ways(_is_long: bool) -> Range<usize> {
+    0..0
+}
 
 pub struct Echelon;
 

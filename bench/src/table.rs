@@ -2,12 +2,15 @@
 
 use crate::check::Checked;
 use crate::measure::Times;
-use crate::tasks::Case;
+use crate::tasks::{Case, Target};
 
 /// The library takes at most so many times as long as the plain Rust.
 const PLAIN_TARGET: f64 = 1.5;
 
-/// The library opens the large bay at least so many times faster than libm4ri reduces its rows.
+/// The library opens the bay of sixteen slots in at most so many times as long as the plain Rust.
+const SIXTEEN_TARGET: f64 = 1.3;
+
+/// The library opens the bay of nine slots at least so many times faster than libm4ri reduces its rows.
 const ECHELON_TARGET: f64 = 3.0;
 
 /// One line of the table: a case and a call, with seconds and ratios.
@@ -19,7 +22,7 @@ pub struct Line {
     plain: Plain,
     tables: Plain,
     echelon: Option<Echelon>,
-    is_target: bool,
+    target: Target,
 }
 
 /// One variant of the plain Rust.
@@ -55,7 +58,7 @@ impl Line {
             plain: Plain::new(&times[1], &times[0]),
             tables: Plain::new(&times[2], &times[0]),
             echelon: None,
-            is_target: case.is_large_bay,
+            target: case.target,
         }
     }
 
@@ -103,6 +106,7 @@ pub fn print(lines: &[Line]) {
     }
     println!();
     print_plain_target(lines);
+    print_sixteen_target(lines);
     print_tables(lines);
     print_echelon_target(lines);
 }
@@ -155,6 +159,20 @@ fn print_plain_target(lines: &[Line]) {
     }
 }
 
+fn print_sixteen_target(lines: &[Line]) {
+    let opening = lines
+        .iter()
+        .find(|line| line.target == Target::Sixteen && line.call == "open");
+    if let Some(line) = opening {
+        let ratio = line.plain.under_library;
+        println!(
+            "target {SIXTEEN_TARGET} (library over plain Rust, opening the {}, at most): {}; it is {ratio:.2}",
+            line.case,
+            verdict(ratio <= SIXTEEN_TARGET),
+        );
+    }
+}
+
 fn print_tables(lines: &[Line]) {
     if let Some((ratio, place)) = largest(lines, |line| &line.tables) {
         println!("beside tables that are kept for the whole call: at most {ratio:.2}, {place}");
@@ -164,7 +182,7 @@ fn print_tables(lines: &[Line]) {
 fn print_echelon_target(lines: &[Line]) {
     let measured = lines
         .iter()
-        .filter(|line| line.is_target)
+        .filter(|line| line.target == Target::Nine)
         .find_map(|line| line.echelon.as_ref());
     match measured {
         Some(echelon) => println!(

@@ -3,7 +3,7 @@
 use super::numbering::Numbering;
 use super::set::WORD_BITS;
 
-pub const MOST_FEATURES: usize = 4096;
+pub const MOST_FEATURES: usize = 32768;
 
 /// A variable with one of its values.
 #[derive(Clone, Copy)]

@@ -18,6 +18,8 @@ pub enum Refusal {
 
 const GROUP: usize = 128;
 
+const MOST_GROUPS: u32 = 3;
+
 #[derive(Clone, Copy)]
 pub struct Reader<'a> {
     bytes: &'a [u8],
@@ -39,17 +41,18 @@ impl<'a> Reader<'a> {
         Ok(byte as usize)
     }
 
-    /// A number of at most two groups, in its shortest form.
+    /// A number of a few groups, in its shortest form.
     pub fn number(&mut self) -> Result<usize, Refusal> {
-        let low = self.byte()?;
-        if low < GROUP {
-            return Ok(low);
+        let mut number = 0;
+        for place in 0..MOST_GROUPS {
+            let byte = self.byte()?;
+            number += byte % GROUP * GROUP.pow(place);
+            if byte < GROUP {
+                let is_shortest = byte != 0 || place == 0;
+                return is_shortest.then_some(number).ok_or(Refusal::Form);
+            }
         }
-        let high = self.byte()?;
-        if high == 0 || high >= GROUP {
-            return Err(Refusal::Form);
-        }
-        Ok(low % GROUP + GROUP * high)
+        Err(Refusal::Form)
     }
 
     /// A number that has to be in a range.
@@ -93,11 +96,14 @@ pub fn write_numbers(file: &mut Vec<u8>, numbers: &[usize]) {
 }
 
 pub fn write_number(file: &mut Vec<u8>, number: usize) {
-    assert!(number < GROUP * GROUP, "{number} has more than two groups");
-    if number < GROUP {
-        file.push(number as u8);
-    } else {
-        file.push((GROUP + number % GROUP) as u8);
-        file.push((number / GROUP) as u8);
+    assert!(
+        number < GROUP.pow(MOST_GROUPS),
+        "{number} has more groups than a number may have"
+    );
+    let mut left = number;
+    while left >= GROUP {
+        file.push((GROUP + left % GROUP) as u8);
+        left /= GROUP;
     }
+    file.push(left as u8);
 }

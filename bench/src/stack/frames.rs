@@ -11,7 +11,7 @@ const ADDRESS: usize = 8;
 
 /// The functions that call themselves, with how many of their frames there are at most: one for each group of a number and one more that finds
 /// none left; one for each decimal digit of a word.
-const NESTED: [(&str, usize); 2] = [("number::groups_at", 3), ("decimal::put_word", 20)];
+const NESTED: [(&str, usize); 2] = [("number::groups_at", 4), ("decimal::put_word", 20)];
 
 /// A compiled function. Its own return address counts as a part of its frame.
 #[derive(Default)]

@@ -10,10 +10,10 @@ pub struct Chain {
     pub mended: Vec<u8>,
 }
 
-/// As many operators as a file can count.
+/// As many operators as two bytes can count.
 const MOST_OPERATORS: usize = 16_383;
 
-/// The sizes of two variables, near the limit of 4,096 features.
+/// The sizes of two variables, near 4,096 features.
 const ROWS: usize = 64;
 const COLUMNS: usize = 62;
 

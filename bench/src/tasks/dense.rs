@@ -1,8 +1,8 @@
-//! Random tasks near the limit of 4,096 features. No operator names the last value of the last variable, and the goal has it: so weights separate.
+//! Random tasks near 4,096 features. No operator names the last value of the last variable, and the goal has it: so weights separate.
 
 use super::random::Random;
 use super::write::{Entry, Parts};
-use super::Case;
+use super::{Case, Target};
 
 pub fn cases() -> Vec<Case> {
     vec![
@@ -20,7 +20,7 @@ fn case(name: &str, parts: Parts) -> Case {
     Case {
         name: format!("dense, {name}"),
         file: parts.file(),
-        is_large_bay: false,
+        target: Target::None,
     }
 }
 

@@ -1,0 +1,73 @@
+//! How much of an opening is spent on reading, closedness and rows: checking the weights that are found takes all three, and no slot.
+
+use crate::measure::{once, timed_warm};
+use crate::table::{shown, verdict};
+use crate::tasks::bays::task_file;
+use crate::{answer, library};
+
+const NAME: &str = "bay 4 by 4";
+
+/// They take at most this part of the opening.
+const TARGET: f64 = 0.1;
+
+/// How often the check runs.
+const REPEATS: u32 = 15;
+
+/// Room for the workspace, for an answer in words, and for a weight file.
+const WORKSPACE_WORDS: usize = 14_992_917;
+const ANSWER_WORDS: usize = 484;
+const WEIGHT_BYTES: usize = 131_072;
+
+/// Seconds of both calls.
+pub struct Share {
+    opening: f64,
+    checking: f64,
+}
+
+/// Measures it if its name contains the words that are wanted.
+pub fn measure(wanted: &str) -> Result<Option<Share>, String> {
+    if !NAME.contains(wanted) {
+        return Ok(None);
+    }
+    eprintln!("{NAME}, checking ..");
+    let task = task_file(4, 4);
+    let mut workspace = vec![0; WORKSPACE_WORDS];
+    library::open(&task, &mut workspace);
+    let (opened, opening) = once(|| library::open(&task, &mut workspace));
+    answer::value(opened).ok_or(format!("{NAME}: the opening is refused"))?;
+    let weights = weights_of(&workspace)?;
+    if library::check(&task, &weights) != 0 {
+        return Err(format!(
+            "{NAME}: the weights that are found are not accepted"
+        ));
+    }
+    let checking = timed_warm(REPEATS, || library::check(&task, &weights)).as_secs_f64();
+    Ok(Some(Share {
+        opening,
+        checking: checking / f64::from(REPEATS),
+    }))
+}
+
+/// The weight file of what is found.
+fn weights_of(workspace: &[u64]) -> Result<Vec<u8>, String> {
+    let mut words = vec![0; ANSWER_WORDS];
+    if library::find(workspace, &mut words) != 0 {
+        return Err(format!("{NAME}: no weights are found"));
+    }
+    let mut file = vec![0; WEIGHT_BYTES];
+    let length = answer::value(library::weight_file(&words, &mut file));
+    file.truncate(length.ok_or(format!("{NAME}: the weights cannot be written"))?);
+    Ok(file)
+}
+
+pub fn print(share: &Option<Share>) {
+    if let Some(share) = share {
+        let part = share.checking / share.opening;
+        println!(
+            "target {TARGET} (reading, closedness and rows of the {NAME}, by checking its weights, over opening it, at most): {}; it is {part:.3}, {} and {}",
+            verdict(part <= TARGET),
+            shown(share.checking),
+            shown(share.opening),
+        );
+    }
+}

@@ -1,15 +1,18 @@
 -- Small facts that pin down the limits (document 02, ticket 6): how far numbers, N and the slots of a bay go. Nothing else builds on them.
-use Prim.Native.Nat.{suc}
+use Prim.Native.Nat.{ℕ, suc, _<_}
 use mathlib.Core.Path.{_≡_, refl}
 use mathlib.Core.Bool.{true, false}
-use mathlib.Core.List.{[], _∷_}
+use mathlib.Core.List.{List, [], _∷_}
 use lib.Dec.{leb}
-use Rattle.meaning.specs.Limits.{leastSize, mostSize, mostFeatures, leastSlots, mostSlots, numberEnd}
+use lib.ListN.{length}
+use borrow.Author.Tests.{lt-ltb}
+use Rattle.meaning.specs.Limits.{leastSize, mostSize, mostFeatures, leastSlots, mostSlots, numberEnd, mostTask, mostWeights}
 use Rattle.meaning.specs.Feature.{sumOf, pairsOf, atoms, features}
 use Rattle.meaning.specs.Number.{Endless, Limit, got, fault, groups, number, numbersOn}
 use Rattle.meaning.specs.File.{inside, item, itemsOf, sizeList, header, limited}
 use Rattle.meaning.specs.Bay.{baySizes, side, sidesOf}
 use Rattle.meaning.specs.Partial.{builtSizes}
+use Rattle.meaning.specs.Line.{tooLong}
 use Rattle.meaning.specs.Before.{asBefore, numberBy, numbersOnBy, itemBy, itemsBy, limitedBy, sizeListBy, headerBy, sidesBy}
 
 -- "Numbers take up to three groups, to 2,097,151".
@@ -53,3 +56,7 @@ n-before = (refl, refl, refl)
 nine-slots-before : (sidesBy asBefore (3 ∷ 3 ∷ []) 0 ≡ got (3, 3) 2) × (sidesBy asBefore (2 ∷ 5 ∷ []) 0 ≡ fault Limit 1) × (sidesOf (2 ∷ 5 ∷ []) 0 ≡ got (2, 5) 2)
 unfolding sidesBy limitedBy itemBy numberBy numbersOnBy sidesOf limited item number numbersOn groups
 nine-slots-before = (refl, refl, refl)
+
+-- The checker program: either file may be too long beside an empty one.
+too-long : (file : List ℕ) → (mostTask < length file → tooLong file [] ≡ true) × (mostWeights < length file → tooLong [] file ≡ true)
+too-long file = (λ h. rw (lt-ltb mostTask (length file) h) refl, λ h. rw (lt-ltb mostWeights (length file) h) refl)

@@ -20,12 +20,12 @@
  * Nothing is kept between calls and nothing is allocated. The most stack that a call can take, in bytes, whatever its input, as bench/stack reads it from
  * the compiled archive (measured, not proved; what memcpy and memset of the C library take comes on top):
  *
- *   line             73536      build_partial, build_partial_lean   13744      check              11488      replace_start   960
- *   open_partial     16816      check_partial                       13584      add_operator        9432      replace_goal    912
- *   pair_fault       15632      mend, dropped                       11968      find                1568      display_bay     672
- *   open             14592      silence                             11904      build               1424      weight_file      64
- *   check_line       14224      display                             11872
- *   display_partial  14128
+ *   line             80344      build_partial, build_partial_lean   20992      add_operator       16600      replace_start  4544
+ *   check_line       33048      mend, dropped                       20736      silence            15568      replace_goal   4496
+ *   display_partial  24976      pair_fault                          19296      find                8736      display_bay     864
+ *   open_partial     24064      display                             19136      build               5440      weight_file      64
+ *   check            23144      open                                19096
+ *   check_partial    23048
  *
  * Each call answers one number, case * 2^32 + value; take it apart by florumeja_case and florumeja_value:
  *
@@ -83,7 +83,7 @@ enum {
     FLORUMEJA_GAPS = 10,       /* a bay's start, or then its goal, has no gap or more than one */
     FLORUMEJA_UNEQUAL = 11,    /* a bay's start and goal don't hold each label equally often */
     FLORUMEJA_PADDED = 12,     /* a number isn't in shortest form */
-    FLORUMEJA_ENDLESS = 13     /* a number's second byte says that more follows */
+    FLORUMEJA_ENDLESS = 13     /* a number's third byte says that more follows */
 };
 
 static inline uint32_t florumeja_case(uint64_t answer) { return (uint32_t)(answer >> 32); }
@@ -91,21 +91,24 @@ static inline uint32_t florumeja_case(uint64_t answer) { return (uint32_t)(answe
 static inline uint32_t florumeja_value(uint64_t answer) { return (uint32_t)(answer & 0xffffffffu); }
 
 /* Room that is never too small. A workspace of v variables and N features has 1 + 3v + W + N*W words and an answer has W, where W is N/64 rounded
- * up; v is at most 64 and N at most 4,096. The task file of a bay has at most 2,019 bytes: three by three, all labels different. The longest line has the count and 640
- * features. A verdict's line is never longer than a refusal's with a number of five digits, a place of twenty and " in weights"; those that occur have at
- * most 30 bytes, since no place at fault has more than seven digits (argued from the longest task that is accepted, not proved). The longest weight file has the count and 4,096 features, the first 128 of
- * one byte each, the others and the count of two. */
-#define FLORUMEJA_WORKSPACE_WORDS 262401
-#define FLORUMEJA_ANSWER_WORDS 64
-#define FLORUMEJA_BAY_BYTES 2019
+ * up; v is at most 64 and N at most 32,768. A bay of four by four has 16 variables and 30,976 features, so its workspace has 14,992,917 words. The task
+ * file of a bay has at most 9,845 bytes: four by four, all labels different. The longest line has the count and 640 features. A verdict's line is never
+ * longer than a refusal's with a number of seven digits, a place of twenty and " in weights"; those that occur have at most 32 bytes, since no place at
+ * fault has more than nine digits (argued, not proved: a task that is accepted has 193 bytes at most before its pairs, three for the count of these and for
+ * each of less than 32,768, three for the count of operators and 193 for each of 2,097,151, all in all less than 404,850,000). The longest weight file has
+ * the count and 32,768 features, the first 128 of one byte each, the next 16,256 of two, the others and the count of three. */
+#define FLORUMEJA_WORKSPACE_WORDS 16777921
+#define FLORUMEJA_ANSWER_WORDS 512
+#define FLORUMEJA_BAY_BYTES 9845
 #define FLORUMEJA_LINE_BYTES 2464
-#define FLORUMEJA_VERDICT_BYTES 49
-#define FLORUMEJA_WEIGHT_BYTES 8066
+#define FLORUMEJA_VERDICT_BYTES 51
+#define FLORUMEJA_WEIGHT_BYTES 81795
 
-/* So many bytes more than the file that they are made from are never too few for a built task and for a partial file. A built task has at most 124
- * operators of four bytes that its partial file has not; at most 127 of its pairs and the count of its operators take a second byte; and a goal
- * value takes the place of each silent variable's mark. A partial file has a mark more for each variable. */
-#define FLORUMEJA_BUILT_MORE 624
+/* So many bytes more than the file that they are made from are never too few for a built task and for a partial file. A built task has at most 281
+ * operators of four bytes that its partial file has not: sizes 63, 63, 63, 63 and 29. A pair's new number is at most four times the old one, so it takes one
+ * byte more at most, and only where the old one is 32 to 127 or 4,096 to 16,383: 96 and 12,288 pairs. The count of the operators takes one byte more at
+ * most, and a goal value takes the place of each silent variable's mark. A partial file has a mark more for each variable. */
+#define FLORUMEJA_BUILT_MORE 13509
 #define FLORUMEJA_SILENCED_MORE 64
 
 /* Room for a pair and for an operator's number. */
@@ -142,7 +145,7 @@ uint64_t florumeja_build(const uint8_t *bay, size_t bay_length, uint8_t *room, s
 uint64_t florumeja_line(const uint8_t *input, size_t input_length, uint8_t *room, size_t room_length);
 
 /* Writes the weight file of a set of features in words: feature i is bit i % 64 of word i / 64, as florumeja_find leaves its answer. Hand it the first W words
- * of that answer; what stands in further words counts too. A feature of 4,096 or more is refused 3, whatever the room; otherwise a room that is shorter
+ * of that answer; what stands in further words counts too. A feature of 32,768 or more is refused 3, whatever the room; otherwise a room that is shorter
  * than the file is refused 8. */
 uint64_t florumeja_weight_file(const uint64_t *words, size_t words_length, uint8_t *room, size_t room_length);
 
@@ -199,9 +202,9 @@ uint64_t florumeja_pair_fault(const uint8_t *task, size_t task_length, uint64_t 
  * that doesn't increase. The others have no place, and a 2 that is judged after 5 has none: more operators of a built task than a number can count, and the
  * limits that florumeja_silence judges. Marks, and what an edit is handed, are no file.
  *
- * What is shown is that number's bytes as far as they were read. 2, 3, 4: all of them. 12: both, the second is 0. 13: the two that are allowed. 1: those from
- * the place to the end of the file; none, at the end, where the file ends before the number begins. Without a place, and where nothing is refused, the
- * part is empty at the task's start.
+ * What is shown is that number's bytes as far as they were read. 2, 3, 4: all of them. 12: two or three, and the last is 0. 13: the three that are
+ * allowed. 1: those from the place to the end of the file; none, at the end, where the file ends before the number begins. Without a place, and where
+ * nothing is refused, the part is empty at the task's start.
  *
  * The case says which file holds the part; the first word is where it begins there, and the second how many bytes it has. Words behind these stay. Less than
  * two words are refused 8, whatever the files are; nothing else is refused. The number of the refusal itself is what the other calls answer. */

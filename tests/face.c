@@ -2,6 +2,7 @@
 #include "florumeja.h"
 
 #include <stdio.h>
+#include <stdlib.h>
 #include <string.h>
 
 static int passed, failed;
@@ -26,6 +27,16 @@ static int refused(uint64_t answer, uint32_t number) { return is(answer, FLORUME
 /* Whether words or bytes are the same. */
 #define SAME(a, b) (memcmp((a), (b), sizeof(b)) == 0)
 #define COUNT(a) (sizeof(a) / sizeof((a)[0]))
+
+/* As many operators as a file can count: three groups of seven bits. */
+#define MOST_COUNTED 2097151
+
+/* Puts a number as files have it, seven bits to a byte and the low ones first, and answers the place behind it. */
+static uint8_t *put(uint8_t *at, size_t number) {
+    for (; number >= 128; number /= 128) *at++ = (uint8_t)(number % 128 + 128);
+    *at++ = (uint8_t)number;
+    return at;
+}
 
 /* Tasks of document 01: A, B, D, G, H, I, L. */
 static const uint8_t task_a[] = {2, 2, 2, 0, 0, 0, 1, 0, 0};
@@ -85,12 +96,48 @@ static void edits(void) {
     expect(refused(florumeja_replace_goal(room, 0, ends, 2), FLORUMEJA_MALFORMED), "no words at all: refused 9");
 }
 
+/* A bay of labels that all differ, its goal with the last two exchanged; answers the bytes of its file. */
+static size_t bay_of(uint8_t *bay, int rows, int columns) {
+    int i, n = rows * columns;
+    bay[0] = (uint8_t)rows;
+    bay[1] = (uint8_t)columns;
+    for (i = 0; i < n; i++) bay[2 + i] = bay[2 + n + i] = (uint8_t)i;
+    bay[2 * n] = (uint8_t)(n - 1);
+    bay[2 * n + 1] = (uint8_t)(n - 2);
+    return (size_t)(2 + 2 * n);
+}
+
+/* n variables of size n: 1 + n bytes, start and goal n each. Pairs: n for each two slots, from n * n on, n * n + 1 + the number of the two slots times n * n apart. Operators
+ * of 7 bytes: n - 1 labels for each side that two slots share, either way.
+ * 3 by 3: 10 + 18; 324 pairs, of which 5 are below 128: 2 + 5 + 2 * 319; 12 sides, 192 operators: 2 + 7 * 192. In all 2,019.
+ * 2 by 5: 11 + 20; 450 pairs, of which 3 are below 128: 2 + 3 + 2 * 447; 13 sides, 234 operators: 2 + 7 * 234. In all 2,570.
+ * 4 by 4: 17 + 32; 1,920 pairs, those of the first 63 of 120 two slots below 16,384: 2 + 2 * 1,008 + 3 * 912; 24 sides, 720 operators: 2 + 7 * 720. In all 9,845.
+ * 2 by 8, and 8 by 2: 22 sides, so 60 operators less: 9,425. */
+static void bay_sizes(void) {
+    static const struct { int rows, columns; uint32_t bytes; } taken[] = {{3, 3, 2019}, {2, 5, 2570}, {4, 4, FLORUMEJA_BAY_BYTES}, {2, 8, 9425}, {8, 2, 9425}};
+    static const uint8_t sides[][2] = {{2, 9}, {9, 2}, {3, 6}, {4, 5}, {9, 9}, {1, 10}, {10, 1}, {1, 16}, {16, 1}, {1, 1}};
+    static uint8_t room[FLORUMEJA_BAY_BYTES + 1];
+    uint8_t bay[2 + 2 * 16];
+    char name[40];
+    size_t i, length;
+    for (i = 0; i < COUNT(taken); i++) {
+        sprintf(name, "%d by %d", taken[i].rows, taken[i].columns);
+        length = bay_of(bay, taken[i].rows, taken[i].columns);
+        memset(room, 7, sizeof room);
+        expect_of(refused(florumeja_build(bay, length, room, taken[i].bytes - 1), FLORUMEJA_SMALL) && room[0] == 7, "a byte too few for the bay ", name);
+        expect_of(is(florumeja_build(bay, length, room, sizeof room), FLORUMEJA_DONE, taken[i].bytes) && room[taken[i].bytes - 1] != 7 && room[taken[i].bytes] == 7, "the bay ", name);
+    }
+    for (i = 0; i < COUNT(sides); i++) {
+        sprintf(name, "%d by %d", sides[i][0], sides[i][1]);
+        expect_of(refused(florumeja_build(sides[i], 2, room, sizeof room), FLORUMEJA_LIMIT), "refused 2: the bay ", name);
+    }
+}
+
 /* In the row 1 1 0 only the gap occurs once: its pairs are 9, 18 and 27, and the lot slides between each two neighbours, either way. */
 static void builds_and_lines(void) {
     static const uint8_t bay[] = {1, 2, 0, 1, 1, 0}, gaps[] = {1, 2, 0, 0, 1, 0}, full[] = {1, 2, 0, 1, 1, 1}, unequal[] = {1, 3, 0, 1, 1, 0, 1, 2}, high[] = {10, 1};
     static const uint8_t alike[] = {1, 3, 1, 1, 0, 0, 1, 1};
     static const uint8_t lot[] = {3, 3, 3, 3, 1, 1, 0, 0, 1, 1, 3, 9, 18, 27, 4, 2, 0, 0, 1, 1, 1, 0, 2, 0, 1, 0, 1, 0, 1, 2, 1, 0, 1, 2, 1, 0, 2, 1, 1, 0, 2, 0, 1, 7};
-    static const uint8_t largest[] = {3, 3, 0, 1, 2, 3, 4, 5, 6, 7, 8, 0, 1, 2, 3, 4, 5, 6, 8, 7};
     static const uint8_t task[] = {2, 2, 2, 0, 1, 1, 0, 2, 4, 7, 2, 2, 0, 0, 1, 1, 1, 0, 2, 0, 1, 0, 1, 0, 1, 7};
     uint8_t room[FLORUMEJA_LINE_BYTES];
     memset(room, 7, sizeof room);
@@ -102,8 +149,6 @@ static void builds_and_lines(void) {
     memset(room, 7, sizeof room);
     expect(is(florumeja_build(alike, sizeof alike, room, sizeof room), FLORUMEJA_DONE, 43) && SAME(room, lot), "a row with a lot of two");
     expect(refused(florumeja_build(high, sizeof high, room, sizeof room), FLORUMEJA_LIMIT), "ten rows: refused 2");
-    expect(refused(florumeja_build(largest, sizeof largest, room, FLORUMEJA_BAY_BYTES - 1), FLORUMEJA_SMALL), "a byte too few for the bay 3 by 3");
-    expect(is(florumeja_build(largest, sizeof largest, room, FLORUMEJA_BAY_BYTES), FLORUMEJA_DONE, FLORUMEJA_BAY_BYTES), "the bay 3 by 3");
     memset(room, 7, sizeof room);
     expect(refused(florumeja_line(task_b, sizeof task_b, room, 15), FLORUMEJA_SMALL) && room[0] == 7, "15 bytes are too few for B's line");
     expect(is(florumeja_line(task_b, sizeof task_b, room, sizeof room), FLORUMEJA_DONE, 16) && memcmp(room, "separated 2 0 2\n\7", 17) == 0, "B's line");
@@ -114,12 +159,13 @@ static void builds_and_lines(void) {
     expect(is(florumeja_line(task_b, 36, room, sizeof room), FLORUMEJA_DONE, 16) && memcmp(room, "refused 1 at 36\n\7", 17) == 0, "B's line without its last byte");
 }
 
-/* The count and the features as a weight file has them; a number from 128 on has two bytes: 128 is 80 01, 200 is C8 01. */
+/* The count and the features as a weight file has them; a number from 128 on has two bytes, one from 16,384 on three: 128 is 80 01, 200 is C8 01, 16,384 is 80 80 01. The
+ * longest file: a count of three bytes, 128 features of one byte, 16,256 of two and 16,384 of three. */
 static void weight_files(void) {
-    static uint64_t full[65];
+    static uint64_t full[513], edges[512];
     static uint8_t long_room[FLORUMEJA_WEIGHT_BYTES];
-    uint8_t room[8];
-    const uint8_t sevens[] = {7, 7, 7, 7, 7, 7, 7, 7}, both[] = {2, 0, 2, 7}, high[] = {3, 63, 0x80, 1, 0xC8, 1, 7}, none[] = {0, 7};
+    uint8_t room[16];
+    const uint8_t sevens[] = {7, 7, 7, 7, 7, 7, 7, 7}, both[] = {2, 0, 2, 7}, wide[] = {5, 0x7f, 0x80, 1, 0xff, 0x7f, 0x80, 0x80, 1, 0xff, 0xff, 1, 7}, high[] = {3, 63, 0x80, 1, 0xC8, 1, 7}, none[] = {0, 7};
     const uint64_t found[] = {5}, apart[] = {1ull << 63, 0, 1, 1ull << 8}, empty[] = {0, 0};
     memset(room, 7, sizeof room);
     expect(refused(florumeja_weight_file(found, 1, room, 2), FLORUMEJA_SMALL) && SAME(room, sevens), "2 bytes are too few for {0,2}");
@@ -130,12 +176,62 @@ static void weight_files(void) {
     memset(room, 7, sizeof room);
     expect(is(florumeja_weight_file(empty, 2, room, sizeof room), FLORUMEJA_DONE, 1) && SAME(room, none), "the weight file of no feature");
     expect(is(florumeja_weight_file(empty, 0, room, 1), FLORUMEJA_DONE, 1), "no words at all");
-    memset(full, 255, 64 * sizeof full[0]);
-    expect(refused(florumeja_weight_file(full, 65, long_room, FLORUMEJA_WEIGHT_BYTES - 1), FLORUMEJA_SMALL), "a byte too few for 4,096 features");
-    expect(is(florumeja_weight_file(full, 65, long_room, FLORUMEJA_WEIGHT_BYTES), FLORUMEJA_DONE, FLORUMEJA_WEIGHT_BYTES), "4,096 features and a word of none");
-    full[64] = 1;
+    edges[1] = edges[255] = edges[511] = 1ull << 63;
+    edges[2] = edges[256] = 1;
     memset(room, 7, sizeof room);
-    expect(refused(florumeja_weight_file(full, 65, room, 0), FLORUMEJA_RANGE) && SAME(room, sevens), "feature 4,096: refused 3 before the room is judged");
+    expect(refused(florumeja_weight_file(edges, 512, room, 11), FLORUMEJA_SMALL) && SAME(room, sevens), "11 bytes are too few for numbers of one to three bytes");
+    expect(is(florumeja_weight_file(edges, 512, room, 12), FLORUMEJA_DONE, 12) && SAME(room, wide), "the weight file of {127,128,16383,16384,32767}");
+    memset(full, 255, 512 * sizeof full[0]);
+    expect(refused(florumeja_weight_file(full, 513, long_room, FLORUMEJA_WEIGHT_BYTES - 1), FLORUMEJA_SMALL), "a byte too few for 32,768 features");
+    expect(is(florumeja_weight_file(full, 513, long_room, FLORUMEJA_WEIGHT_BYTES), FLORUMEJA_DONE, FLORUMEJA_WEIGHT_BYTES), "32,768 features and a word of none");
+    expect(memcmp(long_room, "\x80\x80\x02\x00\x01", 5) == 0 && memcmp(long_room + FLORUMEJA_WEIGHT_BYTES - 3, "\xff\xff\x01", 3) == 0, "the count in front and the last feature behind");
+    full[512] = 1;
+    memset(room, 7, sizeof room);
+    expect(refused(florumeja_weight_file(full, 513, room, 0), FLORUMEJA_RANGE) && SAME(room, sevens), "feature 32,768: refused 3 before the room is judged");
+}
+
+/* Sizes 54, 57, 57, 58 and 59 have 285 atoms and 32,768 features. The last one is 57 of variable 3 with 58 of variable 4. The pairs of variables 1 and 3 begin at 285 +
+ * 2 * 54 * 57 + 54 * 58 + 54 * 59 + 57 * 57 = 16,008, so 16,384 is 6 of variable 1 with 28 of variable 3, and 16,383 is 6 with 27. */
+#define FULL_SIZES 5, 54, 57, 57, 58, 59
+
+static void most_features(void) {
+    static const uint8_t corner[] = {FULL_SIZES, 0, 0, 0, 0, 0, 0, 0, 0, 57, 58, 0, 0}, middle[] = {FULL_SIZES, 0, 0, 0, 0, 0, 0, 6, 0, 28, 0, 0, 0};
+    static const uint8_t held[] = {FULL_SIZES, 0, 0, 0, 57, 58, 0, 0, 0, 0, 0, 1, 0xff, 0xff, 1, 0}, freed_of_it[] = {FULL_SIZES, 0, 0, 0, 57, 58, 0, 0, 0, 0, 0, 0, 0, 7};
+    static const uint8_t made[] = {FULL_SIZES, 0, 0, 0, 0, 0, 0, 0, 0, 0, 0, 2, 0x80, 0x80, 1, 0xff, 0xff, 1, 1, 2, 3, 0, 57, 4, 0, 58};
+    const uint8_t last[] = {1, 0xff, 0xff, 1}, past[] = {1, 0x80, 0x80, 2}, low[] = {1, 0xff, 0x7f}, high[] = {1, 0x80, 0x80, 1}, dropped[] = {1, 0xff, 0xff, 1, 7};
+    const uint8_t marks[] = {0, 1, 1, 1, 1};
+    const uint64_t of_held[] = {32767, 9}, of_made[] = {32767, 0};
+    const size_t due = 1 + 3 * 5 + 512 * (1 + 32768);
+    uint64_t *words = (uint64_t *)malloc(due * sizeof *words), answer[513], pair[] = {9, 9};
+    uint8_t room[64];
+    size_t i, others = 0;
+    expect(is(florumeja_check(corner, sizeof corner, last, sizeof last), FLORUMEJA_DONE, 0), "feature 32,767 of 32,768 is accepted");
+    expect(refused(florumeja_check(corner, sizeof corner, past, sizeof past), FLORUMEJA_RANGE), "feature 32,768 of 32,768: refused 3");
+    expect(is(florumeja_check(middle, sizeof middle, high, sizeof high), FLORUMEJA_DONE, 0), "feature 16,384 is in the goal alone");
+    expect(is(florumeja_check(middle, sizeof middle, low, sizeof low), FLORUMEJA_ENDS_ALIKE, 0), "feature 16,383 is in neither end");
+    expect(refused(florumeja_check(held, sizeof held, last, sizeof last), FLORUMEJA_HELD), "the start holds pair 32,767: refused 6");
+    expect(is(florumeja_pair_fault(held, sizeof held, pair, 2), FLORUMEJA_HELD_PAIR, 0) && SAME(pair, of_held), "which is the pair that is named");
+    memset(room, 7, sizeof room);
+    expect(is(florumeja_mend(held, sizeof held, room, sizeof room), FLORUMEJA_DONE, sizeof freed_of_it - 1) && SAME(room, freed_of_it), "mended without it");
+    memset(room, 7, sizeof room);
+    expect(is(florumeja_dropped(held, sizeof held, room, sizeof room), FLORUMEJA_DONE, 4) && SAME(room, dropped), "dropped, in three bytes");
+    expect(refused(florumeja_check(made, sizeof made, last, sizeof last), FLORUMEJA_UNCLOSED), "an operator makes pair 32,767: refused 7");
+    expect(is(florumeja_pair_fault(made, sizeof made, pair, 2), FLORUMEJA_UNCLOSED_PAIR, 0) && SAME(pair, of_made), "that pair and that operator");
+    memset(room, 7, sizeof room);
+    expect(is(florumeja_dropped(made, sizeof made, room, sizeof room), FLORUMEJA_DONE, 4) && SAME(room, dropped), "of two pairs of three bytes one is dropped");
+    expect(refused(florumeja_silence(corner, sizeof corner, marks, 5, room, 0), FLORUMEJA_LIMIT), "no feature left for \"unknown\": refused 2");
+    /* Only variables 3 and 4 differ at the ends, and 168 is the least atom of theirs: 54 + 57 + 57. */
+    expect(words != NULL, "128 MiB for a workspace");
+    if (words == NULL) return;
+    expect(refused(florumeja_open(corner, sizeof corner, words, due - 1), FLORUMEJA_SMALL), "a word too few for 32,768 features");
+    expect(is(florumeja_open(corner, sizeof corner, words, due), FLORUMEJA_DONE, 16777744), "the workspace of 32,768 features");
+    expect(due <= FLORUMEJA_WORKSPACE_WORDS, "which is no more than the most");
+    memset(answer, 7, sizeof answer);
+    expect(refused(florumeja_find(words, due, answer, FLORUMEJA_ANSWER_WORDS - 1), FLORUMEJA_SMALL) && answer[0] != 0, "a word too few for an answer");
+    expect(is(florumeja_find(words, due, answer, 513), FLORUMEJA_DONE, 0) && answer[2] == 1ull << 40 && answer[512] != 0, "{168}");
+    for (i = 0; i < 512; i++) others += i != 2 && answer[i] != 0;
+    expect(others == 0, "and nothing else");
+    free(words);
 }
 
 static void check_lines(void) {
@@ -224,6 +320,80 @@ static void silences(void) {
     expect(refused(florumeja_open_partial(room, 20, words, 1), FLORUMEJA_UNCLOSED), "which is not idle in the built task: refused 7");
 }
 
+/* An order that is silent on every variable and lists all pairs but those that its start, all 0, holds; and its built task beside it. Answers their lengths. */
+struct lengths {
+    size_t order, built;
+};
+
+static struct lengths with_all_pairs(const uint8_t *sizes, size_t v, uint8_t *order, uint8_t *task) {
+    uint8_t *one = order, *other = task;
+    size_t i, j, x, y, atoms = 0, pairs = 0, number, new_number;
+    struct lengths lengths;
+    one = put(one, v);
+    other = put(other, v);
+    for (i = 0; i < v; i++) {
+        one = put(one, sizes[i]);
+        other = put(other, sizes[i] + 1u);
+        for (j = 0; j < i; j++) pairs += (size_t)sizes[i] * sizes[j] - 1;
+        atoms += sizes[i];
+    }
+    for (i = 0; i < 2 * v; i++) one = put(one, 0);
+    for (i = 0; i < v; i++) other = put(other, 0);
+    for (i = 0; i < v; i++) other = put(other, sizes[i]);
+    one = put(one, pairs);
+    other = put(other, pairs);
+    number = atoms;
+    new_number = atoms + v;
+    for (i = 0; i < v; i++) {
+        for (j = i + 1; j < v; j++) {
+            for (x = 0; x < sizes[i]; x++) {
+                for (y = 0; y < sizes[j]; y++) {
+                    if (x + y > 0) {
+                        one = put(one, number + x * sizes[j] + y);
+                        other = put(other, new_number + x * (sizes[j] + 1u) + y);
+                    }
+                }
+            }
+            number += (size_t)sizes[i] * sizes[j];
+            new_number += (sizes[i] + 1u) * (sizes[j] + 1u);
+        }
+    }
+    one = put(one, 0);
+    other = put(other, atoms);
+    for (i = 0; i < v; i++) {
+        for (x = 0; x < sizes[i]; x++) other = put(put(put(put(other, 1), i), x), sizes[i]);
+    }
+    lengths.order = (size_t)(one - order);
+    lengths.built = (size_t)(other - task);
+    return lengths;
+}
+
+/* How much longer a built task is. 64 of size 3: pairs from the 1,008th block of eight on are 16,384 and more where they were so from the 1,799th on, 6,328 bytes; 192
+ * operators, 768 bytes; their count, one byte. 40 of size 1 and 24 of size 6 is the worst that was found. The sizes with the most operators: 281. */
+static void built_lengths(void) {
+    static const struct { const char *name; size_t ones; uint8_t size, last; size_t v, more; } shapes[] = {
+        {"64 of size 3", 0, 3, 3, 64, 6328 + 4 * 192 + 1},
+        {"40 of size 1 and 24 of size 6", 40, 6, 6, 64, 9541 + 4 * 184 + 1},
+        {"4 of size 63 and one of 29", 0, 63, 29, 5, 508 + 4 * 281 + 1},
+    };
+    static uint8_t order[100000], task[100000], room[100000 + FLORUMEJA_BUILT_MORE];
+    uint8_t sizes[64];
+    size_t i, k;
+    for (k = 0; k < COUNT(shapes); k++) {
+        struct lengths due;
+        for (i = 0; i < shapes[k].v; i++) sizes[i] = i < shapes[k].ones ? 1 : shapes[k].size;
+        sizes[shapes[k].v - 1] = shapes[k].last;
+        due = with_all_pairs(sizes, shapes[k].v, order, task);
+        expect_of(due.built == due.order + shapes[k].more && shapes[k].more <= FLORUMEJA_BUILT_MORE, shapes[k].name, ", how much is added");
+        memset(room, 7, sizeof room);
+        expect_of(refused(florumeja_build_partial(order, due.order, room, due.built - 1), FLORUMEJA_SMALL) && room[0] == 7, shapes[k].name, ", a byte too few");
+        expect_of(is(florumeja_build_partial(order, due.order, room, due.order + FLORUMEJA_BUILT_MORE), FLORUMEJA_DONE, (uint32_t)due.built)
+                      && memcmp(room, task, due.built) == 0 && room[due.built] == 7, shapes[k].name, ", built");
+        memset(room, 7, sizeof room);
+        expect_of(is(florumeja_build_partial_lean(order, due.order, room, due.built), FLORUMEJA_DONE, (uint32_t)due.built) && memcmp(room, task, due.built) == 0, shapes[k].name, ", built lean");
+    }
+}
+
 /* Pairs 5 and 7 are 01 and 11. Operator 0 takes variable 0 from 1 to 0, and spares 01 as long as 11 is listed; operator 1 needs 10 and leads to 11. So 7 goes
  * because of operator 1, and then 5 because of operator 0. */
 static const uint8_t chain[] = {2, 2, 2, 0, 0, 0, 1, 2, 5, 7, 2, 1, 0, 1, 0, 2, 0, 1, 1, 1, 0, 1};
@@ -289,18 +459,34 @@ static void pair_faults(void) {
     expect(is(florumeja_pair_fault(unpaired, sizeof unpaired - 1, room, 3), FLORUMEJA_DONE, 0) && SAME(room, least), "what is mended is good");
 }
 
-/* As many operators as a file can count, 16,383: the last one alone, lift, breaks {0}, and no operator's line is longer. The others set variable 1 from
- * 0 to 0. */
-static void last_operator(void) {
-    static uint8_t task[8 + 2 + 16383 * 4];
-    static const uint8_t head[] = {2, 2, 2, 0, 0, 1, 0, 0, 0xff, 0x7f}, still[] = {1, 1, 0, 0}, lift[] = {1, 0, 0, 1}, first[] = {1, 0};
-    uint8_t room[24];
+/* A task with so many operators: the last one alone, lift, breaks {0}. The others set variable 1 from 0 to 0. Answers its length. */
+static size_t lifted_last(uint8_t *task, size_t count) {
+    static const uint8_t head[] = {2, 2, 2, 0, 0, 1, 0, 0}, still[] = {1, 1, 0, 0}, lift[] = {1, 0, 0, 1};
+    uint8_t *at = put(task + sizeof head, count);
     size_t i;
     memcpy(task, head, sizeof head);
-    for (i = 0; i < 16383; i++) memcpy(task + sizeof head + 4 * i, i < 16382 ? still : lift, 4);
-    expect(is(florumeja_check_line(task, sizeof task, first, sizeof first, room, sizeof room), FLORUMEJA_DONE, sizeof room)
-               && memcmp(room, "rejected operator 16382\n", sizeof room) == 0, "the last operator's line");
-    expect(refused(florumeja_check_line(task, sizeof task, first, sizeof first, room, sizeof room - 1), FLORUMEJA_SMALL), "a byte too few for the last operator's line");
+    for (i = 1; i <= count; i++, at += 4) memcpy(at, i < count ? still : lift, 4);
+    return (size_t)(at - task);
+}
+
+/* The most that two bytes count, one more, and as many operators as a file can count: no operator's line is longer. */
+static void last_operator(void) {
+    static uint8_t task[8 + 3 + MOST_COUNTED * 4];
+    static const struct { size_t count; const char *line; } lines[] = {
+        {16383, "rejected operator 16382\n"}, {16384, "rejected operator 16383\n"}, {MOST_COUNTED, "rejected operator 2097150\n"}};
+    const uint8_t first[] = {1, 0};
+    uint8_t room[26];
+    size_t i, length, due;
+    for (i = 0; i < COUNT(lines); i++) {
+        length = lifted_last(task, lines[i].count);
+        due = strlen(lines[i].line);
+        expect_of(is(florumeja_check(task, length, first, sizeof first), FLORUMEJA_OPERATOR, (uint32_t)lines[i].count - 1), "the last operator: ", lines[i].line);
+        expect_of(is(florumeja_check_line(task, length, first, sizeof first, room, sizeof room), FLORUMEJA_DONE, (uint32_t)due)
+                      && memcmp(room, lines[i].line, due) == 0, "the last operator's line: ", lines[i].line);
+        expect_of(refused(florumeja_check_line(task, length, first, sizeof first, room, due - 1), FLORUMEJA_SMALL), "a byte too few for ", lines[i].line);
+        expect_of(refused(florumeja_check(task, length - 1, first, sizeof first), FLORUMEJA_ENDS), "without the last byte: ", lines[i].line);
+    }
+    expect(length == sizeof task, "as many operators as a file can count");
 }
 
 /* A task, an order or a bay, and the weights beside it, of which a bay has none; the number by which they are refused, 0 where they aren't; which file holds the
@@ -328,33 +514,54 @@ static const struct shown shown_tasks[] = {
     {"weights that are rejected", TASK_A, BYTES("\x01\x00"), 0, FLORUMEJA_IN_TASK, 0, 0},
     {"1: no bytes at all", BYTES(""), BYTES(""), FLORUMEJA_ENDS, FLORUMEJA_IN_TASK, 0, 0},
     {"1: the file ends before a size", BYTES("\x02\x02"), UNWEIGHED, FLORUMEJA_ENDS, FLORUMEJA_IN_TASK, 2, 0},
+    {"1: the file ends inside v, before its third byte", BYTES("\x80\x80"), UNWEIGHED, FLORUMEJA_ENDS, FLORUMEJA_IN_TASK, 0, 2},
+    {"1: the file ends inside a size, before its third byte", BYTES("\x02\xff\xff"), UNWEIGHED, FLORUMEJA_ENDS, FLORUMEJA_IN_TASK, 1, 2},
+    {"1: 2,097,151 pairs are due, and one is there", BYTES("\x02\x02\x02\x00\x00\x00\x01\xff\xff\x7f\x05"), UNWEIGHED, FLORUMEJA_ENDS, FLORUMEJA_IN_TASK, 11, 0},
+    {"1: 2,097,151 operators are due, and none is there", BYTES("\x02\x02\x02\x00\x00\x00\x01\x00\xff\xff\x7f"), UNWEIGHED, FLORUMEJA_ENDS, FLORUMEJA_IN_TASK, 11, 0},
+    {"1: sizes 64 and 63 are taken", BYTES("\x02\x40\x3f"), UNWEIGHED, FLORUMEJA_ENDS, FLORUMEJA_IN_TASK, 3, 0},
+    {"1: N is 32,768 and taken", BYTES("\x05\x36\x39\x39\x3a\x3b"), UNWEIGHED, FLORUMEJA_ENDS, FLORUMEJA_IN_TASK, 6, 0},
     {"1: the file ends inside a start value", BYTES("\x02\x02\x02\x80"), UNWEIGHED, FLORUMEJA_ENDS, FLORUMEJA_IN_TASK, 3, 1},
     {"2: no variable", BYTES("\x00"), UNWEIGHED, FLORUMEJA_LIMIT, FLORUMEJA_IN_TASK, 0, 1},
     {"2: 128 variables, in two bytes", BYTES("\x80\x01\x02"), UNWEIGHED, FLORUMEJA_LIMIT, FLORUMEJA_IN_TASK, 0, 2},
     {"2: a size of 65", BYTES("\x01\x41"), UNWEIGHED, FLORUMEJA_LIMIT, FLORUMEJA_IN_TASK, 1, 1},
-    {"2: N is 4,159, at the last size", BYTES("\x02\x40\x3f\x00"), UNWEIGHED, FLORUMEJA_LIMIT, FLORUMEJA_IN_TASK, 2, 1},
+    {"2: 16,384 variables, in three bytes", BYTES("\x80\x80\x01"), UNWEIGHED, FLORUMEJA_LIMIT, FLORUMEJA_IN_TASK, 0, 3},
+    {"2: 2,097,151 variables", BYTES("\xff\xff\x7f\x02"), UNWEIGHED, FLORUMEJA_LIMIT, FLORUMEJA_IN_TASK, 0, 3},
+    {"2: N is 32,769, at the last size", BYTES("\x05\x36\x39\x3a\x3a\x3a\x00"), UNWEIGHED, FLORUMEJA_LIMIT, FLORUMEJA_IN_TASK, 5, 1},
     {"3: a start value of two", BYTES("\x02\x02\x02\x00\x02"), UNWEIGHED, FLORUMEJA_RANGE, FLORUMEJA_IN_TASK, 4, 1},
     {"3: a start value of 128, in two bytes", BYTES("\x02\x02\x02\x80\x01"), UNWEIGHED, FLORUMEJA_RANGE, FLORUMEJA_IN_TASK, 3, 2},
+    {"3: a start value of 16,384, in three bytes", BYTES("\x02\x02\x02\x80\x80\x01"), UNWEIGHED, FLORUMEJA_RANGE, FLORUMEJA_IN_TASK, 3, 3},
+    {"3: an entry count of 2,097,151", BYTES("\x02\x02\x02\x00\x00\x00\x01\x00\x01\xff\xff\x7f\x00"), UNWEIGHED, FLORUMEJA_RANGE, FLORUMEJA_IN_TASK, 9, 3},
+    {"3: pair 32,768 of 32,768", BYTES("\x05\x36\x39\x39\x3a\x3b\x00\x00\x00\x00\x00\x00\x00\x00\x00\x00\x01\x80\x80\x02"), UNWEIGHED, FLORUMEJA_RANGE, FLORUMEJA_IN_TASK, 17, 3},
     {"3: an after value, past the ninth place", BYTES("\x02\x02\x02\x00\x00\x00\x01\x00\x01\x01\x00\x00\x02"), UNWEIGHED, FLORUMEJA_RANGE, FLORUMEJA_IN_TASK, 12, 1},
     {"4: a pair twice", BYTES("\x02\x02\x02\x00\x00\x00\x01\x02\x05\x05\x00"), UNWEIGHED, FLORUMEJA_UNORDERED, FLORUMEJA_IN_TASK, 9, 1},
     {"4: pair 130 of 64 and 2 values twice, in two bytes each", BYTES("\x02\x40\x02\x00\x00\x00\x01\x02\x82\x01\x82\x01\x00"), UNWEIGHED, FLORUMEJA_UNORDERED, FLORUMEJA_IN_TASK, 10, 2},
+    {"4: pair 16,384 twice, in three bytes each", BYTES("\x05\x36\x39\x39\x3a\x3b\x00\x00\x00\x00\x00\x00\x00\x00\x00\x00\x02\x80\x80\x01\x80\x80\x01\x00"), UNWEIGHED, FLORUMEJA_UNORDERED, FLORUMEJA_IN_TASK, 20, 3},
+    {"4: pair 16,383 behind 16,384", BYTES("\x05\x36\x39\x39\x3a\x3b\x00\x00\x00\x00\x00\x00\x00\x00\x00\x00\x02\x80\x80\x01\xff\x7f\x00"), UNWEIGHED, FLORUMEJA_UNORDERED, FLORUMEJA_IN_TASK, 20, 2},
     {"5: a byte left over has no place", BYTES("\x02\x02\x02\x00\x00\x00\x01\x00\x00\x00"), BYTES(""), FLORUMEJA_LEFT_OVER, FLORUMEJA_IN_TASK, 0, 0},
     {"6: a held pair has no place", BYTES("\x02\x02\x02\x01\x01\x00\x00\x01\x07\x00"), BYTES(""), FLORUMEJA_HELD, FLORUMEJA_IN_TASK, 0, 0},
     {"7: an unclosed pair has no place", BYTES("\x02\x02\x02\x00\x00\x01\x00\x01\x07\x01\x01\x00\x00\x01"), BYTES(""), FLORUMEJA_UNCLOSED, FLORUMEJA_IN_TASK, 0, 0},
     {"12: v in two bytes where one is enough", BYTES("\x82\x00\x02"), UNWEIGHED, FLORUMEJA_PADDED, FLORUMEJA_IN_TASK, 0, 2},
     {"12: an operator count of 0 in two bytes", BYTES("\x02\x02\x02\x00\x00\x00\x01\x00\x80\x00"), UNWEIGHED, FLORUMEJA_PADDED, FLORUMEJA_IN_TASK, 8, 2},
-    {"13: v in three bytes, of which two are shown", BYTES("\x80\x80\x01"), UNWEIGHED, FLORUMEJA_ENDLESS, FLORUMEJA_IN_TASK, 0, 2},
-    {"13: the second byte is the last", BYTES("\x02\xff\xff"), UNWEIGHED, FLORUMEJA_ENDLESS, FLORUMEJA_IN_TASK, 1, 2},
+    {"12: v in three bytes, of which the last is 0", BYTES("\x80\x80\x00"), UNWEIGHED, FLORUMEJA_PADDED, FLORUMEJA_IN_TASK, 0, 3},
+    {"12: a size of 16,383 in three bytes where two are enough", BYTES("\x02\xff\xff\x00\x02"), UNWEIGHED, FLORUMEJA_PADDED, FLORUMEJA_IN_TASK, 1, 3},
+    {"13: v in four bytes, of which three are shown", BYTES("\x80\x80\x80\x01"), UNWEIGHED, FLORUMEJA_ENDLESS, FLORUMEJA_IN_TASK, 0, 3},
+    {"13: v whose fourth byte is 0", BYTES("\x81\x80\x80\x00"), UNWEIGHED, FLORUMEJA_ENDLESS, FLORUMEJA_IN_TASK, 0, 3},
+    {"13: the third byte is the last", BYTES("\x02\xff\xff\xff"), UNWEIGHED, FLORUMEJA_ENDLESS, FLORUMEJA_IN_TASK, 1, 3},
     {"1 in the weights: no bytes", TASK_A, BYTES(""), FLORUMEJA_ENDS, FLORUMEJA_IN_WEIGHTS, 0, 0},
     {"1 in the weights: a weight is missing", TASK_A, BYTES("\x02\x01"), FLORUMEJA_ENDS, FLORUMEJA_IN_WEIGHTS, 2, 0},
     {"1 in the weights: they end inside a weight", TASK_A, BYTES("\x02\x01\xff"), FLORUMEJA_ENDS, FLORUMEJA_IN_WEIGHTS, 2, 1},
     {"3 in the weights: feature 8 of 8", TASK_A, BYTES("\x02\x01\x08"), FLORUMEJA_RANGE, FLORUMEJA_IN_WEIGHTS, 2, 1},
     {"3 in the weights: feature 16,383", TASK_A, BYTES("\x01\xff\x7f"), FLORUMEJA_RANGE, FLORUMEJA_IN_WEIGHTS, 1, 2},
+    {"1 in the weights: they end inside a weight, before its third byte", TASK_A, BYTES("\x01\x80\x80"), FLORUMEJA_ENDS, FLORUMEJA_IN_WEIGHTS, 1, 2},
+    {"1 in the weights: 2,097,151 are due, and one is there", TASK_A, BYTES("\xff\xff\x7f\x02"), FLORUMEJA_ENDS, FLORUMEJA_IN_WEIGHTS, 4, 0},
+    {"3 in the weights: feature 16,384", TASK_A, BYTES("\x01\x80\x80\x01"), FLORUMEJA_RANGE, FLORUMEJA_IN_WEIGHTS, 1, 3},
+    {"3 in the weights: feature 2,097,151", TASK_A, BYTES("\x01\xff\xff\x7f"), FLORUMEJA_RANGE, FLORUMEJA_IN_WEIGHTS, 1, 3},
     {"4 in the weights: they fall", TASK_A, BYTES("\x03\x01\x03\x02"), FLORUMEJA_UNORDERED, FLORUMEJA_IN_WEIGHTS, 3, 1},
     {"5 in the weights has no place, and the part is the task's", TASK_A, BYTES("\x01\x02\x00"), FLORUMEJA_LEFT_OVER, FLORUMEJA_IN_TASK, 0, 0},
     {"12 in the weights", TASK_A, BYTES("\x01\x82\x00"), FLORUMEJA_PADDED, FLORUMEJA_IN_WEIGHTS, 1, 2},
-    {"13 in the weights", TASK_A, BYTES("\x82\x82"), FLORUMEJA_ENDLESS, FLORUMEJA_IN_WEIGHTS, 0, 2},
-    {"faults in both: the task's", BYTES("\x02\x00"), BYTES("\x80\x80"), FLORUMEJA_LIMIT, FLORUMEJA_IN_TASK, 1, 1},
+    {"12 in the weights, in the third byte", TASK_A, BYTES("\x01\x82\x80\x00"), FLORUMEJA_PADDED, FLORUMEJA_IN_WEIGHTS, 1, 3},
+    {"13 in the weights", TASK_A, BYTES("\x82\x82\x82"), FLORUMEJA_ENDLESS, FLORUMEJA_IN_WEIGHTS, 0, 3},
+    {"faults in both: the task's", BYTES("\x02\x00"), BYTES("\x80\x80\x80"), FLORUMEJA_LIMIT, FLORUMEJA_IN_TASK, 1, 1},
 };
 
 /* Marks stand behind the sizes, and a goal value for the named variables only. With two values each, places 3 and 4 are the marks, 5 and 6 the start, 7 the one goal
@@ -368,8 +575,11 @@ static const struct shown shown_partials[] = {
     {"1: an order without its last byte", BYTES("\x02\x02\x02\x00\x01\x00\x00\x01\x01\x07"), UNWEIGHED, FLORUMEJA_ENDS, FLORUMEJA_IN_TASK, 10, 0},
     {"1: an order ends inside a mark", BYTES("\x01\x02\x81"), UNWEIGHED, FLORUMEJA_ENDS, FLORUMEJA_IN_TASK, 2, 1},
     {"2: a size of 64 in an order", BYTES("\x01\x40"), UNWEIGHED, FLORUMEJA_LIMIT, FLORUMEJA_IN_TASK, 1, 1},
-    {"2: the built N is 4,159, at the last size", BYTES("\x02\x3f\x3e\x00"), UNWEIGHED, FLORUMEJA_LIMIT, FLORUMEJA_IN_TASK, 2, 1},
-    {"1: the built N is 4,094 and taken", BYTES("\x02\x3f\x3d"), UNWEIGHED, FLORUMEJA_ENDS, FLORUMEJA_IN_TASK, 3, 0},
+    {"2: the built N is 32,769, at the last size", BYTES("\x05\x35\x38\x39\x39\x39\x00"), UNWEIGHED, FLORUMEJA_LIMIT, FLORUMEJA_IN_TASK, 5, 1},
+    {"1: the built N is 32,768 and taken", BYTES("\x05\x35\x38\x38\x39\x3a"), UNWEIGHED, FLORUMEJA_ENDS, FLORUMEJA_IN_TASK, 6, 0},
+    {"1: the built N is 4,159 and taken", BYTES("\x02\x3f\x3e"), UNWEIGHED, FLORUMEJA_ENDS, FLORUMEJA_IN_TASK, 3, 0},
+    {"2: 16 of size 16, as in a bay of sixteen: the built N is 34,952", BYTES("\x10\x10\x10\x10\x10\x10\x10\x10\x10\x10\x10\x10\x10\x10\x10\x10\x10\x00"), UNWEIGHED, FLORUMEJA_LIMIT, FLORUMEJA_IN_TASK, 16, 1},
+    {"1: 15 of size 15, as in a bay of fifteen: the built N is 27,120", BYTES("\x0f\x0f\x0f\x0f\x0f\x0f\x0f\x0f\x0f\x0f\x0f\x0f\x0f\x0f\x0f\x0f"), UNWEIGHED, FLORUMEJA_ENDS, FLORUMEJA_IN_TASK, 16, 0},
     {"3: a mark of 2 in an order", BYTES("\x02\x02\x02\x01\x02"), UNWEIGHED, FLORUMEJA_RANGE, FLORUMEJA_IN_TASK, 4, 1},
     {"3: \"unknown\" as a goal value", BYTES("\x02\x02\x02\x00\x01\x00\x00\x02"), UNWEIGHED, FLORUMEJA_RANGE, FLORUMEJA_IN_TASK, 7, 1},
     {"4: a pair of an order twice", BYTES("\x02\x02\x02\x00\x01\x00\x00\x01\x02\x07\x07\x00"), UNWEIGHED, FLORUMEJA_UNORDERED, FLORUMEJA_IN_TASK, 10, 1},
@@ -377,15 +587,20 @@ static const struct shown shown_partials[] = {
     {"6: an order whose start holds the pair", BYTES("\x02\x02\x02\x00\x01\x01\x01\x01\x01\x07\x00"), BYTES(""), FLORUMEJA_HELD, FLORUMEJA_IN_TASK, 0, 0},
     {"7: the order of a task with an idle operator", BYTES("\x03\x02\x01\x02\x00\x01\x01\x01\x00\x01\x00\x01\x02\x05\x09\x01\x01\x00\x00\x01"), BYTES(""), FLORUMEJA_UNCLOSED, FLORUMEJA_IN_TASK, 0, 0},
     {"12: a mark in two bytes where one is enough", BYTES("\x02\x02\x02\x80\x00"), UNWEIGHED, FLORUMEJA_PADDED, FLORUMEJA_IN_TASK, 3, 2},
-    {"13: a goal value that does not end", BYTES("\x02\x02\x02\x00\x01\x00\x00\x81\x81\x01"), UNWEIGHED, FLORUMEJA_ENDLESS, FLORUMEJA_IN_TASK, 7, 2},
+    {"12: a mark in three bytes", BYTES("\x02\x02\x02\x81\x80\x00"), UNWEIGHED, FLORUMEJA_PADDED, FLORUMEJA_IN_TASK, 3, 3},
+    {"3: a mark of 16,385", BYTES("\x02\x02\x02\x81\x80\x01"), UNWEIGHED, FLORUMEJA_RANGE, FLORUMEJA_IN_TASK, 3, 3},
+    {"13: a goal value that does not end", BYTES("\x02\x02\x02\x00\x01\x00\x00\x81\x81\x81\x01"), UNWEIGHED, FLORUMEJA_ENDLESS, FLORUMEJA_IN_TASK, 7, 3},
     {"1 in the weights of an order", ORDER, BYTES(""), FLORUMEJA_ENDS, FLORUMEJA_IN_WEIGHTS, 0, 0},
     {"3 in the weights of an order: feature 15", ORDER, BYTES("\x02\x0e\x0f"), FLORUMEJA_RANGE, FLORUMEJA_IN_WEIGHTS, 2, 1},
     {"4 in the weights of an order", ORDER, BYTES("\x02\x0e\x0e"), FLORUMEJA_UNORDERED, FLORUMEJA_IN_WEIGHTS, 2, 1},
     {"12 in the weights of an order", ORDER, BYTES("\x80\x00"), FLORUMEJA_PADDED, FLORUMEJA_IN_WEIGHTS, 0, 2},
-    {"13 in the weights of an order", ORDER, BYTES("\x01\xff\xff"), FLORUMEJA_ENDLESS, FLORUMEJA_IN_WEIGHTS, 1, 2},
+    {"3 in the weights of an order: feature 16,384", ORDER, BYTES("\x01\x80\x80\x01"), FLORUMEJA_RANGE, FLORUMEJA_IN_WEIGHTS, 1, 3},
+    {"13 in the weights of an order", ORDER, BYTES("\x01\xff\xff\xff"), FLORUMEJA_ENDLESS, FLORUMEJA_IN_WEIGHTS, 1, 3},
 };
 
-/* Rows, columns, the start's labels, the goal's. */
+/* Rows, columns, the start's labels, the goal's. Four by four, start and goal alike, without the last label, which is 15. */
+#define SIXTEEN "\x04\x04" "\x00\x01\x02\x03\x04\x05\x06\x07\x08\x09\x0a\x0b\x0c\x0d\x0e\x0f" "\x00\x01\x02\x03\x04\x05\x06\x07\x08\x09\x0a\x0b\x0c\x0d\x0e"
+
 static const struct shown shown_bays[] = {
     {"nothing at fault in a bay", BYTES("\x01\x02\x00\x01\x01\x00"), BYTES(""), 0, FLORUMEJA_IN_TASK, 0, 0},
     {"1: a bay of no bytes", BYTES(""), BYTES(""), FLORUMEJA_ENDS, FLORUMEJA_IN_TASK, 0, 0},
@@ -394,13 +609,24 @@ static const struct shown shown_bays[] = {
     {"2: ten rows", BYTES("\x0a\x01"), BYTES(""), FLORUMEJA_LIMIT, FLORUMEJA_IN_TASK, 0, 1},
     {"2: 129 columns, in two bytes", BYTES("\x01\x81\x01"), BYTES(""), FLORUMEJA_LIMIT, FLORUMEJA_IN_TASK, 1, 2},
     {"2: one slot, at the columns", BYTES("\x01\x01\x00"), BYTES(""), FLORUMEJA_LIMIT, FLORUMEJA_IN_TASK, 1, 1},
-    {"2: ten slots, at the columns", BYTES("\x05\x02\x00"), BYTES(""), FLORUMEJA_LIMIT, FLORUMEJA_IN_TASK, 1, 1},
+    {"2: ten columns", BYTES("\x01\x0a\x00"), BYTES(""), FLORUMEJA_LIMIT, FLORUMEJA_IN_TASK, 1, 1},
+    {"2: 16,386 columns, in three bytes", BYTES("\x01\x82\x80\x01"), BYTES(""), FLORUMEJA_LIMIT, FLORUMEJA_IN_TASK, 1, 3},
+    {"2: eighteen slots, at the columns", BYTES("\x02\x09\x00"), BYTES(""), FLORUMEJA_LIMIT, FLORUMEJA_IN_TASK, 1, 1},
+    {"1: ten slots are taken", BYTES("\x05\x02"), BYTES(""), FLORUMEJA_ENDS, FLORUMEJA_IN_TASK, 2, 0},
+    {"1: sixteen slots are taken", BYTES("\x02\x08"), BYTES(""), FLORUMEJA_ENDS, FLORUMEJA_IN_TASK, 2, 0},
+    {"nothing at fault in a bay of sixteen", BYTES(SIXTEEN "\x0f"), BYTES(""), 0, FLORUMEJA_IN_TASK, 0, 0},
+    {"1: the last label of sixteen is missing", BYTES(SIXTEEN), BYTES(""), FLORUMEJA_ENDS, FLORUMEJA_IN_TASK, 33, 0},
+    {"3: the last label of sixteen is 16", BYTES(SIXTEEN "\x10"), BYTES(""), FLORUMEJA_RANGE, FLORUMEJA_IN_TASK, 33, 1},
+    {"5: a label too many in a bay of sixteen", BYTES(SIXTEEN "\x0f\x00"), BYTES(""), FLORUMEJA_LEFT_OVER, FLORUMEJA_IN_TASK, 0, 0},
+    {"11: the last label of sixteen is another one's", BYTES(SIXTEEN "\x0e"), BYTES(""), FLORUMEJA_UNEQUAL, FLORUMEJA_IN_TASK, 0, 0},
     {"3: label 2 of two", BYTES("\x01\x02\x00\x02"), BYTES(""), FLORUMEJA_RANGE, FLORUMEJA_IN_TASK, 3, 1},
     {"5: a label too many", BYTES("\x01\x02\x00\x01\x01\x00\x00"), BYTES(""), FLORUMEJA_LEFT_OVER, FLORUMEJA_IN_TASK, 0, 0},
     {"10: two gaps", BYTES("\x01\x02\x00\x00\x01\x00"), BYTES(""), FLORUMEJA_GAPS, FLORUMEJA_IN_TASK, 0, 0},
     {"11: unequal lots", BYTES("\x01\x03\x00\x01\x01\x00\x01\x02"), BYTES(""), FLORUMEJA_UNEQUAL, FLORUMEJA_IN_TASK, 0, 0},
     {"12: rows in two bytes where one is enough", BYTES("\x81\x00\x02"), BYTES(""), FLORUMEJA_PADDED, FLORUMEJA_IN_TASK, 0, 2},
-    {"13: columns that do not end", BYTES("\x01\x82\x80\x01"), BYTES(""), FLORUMEJA_ENDLESS, FLORUMEJA_IN_TASK, 1, 2},
+    {"12: rows in three bytes", BYTES("\x81\x80\x00\x02"), BYTES(""), FLORUMEJA_PADDED, FLORUMEJA_IN_TASK, 0, 3},
+    {"1: columns end before their third byte", BYTES("\x01\x82\x80"), BYTES(""), FLORUMEJA_ENDS, FLORUMEJA_IN_TASK, 1, 2},
+    {"13: columns that do not end", BYTES("\x01\x82\x80\x80\x01"), BYTES(""), FLORUMEJA_ENDLESS, FLORUMEJA_IN_TASK, 1, 3},
 };
 
 enum kind { TASKS, PARTIALS, BAYS };
@@ -426,7 +652,7 @@ static uint64_t displayed(enum kind kind, const uint8_t *first, size_t first_len
 /* Shows each of some files, in rooms of none to three words with a word in front and words behind that stay. */
 static void displays_of(enum kind kind, const struct shown *files, size_t count) {
     const uint64_t nines[] = {9, 9, 9, 9, 9};
-    uint8_t first[32], weights[8];
+    uint8_t first[40], weights[8];
     size_t i, words;
     for (i = 0; i < count; i++) {
         const struct shown *file = &files[i];
@@ -458,72 +684,161 @@ static void displays(void) {
 
 /* A size of a task, a mark of an order and the columns of a bay that are badly formed are so for every call that reads the file. */
 static void badly_formed(void) {
-    static const uint8_t tasks[][3] = {{1, 0x82, 0}, {1, 0x82, 0x82}}, orders[][4] = {{1, 2, 0x81, 0}, {1, 2, 0x81, 0x81}}, bays[][3] = {{1, 0x82, 0}, {1, 0x82, 0x82}};
-    static const uint32_t numbers[] = {FLORUMEJA_PADDED, FLORUMEJA_ENDLESS};
-    static const char *const lines[] = {"refused 12 at 1\n", "refused 13 at 1\n"};
+    static const uint8_t tasks[][4] = {{1, 0x82, 0, 9}, {1, 0x82, 0x80, 0}, {1, 0x82, 0x82, 0x82}}, orders[][5] = {{1, 2, 0x81, 0, 9}, {1, 2, 0x81, 0x80, 0}, {1, 2, 0x81, 0x81, 0x81}};
+    static const uint8_t bays[][4] = {{1, 0x82, 0, 9}, {1, 0x82, 0x80, 0}, {1, 0x82, 0x82, 0x82}};
+    static const uint32_t numbers[] = {FLORUMEJA_PADDED, FLORUMEJA_PADDED, FLORUMEJA_ENDLESS};
+    static const char *const names[] = {"refused 12 at its second byte", "refused 12 at its third byte", "refused 13"};
+    static const char *const lines[] = {"refused 12 at 1\n", "refused 12 at 1\n", "refused 13 at 1\n"};
     const uint8_t marks[] = {1}, none[] = {0};
     uint8_t bytes[64];
     uint64_t words[64];
     size_t i;
-    for (i = 0; i < 2; i++) {
+    for (i = 0; i < COUNT(numbers); i++) {
         const uint8_t *task = tasks[i], *order = orders[i], *bay = bays[i];
-        const char *name = i == 0 ? "refused 12" : "refused 13";
+        const char *name = names[i];
         uint32_t number = numbers[i];
-        expect_of(refused(florumeja_check(task, 3, none, 1), number), "check: ", name);
-        expect_of(refused(florumeja_open(task, 3, words, 64), number), "open: ", name);
-        expect_of(is(florumeja_line(task, 3, bytes, 64), FLORUMEJA_DONE, 16) && memcmp(bytes, lines[i], 16) == 0, "line: ", name);
-        expect_of(refused(florumeja_silence(task, 3, marks, 1, bytes, 64), number), "silence: ", name);
-        expect_of(refused(florumeja_mend(task, 3, bytes, 64), number), "mend: ", name);
-        expect_of(refused(florumeja_dropped(task, 3, bytes, 64), number), "dropped: ", name);
-        expect_of(refused(florumeja_pair_fault(task, 3, words, 64), number), "pair_fault: ", name);
-        expect_of(refused(florumeja_open_partial(order, 4, words, 64), number), "open_partial: ", name);
-        expect_of(refused(florumeja_check_partial(order, 4, none, 1), number), "check_partial: ", name);
-        expect_of(refused(florumeja_build_partial(order, 4, bytes, 64), number), "build_partial: ", name);
-        expect_of(refused(florumeja_build_partial_lean(order, 4, bytes, 64), number), "build_partial_lean: ", name);
-        expect_of(refused(florumeja_build(bay, 3, bytes, 64), number), "build: ", name);
+        expect_of(refused(florumeja_check(task, 4, none, 1), number), "check: ", name);
+        expect_of(refused(florumeja_open(task, 4, words, 64), number), "open: ", name);
+        expect_of(is(florumeja_line(task, 4, bytes, 64), FLORUMEJA_DONE, 16) && memcmp(bytes, lines[i], 16) == 0, "line: ", name);
+        expect_of(refused(florumeja_silence(task, 4, marks, 1, bytes, 64), number), "silence: ", name);
+        expect_of(refused(florumeja_mend(task, 4, bytes, 64), number), "mend: ", name);
+        expect_of(refused(florumeja_dropped(task, 4, bytes, 64), number), "dropped: ", name);
+        expect_of(refused(florumeja_pair_fault(task, 4, words, 64), number), "pair_fault: ", name);
+        expect_of(refused(florumeja_open_partial(order, 5, words, 64), number), "open_partial: ", name);
+        expect_of(refused(florumeja_check_partial(order, 5, none, 1), number), "check_partial: ", name);
+        expect_of(refused(florumeja_build_partial(order, 5, bytes, 64), number), "build_partial: ", name);
+        expect_of(refused(florumeja_build_partial_lean(order, 5, bytes, 64), number), "build_partial_lean: ", name);
+        expect_of(refused(florumeja_build(bay, 4, bytes, 64), number), "build: ", name);
     }
 }
 
-/* An order with one silent variable of one value and as many operators as a file can count: with the one that forgets there is one too many. That is judged
- * after 5, so a byte left over comes first, and neither has a place. */
-static void too_many_operators(void) {
-    static uint8_t order[7 + 16383 * 4 + 1];
-    static const uint8_t head[] = {1, 1, 0, 0, 0, 0xff, 0x7f}, still[] = {1, 0, 0, 0}, none[] = {0};
-    const uint64_t nowhere[] = {0, 0, 9};
-    uint64_t room[] = {9, 9, 9};
+/* An order with one silent variable of one value and so many operators that do nothing; answers its length. */
+static size_t still_order(uint8_t *order, size_t count) {
+    static const uint8_t head[] = {1, 1, 0, 0, 0}, still[] = {1, 0, 0, 0};
+    uint8_t *at = put(order + sizeof head, count);
     size_t i;
     memcpy(order, head, sizeof head);
-    for (i = 0; i < 16383; i++) memcpy(order + sizeof head + 4 * i, still, 4);
-    expect(refused(florumeja_check_partial(order, sizeof order - 1, none, 1), FLORUMEJA_LIMIT), "16,384 operators: refused 2");
-    expect(is(florumeja_display_partial(order, sizeof order - 1, none, 0, room, 2), FLORUMEJA_IN_TASK, 0) && SAME(room, nowhere), "a 2 that is judged after 5 has no place");
-    expect(refused(florumeja_check_partial(order, sizeof order, none, 1), FLORUMEJA_LEFT_OVER), "and a byte left over: refused 5");
+    for (i = 0; i < count; i++, at += 4) memcpy(at, still, 4);
+    return (size_t)(at - order);
 }
 
-/* 64 variables of one value and as many operators of 64 entries as a file can count: 1 + 3 * 64 + 1 + 2 bytes, and 193 for each operator. The last number is badly
- * formed, in two bytes; its line is as long as any that occurs. */
+/* With the one that forgets, as many operators as a file can count are one too many. That is judged after 5, so a byte left over comes first, and neither has a
+ * place. With one less the order is taken, and no weights leave its ends alike. */
+static void too_many_operators(void) {
+    static uint8_t order[8 + MOST_COUNTED * 4 + 1];
+    const uint8_t none[] = {0};
+    const uint64_t nowhere[] = {0, 0, 9};
+    uint64_t room[] = {9, 9, 9};
+    size_t length = still_order(order, MOST_COUNTED - 1);
+    expect(is(florumeja_check_partial(order, length, none, 1), FLORUMEJA_ENDS_ALIKE, 0), "2,097,151 operators are taken");
+    length = still_order(order, MOST_COUNTED);
+    expect(length == sizeof order - 1, "an order with as many operators as a file can count");
+    expect(refused(florumeja_check_partial(order, length, none, 1), FLORUMEJA_LIMIT), "2,097,152 operators: refused 2");
+    expect(is(florumeja_display_partial(order, length, none, 0, room, 2), FLORUMEJA_IN_TASK, 0) && SAME(room, nowhere), "a 2 that is judged after 5 has no place");
+    order[length] = 0;
+    expect(refused(florumeja_check_partial(order, length + 1, none, 1), FLORUMEJA_LEFT_OVER), "and a byte left over: refused 5");
+}
+
+/* 16,383 operators and the one that forgets: the count takes a third byte. */
+static void third_byte_of_a_count(void) {
+    static uint8_t order[7 + 16383 * 4], room[sizeof order + FLORUMEJA_BUILT_MORE];
+    static const uint8_t head[] = {1, 2, 0, 1, 0, 0x80, 0x80, 1, 1, 0, 0, 0}, tail[] = {1, 0, 0, 0, 1, 0, 0, 1, 7};
+    size_t length = still_order(order, 16383);
+    expect(length == sizeof order, "an order with 16,383 operators");
+    memset(room, 7, sizeof room);
+    expect(refused(florumeja_build_partial(order, length, room, 65543), FLORUMEJA_SMALL) && room[0] == 7, "65,543 bytes are too few for 16,384 operators");
+    expect(is(florumeja_build_partial(order, length, room, sizeof room), FLORUMEJA_DONE, 8 + 4 * 16384), "16,384 operators are built");
+    expect(SAME(room, head) && SAME(room + 8 + 4 * 16382, tail), "with their count in three bytes, and the one that forgets behind");
+}
+
+/* 64 variables of one value and operators of 64 entries, 193 bytes each, behind 1 + 3 * 64 + 1 + 3 bytes: of as many as a file can count so many stand there that the
+ * next number is past place 99,999,999. It is badly formed, and its line is as long as any that occurs. */
 static void farthest_place(void) {
-    enum { FIRST = 1 + 3 * 64 + 1 + 2, MANY = 1 + 64 * 3, PLACE = FIRST + 16383 * MANY - 1 };
-    static uint8_t task[PLACE + 2];
+    enum { FIRST = 1 + 3 * 64 + 1 + 3, MANY = 1 + 64 * 3, STAND = 518135, PLACE = FIRST + STAND * MANY };
+    uint8_t *task = (uint8_t *)calloc(PLACE + 2, 1);
     const uint8_t none[] = {0};
     const uint64_t part[] = {PLACE, 2, 9};
     uint64_t words[] = {9, 9, 9};
     uint8_t room[FLORUMEJA_VERDICT_BYTES];
     size_t i, j;
+    expect(task != NULL, "100 MB for a task");
+    if (task == NULL) return;
     task[0] = 64;
     memset(task + 1, 1, 64);
-    task[FIRST - 2] = 0xff;
-    task[FIRST - 1] = 0x7f;
-    for (i = 0; i < 16383; i++) {
+    put(task + FIRST - 3, MOST_COUNTED);
+    for (i = 0; i < STAND; i++) {
         task[FIRST + i * MANY] = 64;
         for (j = 0; j < 64; j++) task[FIRST + i * MANY + 1 + 3 * j] = (uint8_t)j;
     }
     task[PLACE] = 0x80;
     memset(room, 7, sizeof room);
-    expect(is(florumeja_check_line(task, sizeof task, none, 1, room, sizeof room), FLORUMEJA_DONE, 30) && memcmp(room, "refused 12 at 3162114 in task\n\7", 31) == 0, "the last number of the longest operators");
-    expect(refused(florumeja_check_line(task, sizeof task, none, 1, room, 29), FLORUMEJA_SMALL), "a byte too few for that line");
-    expect(is(florumeja_display(task, sizeof task, none, 1, words, 3), FLORUMEJA_IN_TASK, 0) && SAME(words, part), "that number is shown");
-    task[PLACE] = 0;
-    expect(is(florumeja_check(task, PLACE + 1, none, 1), FLORUMEJA_ENDS_ALIKE, 0), "with a last number of 0 the task is taken");
+    expect(is(florumeja_check_line(task, PLACE + 2, none, 1, room, sizeof room), FLORUMEJA_DONE, 32) && memcmp(room, "refused 12 at 100000252 in task\n\7", 33) == 0, "a number past 100,000,000 bytes");
+    expect(refused(florumeja_check_line(task, PLACE + 2, none, 1, room, 31), FLORUMEJA_SMALL), "a byte too few for that line");
+    expect(is(florumeja_display(task, PLACE + 2, none, 1, words, 3), FLORUMEJA_IN_TASK, 0) && SAME(words, part), "that number is shown");
+    free(task);
+}
+
+/* 64 variables of one value and 16,384 operators of 64 entries: all of them are read, and the ends are one state. */
+static void longest_operators(void) {
+    enum { FIRST = 1 + 3 * 64 + 1 + 3, MANY = 1 + 64 * 3, LENGTH = FIRST + 16384 * MANY };
+    static uint8_t task[LENGTH];
+    const uint8_t none[] = {0};
+    size_t i, j;
+    task[0] = 64;
+    memset(task + 1, 1, 64);
+    put(task + FIRST - 3, 16384);
+    for (i = 0; i < 16384; i++) {
+        task[FIRST + i * MANY] = 64;
+        for (j = 0; j < 64; j++) task[FIRST + i * MANY + 1 + 3 * j] = (uint8_t)j;
+    }
+    expect(is(florumeja_check(task, LENGTH, none, 1), FLORUMEJA_ENDS_ALIKE, 0), "16,384 operators of 64 entries are taken");
+    expect(refused(florumeja_check(task, LENGTH - 1, none, 1), FLORUMEJA_ENDS), "without the last byte: refused 1");
+    task[LENGTH - 1] = 1;
+    expect(refused(florumeja_check(task, LENGTH, none, 1), FLORUMEJA_RANGE), "with a last value that equals its size: refused 3");
+}
+
+/* The weights by which the fifteen puzzle is known to be impossible: where the gap is in the second or fourth row, if so asked, and each two pallets of which the
+ * higher label comes first. A pallet that moves by a row passes three others. Answers the file's length. */
+static size_t known_weights(uint8_t *weights, int with_rows) {
+    uint8_t *at = put(weights, 120 * 105 + (with_rows ? 8 : 0));
+    size_t slot, block, x, y;
+    for (slot = 0; with_rows && slot < 16; slot++) {
+        if (slot / 4 % 2 == 1) at = put(at, 16 * slot);
+    }
+    for (block = 0; block < 120; block++) {
+        for (x = 2; x < 16; x++) {
+            for (y = 1; y < x; y++) at = put(at, 256 + 256 * block + 16 * x + y);
+        }
+    }
+    return (size_t)(at - weights);
+}
+
+/* The fifteen puzzle with 14 and 15 exchanged: 16 variables, 30,976 features in 484 words, so 1 + 3 * 16 + 484 * 30,977 words. Operators 0 to 14 move a pallet from slot 1
+ * to slot 0, and 15 is the first that moves one by a row. */
+static void fifteen(void) {
+    static const uint8_t bay[] = {4, 4, 1, 2, 3, 4, 5, 6, 7, 8, 9, 10, 11, 12, 13, 14, 15, 0, 1, 2, 3, 4, 5, 6, 7, 8, 9, 10, 11, 12, 13, 15, 14, 0};
+    static uint8_t task[FLORUMEJA_BAY_BYTES], weights[FLORUMEJA_WEIGHT_BYTES];
+    const uint8_t marks[] = {1, 1, 1, 1, 1, 1, 1, 1, 1, 1, 1, 1, 1, 1, 1, 1};
+    const size_t due = 14992917;
+    uint64_t *words = (uint64_t *)malloc(due * sizeof *words), found[484];
+    uint64_t answer;
+    size_t length;
+    expect(words != NULL, "120 MB for a workspace");
+    if (words == NULL) return;
+    expect(is(florumeja_build(bay, sizeof bay, task, sizeof task), FLORUMEJA_DONE, FLORUMEJA_BAY_BYTES), "the fifteen puzzle is built");
+    length = known_weights(weights, 1);
+    expect(is(florumeja_check(task, sizeof task, weights, length), FLORUMEJA_DONE, 0), "the fifteen puzzle: its known weights are accepted");
+    length = known_weights(weights, 0);
+    expect(is(florumeja_check(task, sizeof task, weights, length), FLORUMEJA_OPERATOR, 15), "without the gap's rows: operator 15");
+    expect(refused(florumeja_open(task, sizeof task, words, due - 1), FLORUMEJA_SMALL), "a word too few for the fifteen puzzle");
+    expect(is(florumeja_open(task, sizeof task, words, due), FLORUMEJA_DONE, (uint32_t)due), "the fifteen puzzle is opened");
+    expect(refused(florumeja_find(words, due, found, 483), FLORUMEJA_SMALL), "483 words are too few for its weights");
+    expect(is(florumeja_find(words, due, found, 484), FLORUMEJA_DONE, 0), "the fifteen puzzle is separated");
+    answer = florumeja_weight_file(found, 484, weights, sizeof weights);
+    expect(florumeja_case(answer) == FLORUMEJA_DONE, "what was found is a weight file");
+    expect(is(florumeja_check(task, sizeof task, weights, florumeja_value(answer)), FLORUMEJA_DONE, 0), "what was found is accepted");
+    expect(refused(florumeja_silence(task, sizeof task, marks, 16, weights, sizeof weights), FLORUMEJA_LIMIT), "it has no partial file: refused 2");
+    free(words);
 }
 
 int main(void) {
@@ -532,19 +847,25 @@ int main(void) {
     last_operator();
     open_and_find();
     edits();
+    bay_sizes();
     builds_and_lines();
     weight_files();
+    most_features();
     partial_builds();
     partial_workspaces();
     partial_checks();
     silences();
+    built_lengths();
     mends();
     drops();
     pair_faults();
     displays();
     badly_formed();
     too_many_operators();
+    third_byte_of_a_count();
+    longest_operators();
     farthest_place();
+    fifteen();
     printf("%d passed, %d failed\n", passed, failed);
     return failed != 0;
 }

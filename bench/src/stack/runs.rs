@@ -41,20 +41,21 @@ faces! {
     florumeja_weight_file
 }
 
-/// Room in words and in bytes that is never too small for the inputs here.
-const WORDS: usize = 262_401;
-const BYTES: usize = 1 << 16;
+/// Room in words and in bytes that is never too small for the inputs here, and for what is found.
+const WORDS: usize = 16_777_921;
+const BYTES: usize = 1 << 17;
+const FOUND: usize = 512;
 
-/// Weights that are refused whatever the task is: one feature, 16,383.
-const PAST_ALL: [u8; 3] = [1, 0xff, 0x7f];
+/// Weights that are refused whatever the task is: one feature, 2,097,151.
+const PAST_ALL: [u8; 4] = [1, 0xff, 0xff, 0x7f];
 
-/// A bay file that is refused for the number that is read deepest: the second byte of its rows says that more follows.
-const ENDLESS: [u8; 2] = [0x80, 0x80];
+/// A bay file that is refused for the number that is read deepest: the third byte of its rows says that more follows.
+const ENDLESS: [u8; 3] = [0x80, 0x80, 0x80];
 
 /// The most bytes that each call took.
 pub fn deepest() -> HashMap<&'static str, usize> {
     let mut runs = Runs::default();
-    runs.bay(&bays::bay_file(3, 3));
+    runs.bay(&bays::bay_file(4, 4));
     for case in tasks::cases() {
         eprintln!("{} ..", case.name);
         runs.task(&case.file);
@@ -69,6 +70,14 @@ fn part<T>(slice: &[T]) -> [u64; 2] {
 
 fn lent<T>(slice: &mut [T]) -> [u64; 2] {
     [slice.as_mut_ptr() as u64, slice.len() as u64]
+}
+
+/// Weights of an order whose ends differ, so that its operators are weighed: the start's value of the first variable, which is silent.
+fn first_value(order: &[u8]) -> Vec<u8> {
+    match order {
+        [variables, rest @ ..] => vec![1, rest[2 * usize::from(*variables)]],
+        [] => vec![0],
+    }
 }
 
 #[derive(Default)]
@@ -105,9 +114,10 @@ impl Runs {
     }
 
     fn bay(&mut self, file: &[u8]) {
-        self.written("florumeja_build", &[part(file)]);
-        self.words("florumeja_display_bay", &[part(file)], 2);
-        self.words("florumeja_display_bay", &[part(&ENDLESS)], 2);
+        for file in [file, &ENDLESS] {
+            self.written("florumeja_build", &[part(file)]);
+            self.words("florumeja_display_bay", &[part(file)], 2);
+        }
     }
 
     fn task(&mut self, file: &[u8]) {
@@ -130,7 +140,8 @@ impl Runs {
     fn order(&mut self, file: &[u8]) {
         self.written("florumeja_build_partial", &[part(file)]);
         self.written("florumeja_build_partial_lean", &[part(file)]);
-        let weights = self.workspace("florumeja_open_partial", file);
+        self.workspace("florumeja_open_partial", file);
+        let weights = first_value(file);
         self.run(
             "florumeja_check_partial",
             &[part(file), part(&weights)].concat(),
@@ -149,7 +160,7 @@ impl Runs {
             return vec![0];
         };
         workspace.truncate(due);
-        let (_, found) = self.words("florumeja_find", &[part(&workspace)], 64);
+        let (_, found) = self.words("florumeja_find", &[part(&workspace)], FOUND);
         let weights = self.written("florumeja_weight_file", &[part(&found)]);
         let variables = workspace[0] as usize;
         let start = workspace[1 + variables..][..variables].to_vec();

@@ -24,7 +24,7 @@ pub const MOST_SLOTS: usize = 16;
 pub const MOST_FEATURES: usize = 32768;
 
 // "W = N/64 rounded up", for the most features.
-pub const MOST_WORDS: usize = 512;
+pub const MOST_WORDS: usize = MOST_FEATURES / 64;
 
 // As many words as the atoms of the most variables, each of the most values, fill.
 pub const ATOM_WORDS: usize = 64;

@@ -44,6 +44,9 @@ const GROUP: usize = 128;
 // How many groups a number has at most.
 const MOST_GROUPS: usize = 3;
 
+// The first number that these groups cannot hold: "to 2,097,151".
+pub const NUMBER_END: usize = GROUP * GROUP * GROUP;
+
 // The paper's number for a reason.
 pub fn refusal(reason: Reason) -> u64
     ensures { λ r. ⌜ r ≡ refusalNumber (reasonOf reason) ⌝ }

@@ -14,13 +14,11 @@ ghost use Rattle.order.specs.Answer.{PartialInto};
 ghost use Rattle.order.specs.Last.{lastOf};
 ghost use Rattle.order.specs.Whole.{Whole};
 use limits::HEADER_WORDS;
+use number::NUMBER_END;
 use number::Number;
 use number::Reason;
 use number::Step;
 use reader::Header;
-
-// The first number that a file cannot hold: "to 2,097,151".
-const NUMBER_END: usize = 2097152;
 
 // What a partial task file is judged to be: accepted, with how many variables and features the built task has, how many operators the file has and
 // how many forgetting ones are kept, and the place of the first operator; or the first fault.

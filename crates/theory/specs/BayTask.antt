@@ -205,7 +205,7 @@ bay-writable n near start goal h k apart S G = record {
 
 -- ---- what an accepted bay file says
 
--- A bay that keeps every rule that is judged while it is read: "Rows and columns are each 1 to 9; rows times columns, n, is 2 to 9", "labels run
+-- A bay that keeps every rule that is judged while it is read: "Rows and columns are each 1 to 9; rows times columns, n, is 2" to 16, "labels run
 -- from 0 to n-1".
 pub record ReadableBay (b : Bay) : Type 0 where
   pub rows-limit : (leastSide ≤ b .rows) × (b .rows ≤ mostSide)

@@ -1,11 +1,11 @@
--- The numbers of the checker's answers are short, and every line of it fits into so many bytes.
+-- The numbers of the checker's answers are short, every line of it fits into so many bytes, and every weight file that gets a verdict is short enough for the program.
 use Prim.Native.Nat.{ℕ, _^_, _<_, _≤_}
-use mathlib.Core.Path.{_≡_}
+use mathlib.Core.Path.{_≡_, ap}
 use mathlib.Core.Bool.{Bool, true, false, cond}
 use mathlib.Core.List.{List, [], _∷_}
 use native.Mathlib.Omega.{arith}
 use lib.ListN.{length, length-append}
-use Rattle.meaning.specs.Limits.{numberEnd}
+use Rattle.meaning.specs.Limits.{numberEnd, mostWeights}
 use Rattle.meaning.specs.Sets.{Set, listed}
 use Rattle.meaning.specs.Task.{Task}
 use Rattle.meaning.specs.Feature.{features}
@@ -16,6 +16,8 @@ use Rattle.meaning.specs.Place.{Spot, nowhere}
 use Rattle.meaning.specs.Line.{word, fileText, refusedLine, tooLong, ChecksFiles, checkedSpot, filesSpot, verdictLine}
 use Rattle.theory.specs.Accepted as theory
 use Rattle.theory.specs.Shown.{spot-within}
+use Rattle.theory.specs.Spent.{Bytes}
+use Rattle.writer.specs.Longest.{pairs-few}
 use Rattle.decimal.specs.Decimal.{word-few}
 use Rattle.text.specs.Allowed.{is-good, read-good}
 use Rattle.text.specs.Answer.{line-of-written}
@@ -93,3 +95,32 @@ module _ (task weights : List ℕ) (few : length task < 10 ^ placeDigits) (few�
       → (answer : Answer Verdict) × ChecksFiles task weights answer
       × (outcome ≡ writes (length (verdictLine (filesSpot task weights) answer)) (verdictLine (filesSpot task weights) answer) room)
   file-lines-written room = line-of-written (ChecksFiles task weights) (verdictLine (filesSpot task weights)) room verdictBytes files-few
+
+-- ---- the program's limit on weights
+
+-- A verdict has weights that are not too long; a refusal may have any.
+abbrev NotTooLong : List ℕ → Answer Verdict → Type 0
+NotTooLong weights (done v) = length weights ≤ mostWeights
+NotTooLong weights (refused number) = Unit {0}
+
+weights-short : (task weights : List ℕ) → Bytes weights → (answer : Answer Verdict) → Checks task weights answer → NotTooLong weights answer
+weights-short task weights bytes =
+    let bad : Reason → Answer Verdict = λ reason. refused (refusal reason) in
+    read-good (NotTooLong weights) (judgedTask task) _ bad
+    (λ T next e. read-good (NotTooLong weights) (judgedWeights (features (T .sizes)) weights) _ bad
+    (λ ws end e' answer h. is-good (NotTooLong weights) (done (h .0)) (short T next e ws end e') answer (h .1))
+    (λ reason. tt))
+    (λ reason. tt)
+  where
+    short : (T : Task) (next : ℕ) → judgedTask task ≡ got T next → (ws : List ℕ) (end : ℕ) → judgedWeights (features (T .sizes)) weights ≡ got ws end → length weights ≤ mostWeights
+    short T next e ws end e' =
+        let n = features (T .sizes) in
+        omega (
+          arith,
+          ap length (theory.weights-bytes weights n ws end e' bytes),
+          pairs-few 0 n ws (theory.accepted task T next e .acceptable .limits .total) (theory.weights-accepted weights n ws end e'),
+        )
+
+-- So the limit takes no verdict away.
+pub weights-taken : (task weights : List ℕ) → Bytes weights → (v : Verdict) → Checks task weights (done v) → length weights ≤ mostWeights
+weights-taken task weights bytes v = weights-short task weights bytes (done v)

@@ -34,7 +34,7 @@ operators-few : (sizes : List ℕ) (os : List Operator) → length sizes ≤ mos
 operators-few sizes os few is count =
     omega (arith, counted-length operatorBytes os, number-bytes-length (length os), bytes-few operatorBytes longestOperator os (λ o m. operator-few sizes o few (is o m)))
 
-pairs-few : (low high : ℕ) (pairs : List ℕ) → high ≤ mostFeatures → Run low pairs high → length (weightBytes pairs) ≤ mostGroups + mostGroups * mostFeatures
+pub pairs-few : (low high : ℕ) (pairs : List ℕ) → high ≤ mostFeatures → Run low pairs high → length (weightBytes pairs) ≤ mostGroups + mostGroups * mostFeatures
 unfolding weightBytes
 pairs-few low high pairs few r = omega (arith, list-few pairs, run-length low high pairs r)
 

@@ -5,6 +5,7 @@ use crate::library;
 use crate::tally::{answer, shown, Comparison, Outcome, Tally};
 use reference::bay::read_bay;
 use reference::calls;
+use reference::limits::BEFORE;
 use reference::places::{read_bay_file, read_both, read_both_partial, Fault, File, Part};
 use reference::workspace::Record;
 
@@ -264,11 +265,18 @@ impl Both<'_> {
         expected
     }
 
-    /// Good bays in which two pallets are alike are counted apart.
+    /// Good bays in which two pallets are alike are counted apart, and those of many slots.
     pub fn build(&mut self, bay: &[u8], room: &[u8]) -> Outcome<u8> {
-        let alike = read_bay(bay).is_ok_and(|bay| bay.has_alike());
+        let read = read_bay(bay);
+        let alike = read.as_ref().is_ok_and(|bay| bay.has_alike());
         let kind = if alike { "build_lots" } else { "build" };
-        self.filled(kind, ("bay", bay), room, calls::build, library::build)
+        let long = read.is_ok_and(|bay| bay.slots() > BEFORE.slots);
+        let words = |outcome: &Outcome<u8>| {
+            let slots = if long { " of many slots" } else { "" };
+            answer(outcome.number) + slots
+        };
+        let (reference, library) = (calls::build, library::build);
+        self.filled_in_words(kind, ("bay", bay), room, reference, library, words)
     }
 
     pub fn line(&mut self, input: &[u8], room: &[u8]) -> Outcome<u8> {

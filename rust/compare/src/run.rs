@@ -72,7 +72,7 @@ fn run_group(tally: &mut Tally, place: usize, plan: Plan) {
 fn places(plan: Plan) -> Vec<usize> {
     let mut places: Vec<usize> = (0..GROUPS.len()).collect();
     places.retain(|place| plan.choice.has(&GROUPS[*place]));
-    if plan.stop {
+    if plan.stop && plan.choice != Choice::Dear {
         // A case of a group that has many is soon run.
         places.sort_by_key(|place| Reverse(GROUPS[*place].cases));
     }

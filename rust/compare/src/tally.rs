@@ -1,6 +1,7 @@
 //! Counts of comparisons and differences, and how differences are shown.
 
 use crate::lent::Item;
+use reference::limits::BEFORE;
 use std::collections::BTreeMap;
 use std::fmt::Write;
 
@@ -32,13 +33,15 @@ pub const KINDS: [&str; 23] = [
 ];
 
 /// Answers that a run of all groups has to meet, or it says nothing of them.
-pub const DUE: [(&str, &[&str]); 21] = [
+pub const DUE: [(&str, &[&str]); 22] = [
     ("check", FORMS),
+    ("check", &["far operator"]),
     ("open", FORMS),
     (
         "build",
         &[
             "done",
+            "done of many slots",
             "refused 1",
             "refused 12",
             "refused 13",
@@ -46,11 +49,20 @@ pub const DUE: [(&str, &[&str]); 21] = [
             "refused 3",
             "refused 5",
             "refused 8",
+            "refused 8 of many slots",
             "refused 10",
             "refused 11",
         ],
     ),
-    ("build_lots", &["done", "refused 8"]),
+    (
+        "build_lots",
+        &[
+            "done",
+            "done of many slots",
+            "refused 8",
+            "refused 8 of many slots",
+        ],
+    ),
     (
         "line",
         &[
@@ -220,6 +232,7 @@ pub fn answer(number: u64) -> String {
         0 => "done".to_string(),
         1 => "alike or none".to_string(),
         2 if value == 0 => "first operator".to_string(),
+        2 if value > BEFORE.largest() as u64 => "far operator".to_string(),
         2 => "later operator".to_string(),
         3 => format!("refused {value}"),
         case => format!("case {case}"),

@@ -118,7 +118,7 @@ pub(crate) fn read_operators(
 
 fn read_operator(reader: &mut Reader, sizes: &[usize]) -> Result<Operator, Refusal> {
     let count = reader.number_within(&(1..sizes.len() + 1), Refusal::Range)?;
-    let mut entries: Vec<Entry> = Vec::new();
+    let mut entries: Vec<Entry> = Vec::with_capacity(count);
     for _ in 0..count {
         let variable = reader.number_within(&(0..sizes.len()), Refusal::Range)?;
         // Each number is judged as it is read, so the order comes before the values.

@@ -193,7 +193,7 @@ pub fn refusal_words(number: u32) -> String {
         10 => "a bay has no gap or more than one",
         11 => "start and goal do not hold each label equally often",
         12 => "a number is not in its shortest form",
-        13 => "the second byte of a number says that more follows",
+        13 => "the third byte of a number says that more follows",
         _ => "a number that this tool has no words for",
     };
     format!("refused {number}: {meaning}")

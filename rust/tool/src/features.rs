@@ -47,14 +47,15 @@ pub fn single_count(sizes: &[usize]) -> usize {
     sizes.iter().sum()
 }
 
-/// How many features such a task has in all; unlike a list of them, it can be had of any sizes.
+/// How many features such a task has in all; unlike a list of them, it can be had of any sizes, and
+/// sizes beyond all counting have the most that can be counted.
 pub fn count(sizes: &[usize]) -> usize {
-    let (mut before, mut pairs) = (0, 0);
-    for size in sizes {
-        pairs += before * size;
-        before += size;
+    let (mut before, mut pairs) = (0usize, 0usize);
+    for &size in sizes {
+        pairs = pairs.saturating_add(before.saturating_mul(size));
+        before = before.saturating_add(size);
     }
-    before + pairs
+    before.saturating_add(pairs)
 }
 
 /// All features of a task with these sizes, by number.
@@ -115,8 +116,11 @@ mod tests {
         let due = [
             (vec![2, 2], 8),
             (vec![64, 62], 4094),
+            (vec![64, 64, 64, 64, 30], 32_542),
             (vec![1; 64], 2080),
             (vec![9; 9], 2997),
+            (vec![16; 16], 30_976),
+            (vec![17; 16], 34_952),
             (vec![], 0),
         ];
         for (sizes, total) in due {
@@ -128,6 +132,7 @@ mod tests {
             assert_eq!((0..total).filter(single).count(), singles);
         }
         assert_eq!(count(&[16_383; 2]), 268_435_455);
+        assert_eq!(count(&[2_097_151; 2_000_000]), usize::MAX);
     }
 
     // Seven atoms, then the pairs of variables 0 and 1 (six), 0 and 2 (four), 1 and 2 (six).

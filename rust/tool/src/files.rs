@@ -12,9 +12,9 @@ use std::path::{Path, PathBuf};
 const STANDARD: &str = "-";
 /// Folders may hold other things too; bays are the files that end so.
 const BAY_ENDING: &str = "txt";
-/// No binary file of the rules comes near this length; a file without end must not fill the memory.
-const MOST_BYTES: u64 = 1 << 26;
-/// The same for the text of a bay, which has nine slots at most.
+/// No binary file of the rules is as long; a file without end must not fill the memory.
+const MOST_BYTES: u64 = 1 << 29;
+/// The same for the text of a bay, which has sixteen slots at most.
 const MOST_TEXT: u64 = 1 << 20;
 
 /// Reads a binary file, or standard input.

@@ -1,9 +1,10 @@
 //! The help texts, made from the table of commands.
 
-use crate::args::HELP;
+use crate::args::{Choice, HELP};
 use crate::commands::partial::{self, PARTIAL};
 use crate::commands::{Command, COMMANDS};
 use crate::place;
+use crate::progress::{self, PROGRESS};
 
 /// The help of the tool as a whole.
 pub fn tool() -> String {
@@ -47,12 +48,18 @@ pub fn command(command: &Command) -> String {
 }
 
 fn about(command: &Command) -> String {
-    let mut options = command.options.iter();
-    let partial = options.any(|choice| choice.long == PARTIAL.long);
-    let partial = partial.then_some(partial::ABOUT);
-    let place = command.binary.then_some(place::ABOUT);
-    let parts = [Some(command.about), partial, place].into_iter().flatten();
-    parts.collect::<Vec<_>>().join("\n\n")
+    let takes = |option: &Choice| {
+        let mut options = command.options.iter();
+        options.any(|choice| choice.long == option.long)
+    };
+    let parts = [
+        Some(command.about),
+        takes(&PARTIAL).then_some(partial::ABOUT),
+        command.binary.then_some(place::ABOUT),
+        takes(&PROGRESS).then_some(progress::ABOUT),
+    ];
+    let parts: Vec<&str> = parts.into_iter().flatten().collect();
+    parts.join("\n\n")
 }
 
 fn usage(command: &Command) -> String {

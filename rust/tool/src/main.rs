@@ -23,6 +23,7 @@ mod place;
 mod progress;
 mod question;
 mod report;
+mod sizes;
 mod words;
 
 use commands::{Command, COMMANDS};

@@ -1,16 +1,18 @@
 //! Numbers as the binary files hold them: groups of seven bits, low group first.
 
+/// A number has at most so many groups.
+const MOST_GROUPS: usize = 3;
 /// The largest number that a file can hold.
-pub const LARGEST: usize = 16_383;
+pub const LARGEST: usize = 2_097_151;
 
 /// Appends a number; one too large is written as the largest, which every range refuses as well.
 pub fn put(bytes: &mut Vec<u8>, number: usize) {
-    let number = number.min(LARGEST);
-    if number < 128 {
-        bytes.push(number as u8);
-    } else {
-        bytes.extend([(number % 128 + 128) as u8, (number / 128) as u8]);
+    let mut left = number.min(LARGEST);
+    while left >= 128 {
+        bytes.push((left % 128 + 128) as u8);
+        left /= 128;
     }
+    bytes.push(left as u8);
 }
 
 /// Appends a list: its count, and then its numbers.
@@ -34,16 +36,19 @@ pub enum Form {
 
 /// Reads what stands at the front of the bytes, and tells how many of them were read.
 pub fn read(bytes: &[u8]) -> (Form, usize) {
-    match *bytes {
-        [] => (Form::Ends, 0),
-        [low @ 0..=127, ..] => (Form::Number(usize::from(low)), 1),
-        [_] => (Form::Ends, 1),
-        [_, 0, ..] => (Form::Padded, 2),
-        [low, high @ 1..=127, ..] => {
-            let number = usize::from(low) + 128 * usize::from(high) - 128;
-            (Form::Number(number), 2)
+    let mut number = 0;
+    for (index, &byte) in bytes.iter().take(MOST_GROUPS).enumerate() {
+        number += usize::from(byte % 128) << (7 * index);
+        match byte {
+            0 if index > 0 => return (Form::Padded, index + 1),
+            0..=127 => return (Form::Number(number), index + 1),
+            // Another group follows.
+            128.. => {}
         }
-        [_, _, ..] => (Form::Endless, 2),
+    }
+    match bytes.len() < MOST_GROUPS {
+        true => (Form::Ends, bytes.len()),
+        false => (Form::Endless, MOST_GROUPS),
     }
 }
 
@@ -83,13 +88,17 @@ mod tests {
         assert_eq!(written(0), [0]);
         assert_eq!(written(127), [127]);
         assert_eq!(written(128), [0x80, 1]);
-        assert_eq!(written(LARGEST), [0xff, 0x7f]);
-        assert_eq!(written(usize::MAX), [0xff, 0x7f]);
+        assert_eq!(written(16_383), [0xff, 0x7f]);
+        assert_eq!(written(16_384), [0x80, 0x80, 1]);
+        // Feature 30,975, the last of a bay of sixteen slots: 127 + 128 * 113 + 16,384 * 1.
+        assert_eq!(written(30_975), [0xff, 0xf1, 1]);
+        assert_eq!(written(LARGEST), [0xff, 0xff, 0x7f]);
+        assert_eq!(written(usize::MAX), [0xff, 0xff, 0x7f]);
     }
 
     #[test]
     fn what_is_written_is_taken_again() {
-        let numbers = [0, 127, 128, 300, LARGEST];
+        let numbers = [0, 127, 128, 300, 16_383, 16_384, 30_975, LARGEST];
         let mut bytes = Vec::new();
         put_list(&mut bytes, &numbers);
         bytes.push(9);
@@ -100,16 +109,22 @@ mod tests {
 
     #[test]
     fn every_form_is_told_from_the_others() {
-        let due: [(&[u8], Form, usize); 9] = [
+        let due: [(&[u8], Form, usize); 15] = [
             (&[], Form::Ends, 0),
             (&[127, 9], Form::Number(127), 1),
             (&[0x80], Form::Ends, 1),
             (&[0x80, 0, 9], Form::Padded, 2),
             (&[0xff, 0], Form::Padded, 2),
             (&[0x80, 1, 9], Form::Number(128), 2),
-            (&[0xff, 0x7f], Form::Number(LARGEST), 2),
-            (&[0x80, 0x80], Form::Endless, 2),
-            (&[0xff, 0xff, 9], Form::Endless, 2),
+            (&[0xff, 0x7f, 9], Form::Number(16_383), 2),
+            (&[0x80, 0x80], Form::Ends, 2),
+            (&[0x80, 0x80, 0, 9], Form::Padded, 3),
+            (&[0xff, 0xff, 0], Form::Padded, 3),
+            (&[0x80, 0x80, 1, 9], Form::Number(16_384), 3),
+            (&[0x81, 0x82, 3], Form::Number(1 + 2 * 128 + 3 * 16_384), 3),
+            (&[0xff, 0xff, 0x7f], Form::Number(LARGEST), 3),
+            (&[0x80, 0x80, 0x80], Form::Endless, 3),
+            (&[0xff, 0xff, 0xff, 9], Form::Endless, 3),
         ];
         for (bytes, form, length) in due {
             assert_eq!(read(bytes), (form, length), "{bytes:?}");
@@ -118,7 +133,15 @@ mod tests {
 
     #[test]
     fn other_forms_are_not_taken() {
-        for mut bytes in [&[][..], &[0x80], &[0x80, 0], &[0x80, 0x80, 1]] {
+        let others: [&[u8]; 6] = [
+            &[],
+            &[0x80],
+            &[0x80, 0],
+            &[0x80, 0x80],
+            &[0x80, 0x80, 0],
+            &[0x80, 0x80, 0x80, 1],
+        ];
+        for mut bytes in others {
             assert_eq!(take(&mut bytes), None);
         }
         assert_eq!(take_list(&mut &[2, 7][..]), None);

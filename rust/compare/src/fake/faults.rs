@@ -658,6 +658,28 @@ const FAULTS: [Fault; 214] = [
     AnswerAsBefore,
 ];
 
+/// The faults that show only behind as many operators as a number counts.
+#[cfg(test)]
+const DEAR: [Fault; 9] = [
+    CountUnjudged,
+    CountAfterPairs,
+    CountsLeftOut,
+    CountPlaced,
+    SilencingCounts,
+    ShownLean,
+    OneKeptLess,
+    OneKeptMore,
+    OperatorInSixDigits,
+];
+
+#[cfg(test)]
+impl Fault {
+    /// Whether only a case that takes seconds shows it.
+    pub fn is_dear(self) -> bool {
+        DEAR.contains(&self)
+    }
+}
+
 /// All faults, those of limits last.
 pub fn faults() -> Vec<Fault> {
     let by = |(files, bounds): &(Files, &'static [Bound])| {

@@ -7,17 +7,24 @@ use super::{ample_room, check_line, room};
 use crate::both::Both;
 use reference::feature_set::words_for;
 use reference::features::count_features;
-use reference::limits::LARGEST;
+use reference::limits::{BEFORE, LARGEST};
 use reference::operators::{Entry, Operator};
 use reference::sample::bays::{bay, shapes};
 use reference::sample::tasks::{
-    accepted_task, meeting_weights, operator, scaled_task, sizes, FORMER_EDGES, LARGE, TINY, WIDE,
+    accepted_task, meeting_weights, operator, scaled_task, sizes, Scale, FORMER_EDGES, LARGE, TINY,
+    WIDE,
 };
 use reference::sample::workspaces::{damaged_record, loose_record, values};
 use reference::sample::Generator;
 use reference::task::Task;
 use reference::weights::weight_file;
 use reference::workspace::words_due;
+
+/// A little more features than there could be before.
+const MIDDLING: Scale = Scale {
+    most_features: 6_500,
+    ..LARGE
+};
 
 /// Hundreds of operators, most of them repeated, with late ones that may break the weights.
 pub fn many_operators(both: &mut Both, generator: &mut Generator) {
@@ -73,43 +80,73 @@ pub(super) fn every_call(both: &mut Both, generator: &mut Generator, task: &Task
     both.find(&words, &room);
 }
 
-/// So many operators, of which only the last one may break the weights.
-fn counted(both: &mut Both, generator: &mut Generator, count: usize, last: Operator) {
-    let (sizes, start, goal) = (vec![2, 2], vec![0, 0], vec![0, 1]);
+/// So many operators that do nothing, then one that takes the back digit from 0 to 1.
+fn counted(generator: &mut Generator, count: usize, pairs: &[usize]) -> Task {
+    let sizes = vec![2, 2];
     let mut operators = vec![staying(generator, &sizes); count];
-    operators[count - 1] = last;
-    let task = Task {
-        sizes,
-        start,
-        goal,
-        pairs: Vec::new(),
-        operators,
-    };
-    let file = task.file();
-    // The back digit's 0 parts the ends.
-    both.check(&file, &[1, 2]);
-    check_line(both, generator, &file, &[1, 2]);
-    let room = room(generator, 2);
-    both.display(&file[..file.len() - 1], &[], &room);
-}
-
-/// Counts that take three bytes, and operators whose numbers take sixteen bits or more.
-pub fn long_counts(both: &mut Both, generator: &mut Generator) {
-    let count = generator.choose(&[16_383, 16_384, 16_385, 65_536, 65_537, 70_000, 100_001]);
-    let last = operator(generator, &[2, 2]);
-    counted(both, generator, count, last);
-}
-
-/// As many operators as a number counts, the last of which breaks the weights.
-pub fn operators_in_millions(both: &mut Both, generator: &mut Generator) {
-    let last = Operator {
+    operators.push(Operator {
         entries: vec![Entry {
             variable: 1,
             before: 0,
             after: 1,
         }],
-    };
-    counted(both, generator, LARGEST, last);
+    });
+    Task {
+        sizes,
+        start: vec![0, 0],
+        goal: vec![0, 1],
+        pairs: pairs.to_vec(),
+        operators,
+    }
+}
+
+/// Every call that tells an operator's number, or a place behind all of them, where the last one is
+/// at fault.
+fn last_at_fault(both: &mut Both, generator: &mut Generator, count: usize) {
+    let file = counted(generator, count, &[]).file();
+    // The back digit's 0 parts the ends.
+    let weights = [1, 2];
+    both.check(&file, &weights);
+    let line = generator.bytes(40);
+    both.check_line(&file, &weights, &line);
+    let words = ample_room(generator, 2);
+    both.display(&file[..file.len() - 1], &weights, &words);
+    // Both digits 1 is a pair that the last operator makes true.
+    let file = counted(generator, count, &[7]).file();
+    both.pair_fault(&file, &words);
+    let room = generator.bytes(file.len());
+    both.mend(&file, &room);
+    both.dropped(&file, &room[..4]);
+}
+
+/// Counts that take three bytes, and operators whose numbers take more than sixteen bits.
+pub fn long_counts(both: &mut Both, generator: &mut Generator) {
+    for counts in [[16_381, 16_382, 16_383], [65_535, 65_536, 100_000]] {
+        let count = generator.choose(&counts);
+        last_at_fault(both, generator, count);
+    }
+}
+
+/// As many operators as a number counts.
+pub fn operators_in_millions(both: &mut Both, generator: &mut Generator) {
+    last_at_fault(both, generator, LARGEST - 1);
+}
+
+/// Sizes of more features than there could be before, but of few enough to open many such tasks.
+fn middling_sizes(generator: &mut Generator) -> Vec<usize> {
+    loop {
+        let sizes = sizes(generator, MIDDLING);
+        if count_features(&sizes) > BEFORE.features {
+            return sizes;
+        }
+    }
+}
+
+/// Tasks past the limit of before.
+pub fn middling(both: &mut Both, generator: &mut Generator) {
+    let sizes = middling_sizes(generator);
+    let task = accepted_task(generator, &sizes, MIDDLING.most_operators);
+    every_call(both, generator, &task);
 }
 
 /// Tasks of many variables.

@@ -29,7 +29,7 @@ pub struct Group {
 }
 
 /// The counts make an optimised run take about three minutes.
-pub const GROUPS: [Group; 68] = [
+pub const GROUPS: [Group; 71] = [
     Group {
         name: "weights",
         cases: 40_000,
@@ -107,7 +107,7 @@ pub const GROUPS: [Group; 68] = [
     },
     Group {
         name: "long-counts",
-        cases: 60,
+        cases: 20,
         run: large::long_counts,
     },
     Group {
@@ -119,6 +119,11 @@ pub const GROUPS: [Group; 68] = [
         name: "large",
         cases: 80,
         run: large::large,
+    },
+    Group {
+        name: "middling",
+        cases: 40,
+        run: large::middling,
     },
     Group {
         name: "nine-slots",
@@ -176,6 +181,11 @@ pub const GROUPS: [Group; 68] = [
         run: partials::bays,
     },
     Group {
+        name: "partials-cut-at-limits",
+        cases: 2_000,
+        run: partials::cut_at_limits,
+    },
+    Group {
         name: "limits-of-partials",
         cases: 60,
         run: partials::limits,
@@ -194,6 +204,11 @@ pub const GROUPS: [Group; 68] = [
         name: "damaged-silenced",
         cases: 20_000,
         run: silenced::damaged,
+    },
+    Group {
+        name: "silenced-cut-at-limits",
+        cases: 2_000,
+        run: silenced::cut_at_limits,
     },
     Group {
         name: "limits-of-silenced",
@@ -316,13 +331,8 @@ pub const GROUPS: [Group; 68] = [
         run: wider::partial_files,
     },
     Group {
-        name: "wider-openings",
-        cases: 4,
-        run: wider::openings,
-    },
-    Group {
         name: "wider-words",
-        cases: 4,
+        cases: 8,
         run: wider::words,
     },
     Group {
@@ -347,8 +357,23 @@ pub const GROUPS: [Group; 68] = [
     },
     Group {
         name: "twelve-slots",
-        cases: 6,
+        cases: 4,
         run: sixteen::twelve,
+    },
+    Group {
+        name: "operators-in-millions",
+        cases: 1,
+        run: large::operators_in_millions,
+    },
+    Group {
+        name: "kept-in-millions",
+        cases: 1,
+        run: kept::counted_in_millions,
+    },
+    Group {
+        name: "wider-openings",
+        cases: 4,
+        run: wider::openings,
     },
     Group {
         name: "fifteen-slots",
@@ -360,25 +385,15 @@ pub const GROUPS: [Group; 68] = [
         cases: 1,
         run: sixteen::four_by_four,
     },
-    Group {
-        name: "kept-in-millions",
-        cases: 1,
-        run: kept::counted_in_millions,
-    },
-    Group {
-        name: "operators-in-millions",
-        cases: 1,
-        run: large::operators_in_millions,
-    },
 ];
 
 /// Groups of which one case takes seconds.
 const DEAR: [&str; 5] = [
+    "operators-in-millions",
+    "kept-in-millions",
     "wider-openings",
     "fifteen-slots",
     "four-by-four",
-    "kept-in-millions",
-    "operators-in-millions",
 ];
 
 impl Group {

@@ -12,7 +12,7 @@ use reference::sample::bays::{bay, shapes_within};
 use reference::sample::damage::damaged_file;
 use reference::sample::partials::{
     accepted_partial, loose_partial, scaled_partial, silenced_bay, silent_marks, sizes,
-    FORMER_PARTIAL_EDGES, PARTIAL_PAST_EDGES,
+    FORMER_PARTIAL_EDGES, PARTIAL_EDGES, PARTIAL_PAST_EDGES,
 };
 use reference::sample::tasks::{loose_weights, Scale};
 use reference::sample::Generator;
@@ -242,7 +242,13 @@ pub fn bays(both: &mut Both, generator: &mut Generator) {
 
 /// A file that is good but for a size or its features, or one that has a bad mark after them.
 fn past_limits(generator: &mut Generator) -> Vec<u8> {
-    let sizes = generator.choose(&PARTIAL_PAST_EDGES).to_vec();
+    let sizes = generator.choose(&PARTIAL_PAST_EDGES);
+    plain_file(generator, sizes)
+}
+
+/// A file without operators that may have a bad mark.
+fn plain_file(generator: &mut Generator, sizes: &[usize]) -> Vec<u8> {
+    let sizes = sizes.to_vec();
     let variables = sizes.len();
     let partial = Partial {
         sizes,
@@ -254,6 +260,16 @@ fn past_limits(generator: &mut Generator) -> Vec<u8> {
     let mut numbers = partial.numbers();
     numbers[1 + variables] = generator.below(3);
     encode(&numbers)
+}
+
+/// Files about the limits of features, cut where these are judged or a little later, so that no call
+/// has more to do.
+pub fn cut_at_limits(both: &mut Both, generator: &mut Generator) {
+    let edges = [&PARTIAL_EDGES[..], &PARTIAL_PAST_EDGES].concat();
+    let sizes = generator.choose(&edges);
+    let file = plain_file(generator, sizes);
+    let length = sizes.len() + generator.between(0, 4);
+    some_call(both, generator, &file[..length]);
 }
 
 /// Files at the limits of before and past today's, and bays of nine slots.

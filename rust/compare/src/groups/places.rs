@@ -12,7 +12,7 @@ use reference::partial::built_sizes;
 use reference::sample::bays::{bay, mislabel, shapes, shapes_within};
 use reference::sample::damage::{bad_forms, damaged_file};
 use reference::sample::partials::{
-    self, accepted_partial, completed, loose_partial, PARTIAL_PAST_EDGES,
+    self, accepted_partial, completed, loose_partial, PARTIAL_EDGES, PARTIAL_PAST_EDGES,
 };
 use reference::sample::tasks::{
     accepted_task, loose_task, loose_weights, FORMER_EDGES, LIBRARY_EDGES, MEDIUM, NUMBER_EDGES,
@@ -240,7 +240,8 @@ pub fn every_byte(both: &mut Both, generator: &mut Generator) {
     }
 }
 
-/// Rows and columns of all kinds, with labels behind them or without.
+/// Rows and columns of all kinds, with labels behind them or without; where as many labels follow as
+/// are due, the bay is built.
 pub fn every_shape(both: &mut Both, generator: &mut Generator) {
     let edges = [127, 128, 16_383, 16_384, LARGEST];
     let sides: Vec<usize> = (0..=20).chain(edges).collect();
@@ -250,12 +251,17 @@ pub fn every_shape(both: &mut Both, generator: &mut Generator) {
                 let room = room(generator, 2);
                 both.display_bay(&encode(&[&[*rows, *columns], behind].concat()), &room);
             }
+            let labels: Vec<usize> = (0..rows.saturating_mul(*columns).min(400)).collect();
+            let file = encode(&[&[*rows, *columns], &labels[..], &labels].concat());
+            let room = generator.bytes(9_900);
+            both.build(&file, &room);
         }
     }
 }
 
-/// Sizes that have too many features, cut or whole, with something behind them or nothing.
-fn too_many_features(generator: &mut Generator, sizes: &[usize]) -> Vec<u8> {
+/// Sizes that have too many features or just not, cut or whole, with something behind them or nothing.
+fn too_many_features(generator: &mut Generator, edges: Vec<&[usize]>) -> Vec<u8> {
+    let sizes = generator.choose(&edges);
     let mut numbers = [&[sizes.len()], sizes].concat();
     match generator.below(4) {
         0 => numbers.truncate(generator.between(1, sizes.len())),
@@ -271,13 +277,13 @@ pub fn limits(both: &mut Both, generator: &mut Generator) {
     let weights = generator.choose(&BESIDE);
     let room = room(generator, 2);
     if generator.once_in(2) {
-        let sizes = generator.choose(&PAST_EDGES);
-        let file = too_many_features(generator, sizes);
+        let edges = [&LIBRARY_EDGES[..], &PAST_EDGES].concat();
+        let file = too_many_features(generator, edges);
         both.display(&file, weights, &room);
         print(both, generator, &file);
     } else {
-        let sizes = generator.choose(&PARTIAL_PAST_EDGES);
-        let file = too_many_features(generator, sizes);
+        let edges = [&PARTIAL_EDGES[..], &PARTIAL_PAST_EDGES].concat();
+        let file = too_many_features(generator, edges);
         both.display_partial(&file, weights, &room);
         both.display(&file, weights, &room);
     }

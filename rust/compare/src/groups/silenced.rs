@@ -4,10 +4,11 @@ use super::partials::some_call;
 use super::{byte_room, some_sizes, task};
 use crate::both::Both;
 use reference::calls::done;
+use reference::numbers::encode;
 use reference::partial::silenced;
 use reference::sample::damage::damaged_file;
 use reference::sample::partials::{marks, FORMER_PARTIAL_EDGES, PARTIAL_EDGES, PARTIAL_PAST_EDGES};
-use reference::sample::tasks::{accepted_task, loose_task, operator};
+use reference::sample::tasks::{accepted_task, loose_task, operator, LIBRARY_EDGES, PAST_EDGES};
 use reference::sample::Generator;
 use reference::task::{read_task, Task};
 
@@ -81,6 +82,16 @@ pub fn damaged(both: &mut Both, generator: &mut Generator) {
     } else {
         task.file()
     };
+    let marks = bad_marks(generator, sizes.len());
+    silence(both, generator, &file, &marks);
+}
+
+/// Tasks that have about as many features as may be, cut where these are judged or a little later.
+pub fn cut_at_limits(both: &mut Both, generator: &mut Generator) {
+    let edges = [&LIBRARY_EDGES[..], &PAST_EDGES].concat();
+    let sizes = generator.choose(&edges);
+    let behind = &[0, 0, 0][..generator.below(4)];
+    let file = encode(&[&[sizes.len()], sizes, behind].concat());
     let marks = bad_marks(generator, sizes.len());
     silence(both, generator, &file, &marks);
 }

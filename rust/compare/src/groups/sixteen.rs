@@ -3,15 +3,16 @@
 use super::bays::whole_way;
 use super::{ample_room, byte_room, check_line, mended, room};
 use crate::both::Both;
-use reference::bay::Bay;
+use reference::bay::{Bay, GAP};
 use reference::feature_set::words_for;
 use reference::features::count_features;
 use reference::partial::{built_sizes, LeftOut};
-use reference::sample::bays::{bay, order_weights, shapes};
+use reference::sample::bays::{bay, order_weights, shapes, shuffled};
 use reference::sample::handmade::handmade_bay;
 use reference::sample::partials::{marks, silenced_bay};
 use reference::sample::tasks::loose_weights;
 use reference::sample::Generator;
+use reference::separation::separates;
 use reference::weights::weight_file;
 use reference::workspace::words_due;
 use std::ops::RangeInclusive;
@@ -91,10 +92,31 @@ pub fn silenced_openings(both: &mut Both, generator: &mut Generator) {
     both.find(&words, &room);
 }
 
-/// Bays of ten to twelve slots the whole way.
+/// A bay without lots whose goal no moves lead to.
+fn parted_bay(generator: &mut Generator, (rows, columns): (usize, usize)) -> Bay {
+    let labels: Vec<usize> = (0..rows * columns).collect();
+    let mut bay = Bay {
+        rows,
+        columns,
+        start: shuffled(generator, &labels),
+        goal: shuffled(generator, &labels),
+    };
+    if !separates(&bay.task(), &order_weights(&bay)) {
+        // Two pallets change places.
+        let first = usize::from(bay.goal[0] == GAP);
+        let last = labels.len() - 1 - usize::from(bay.goal[labels.len() - 1] == GAP);
+        bay.goal.swap(first, last);
+    }
+    bay
+}
+
+/// Bays of ten to twelve slots the whole way, one with lots or without, one that has an answer.
 pub fn twelve(both: &mut Both, generator: &mut Generator) {
-    let shape = shape(generator, 10..=12);
-    let bay = bay(generator, shape);
+    let any = shape(generator, 10..=12);
+    let bay = bay(generator, any);
+    whole_way(both, generator, &bay);
+    let any = shape(generator, 10..=12);
+    let bay = parted_bay(generator, any);
     whole_way(both, generator, &bay);
 }
 
@@ -105,17 +127,8 @@ pub fn fifteen(both: &mut Both, generator: &mut Generator) {
     whole_way(both, generator, &bay);
 }
 
-/// Four by four the whole way, all labels different.
+/// Four by four the whole way, with an answer.
 pub fn four_by_four(both: &mut Both, generator: &mut Generator) {
-    let mut labels: Vec<usize> = (0..16).collect();
-    generator.shuffle(&mut labels);
-    let start = labels.clone();
-    generator.shuffle(&mut labels);
-    let bay = Bay {
-        rows: 4,
-        columns: 4,
-        start,
-        goal: labels,
-    };
+    let bay = parted_bay(generator, (4, 4));
     whole_way(both, generator, &bay);
 }

@@ -163,8 +163,8 @@ pub fn openings(both: &mut Both, generator: &mut Generator) {
     every_call(both, generator, &task);
 }
 
-/// Words that would be a workspace if they hadn't a feature too many.
-fn past_words(sizes: &[usize]) -> Vec<u64> {
+/// Words that are a workspace without pairs or conditions if the sizes keep the limits.
+fn plain_words(sizes: &[usize]) -> Vec<u64> {
     let mut words = vec![0; words_due(sizes)];
     words[0] = sizes.len() as u64;
     for (word, size) in words[1..].iter_mut().zip(sizes) {
@@ -173,15 +173,26 @@ fn past_words(sizes: &[usize]) -> Vec<u64> {
     words
 }
 
-/// Words that no opening made, at the limit of features and past it, given to every call on them.
+/// Words that no opening made, at the limit of features and one past it, given to some call.
 pub fn words(both: &mut Both, generator: &mut Generator) {
-    let sizes = generator.choose(&[LIBRARY_EDGES[1], PAST_EDGES[0], PAST_EDGES[1]]);
-    let words = past_words(sizes);
-    let room = generator.words(words_for(count_features(sizes)));
-    both.find(&words, &room);
-    let values = values(generator, sizes);
-    both.replace_start(&words, &values);
-    both.replace_goal(&words, &values);
-    let record = exact_record(&operator(generator, sizes));
-    both.add_operator(&words, &record);
+    for sizes in [LIBRARY_EDGES[1], PAST_EDGES[0]] {
+        let words = plain_words(sizes);
+        let values = values(generator, sizes);
+        match generator.below(4) {
+            0 => {
+                let room = generator.words(words_for(count_features(sizes)));
+                both.find(&words, &room);
+            }
+            1 => {
+                let record = exact_record(&operator(generator, sizes));
+                both.add_operator(&words, &record);
+            }
+            2 => {
+                both.replace_start(&words, &values);
+            }
+            _ => {
+                both.replace_goal(&words, &values);
+            }
+        }
+    }
 }

@@ -109,6 +109,11 @@ impl Bay {
         0..self.slots() + usize::from(!self.is_full())
     }
 
+    /// The sizes of that task's variables.
+    pub fn sizes(&self) -> Vec<usize> {
+        vec![self.labels().len(); self.slots()]
+    }
+
     /// The goal of that task: unknown where the order is silent.
     pub fn wanted(&self) -> Vec<usize> {
         let label = |label: &Option<usize>| label.unwrap_or(self.unknown());

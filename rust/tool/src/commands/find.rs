@@ -9,7 +9,7 @@ use crate::files;
 use crate::json::Json;
 use crate::library::{self, Weights};
 use crate::output::Status;
-use std::ffi::OsStr;
+use crate::progress::{Shown, Telling, PROGRESS};
 
 pub const COMMAND: Command = Command {
     name: "find",
@@ -24,22 +24,25 @@ cannot be reached. None does not mean that it can.
 With -o the weights are also written as a weight file, for check. For a bay as
 plain text use ask.",
     binary: true,
-    options: &[&OUTPUT, &PARTIAL, &LEAN, &JSON],
+    options: &[&OUTPUT, &PARTIAL, &LEAN, &PROGRESS, &JSON],
     statuses: &["separated", "none"],
     run,
 };
 
 fn run(arguments: &Arguments) -> Status {
-    let name = &arguments.files[0];
-    match find(Reading::of(arguments), name).and_then(|found| give(arguments, found)) {
+    match find(arguments).and_then(|found| give(arguments, found)) {
         Ok(status) => status,
-        Err(fault) => refuse(arguments, name, &fault),
+        Err(fault) => refuse(arguments, &arguments.files[0], &fault),
     }
 }
 
-fn find(reading: Reading, name: &OsStr) -> Result<Option<Weights>, Fault> {
-    let workspace = reading.open(&files::read(name)?)?;
-    library::find(&workspace)
+fn find(arguments: &Arguments) -> Result<Option<Weights>, Fault> {
+    let reading = Reading::of(arguments);
+    let file = files::read(&arguments.files[0])?;
+    let telling = Telling::new(Shown::of(arguments));
+    let mut steps = reading.steps(&telling, &file, 1);
+    let workspace = reading.open(&file, &mut steps)?;
+    steps.take("finding weights", || library::find(&workspace))
 }
 
 fn give(arguments: &Arguments, found: Option<Weights>) -> Result<Status, Fault> {

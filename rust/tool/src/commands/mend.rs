@@ -68,7 +68,7 @@ fn read_shape(given: Option<&OsStr>) -> Result<Option<Shape>, &'static str> {
     let shape = Shape::read(&words.to_string_lossy());
     shape
         .map(Some)
-        .ok_or("--bay takes rows and columns as in 2x3, of 2 to 9 slots in all")
+        .ok_or("--bay takes rows and columns as in 2x3, of 2 to 16 slots in all")
 }
 
 fn mend(arguments: &Arguments, shape: Option<Shape>) -> Result<(), Fault> {

@@ -16,6 +16,7 @@ use crate::files;
 use crate::json::Json;
 use crate::keeping;
 use crate::output::{complain, say, say_bytes, Status};
+use crate::progress;
 use crate::words::shown;
 use partial::{LEAN, PARTIAL};
 use std::ffi::OsStr;
@@ -55,14 +56,16 @@ pub const OUTPUT: Choice = Choice {
     help: "write the result to FILE (- for standard output)",
 };
 
-/// What does not go together on a command line, if anything.
+/// What does not fit on a command line, if anything.
 pub fn clash(arguments: &Arguments) -> Option<&'static str> {
     let taken = arguments.value(&OUTPUT).is_some_and(files::is_standard);
     if taken && arguments.has(&JSON) {
         return Some("--json and -o - both need standard output");
     }
-    let lean_alone = arguments.has(&LEAN) && !arguments.has(&PARTIAL);
-    lean_alone.then_some("--lean goes with --partial")
+    if arguments.has(&LEAN) && !arguments.has(&PARTIAL) {
+        return Some("--lean goes with --partial");
+    }
+    progress::misfit(arguments)
 }
 
 /// Writes a result where the command line asks for it, and says what it is.

@@ -8,6 +8,7 @@ use crate::files;
 use crate::json::Json;
 use crate::library::Workspace;
 use crate::output::Status;
+use crate::progress::{Shown, Telling, PROGRESS};
 use crate::words::counted;
 
 pub const COMMAND: Command = Command {
@@ -21,7 +22,7 @@ many variables, features, listed pairs and conditions (slots that are not empty)
 are in it. With -o the workspace is written, each word as eight bytes, the low
 byte first.",
     binary: true,
-    options: &[&OUTPUT, &PARTIAL, &LEAN, &JSON],
+    options: &[&OUTPUT, &PARTIAL, &LEAN, &PROGRESS, &JSON],
     statuses: &["opened"],
     run,
 };
@@ -35,7 +36,7 @@ fn run(arguments: &Arguments) -> Status {
 
 fn open(arguments: &Arguments) -> Result<(), Fault> {
     let name = &arguments.files[0];
-    let workspace = Reading::of(arguments).open(&files::read(name)?)?;
+    let workspace = opened(arguments)?;
     let counts = counts(&workspace);
     let shown = counts.map(|(noun, _, count)| counted(count, noun));
     let line = format!("opened {}", shown.join(", "));
@@ -44,7 +45,18 @@ fn open(arguments: &Arguments) -> Result<(), Fault> {
         ("answer", Json::text("opened")),
     ];
     fields.extend(counts.map(|(_, name, count)| (name, Json::number(count))));
-    deliver(arguments, &bytes(&workspace), &line, &Json::Object(fields))
+    // A workspace is large, so its bytes are made only if they are asked for.
+    let kept = arguments.value(&OUTPUT).map(|_| bytes(&workspace));
+    let json = Json::Object(fields);
+    deliver(arguments, &kept.unwrap_or_default(), &line, &json)
+}
+
+fn opened(arguments: &Arguments) -> Result<Workspace, Fault> {
+    let reading = Reading::of(arguments);
+    let file = files::read(&arguments.files[0])?;
+    let telling = Telling::new(Shown::of(arguments));
+    let mut steps = reading.steps(&telling, &file, 0);
+    reading.open(&file, &mut steps)
 }
 
 // Each with its noun, for people, and its name, for programs.

@@ -5,6 +5,8 @@ use crate::fault::Fault;
 use crate::library::{self, Verdict, Workspace, NO_WEIGHTS};
 use crate::pair_list;
 use crate::place::{self, Kind};
+use crate::progress::{Steps, Telling};
+use crate::sizes;
 
 pub const PARTIAL: Choice = Choice {
     long: "--partial",
@@ -50,11 +52,27 @@ impl Reading {
         }
     }
 
-    pub fn open(self, file: &[u8]) -> Result<Workspace, Fault> {
-        match self {
-            Reading::Letter => library::open_partial(file).map_err(|fault| self.told(fault, file)),
-            _ => library::open(&self.task(file)?).map_err(|fault| self.told(fault, file)),
-        }
+    /// The steps of opening a file, and so many more.
+    pub fn steps<'a>(self, telling: &'a Telling, file: &[u8], more: usize) -> Steps<'a> {
+        let (sizes, own) = match self {
+            Reading::Task => (sizes::of_task(file), 1),
+            Reading::Letter => (sizes::of_built(file), 1),
+            Reading::Lean => (sizes::of_built(file), 2),
+        };
+        let words = library::words_due(&sizes.unwrap_or_default());
+        telling.steps(words, own + more)
+    }
+
+    pub fn open(self, file: &[u8], steps: &mut Steps) -> Result<Workspace, Fault> {
+        let workspace = match self {
+            Reading::Task => steps.open(|| library::open(file)),
+            Reading::Letter => steps.open(|| library::open_partial(file)),
+            Reading::Lean => {
+                let task = steps.take("building the task", || self.task(file))?;
+                steps.open(|| library::open(&task))
+            }
+        };
+        workspace.map_err(|fault| self.told(fault, file))
     }
 
     /// The verdict on weights, and the line that says it.

@@ -5,6 +5,7 @@ use crate::answer;
 use crate::args::{Arguments, JSON};
 use crate::fault::Fault;
 use crate::output::{complain, Status};
+use crate::progress::{Shown, Telling, PROGRESS};
 use crate::question;
 use crate::report;
 use crate::words::shown;
@@ -27,7 +28,7 @@ of the task and of the weights. It needs -o, as in
 
     florumeja report FILE -o page.html",
     binary: false,
-    options: &[&OUTPUT, &JSON],
+    options: &[&OUTPUT, &PROGRESS, &JSON],
     statuses: &["IMPOSSIBLE: the order cannot be done", "no parity proof"],
     run,
 };
@@ -45,7 +46,7 @@ fn run(arguments: &Arguments) -> Status {
 
 fn write(arguments: &Arguments) -> Result<Status, Fault> {
     let name = &arguments.files[0];
-    let answered = question::ask(name)?;
+    let answered = question::ask(name, &Telling::new(Shown::of(arguments)))?;
     let page = report::page(&shown(name), &answered)?;
     let line = format!("{}: {}", shown(name), answer::line(&answered));
     let json = answer::json(&name.to_string_lossy(), &answered);

@@ -8,6 +8,7 @@ use crate::files;
 use crate::json::Json;
 use crate::library;
 use crate::output::{complain, Status};
+use crate::sizes;
 use crate::words::counted;
 use std::ffi::OsStr;
 
@@ -96,12 +97,12 @@ fn give(arguments: &Arguments, marks: &[u8], partial: &[u8]) -> Result<(), Fault
     deliver(arguments, partial, &line, &Json::Object(fields))
 }
 
-// A task that opens by itself is not at fault: then it is the marks, or the limits of what is built.
+// A task that is taken by itself is not at fault: then it is the marks, or the limits of what is built.
 fn told(fault: Fault, task: &[u8], marks: &[u8]) -> Fault {
-    let Ok(workspace) = library::open(task) else {
+    if Reading::Task.judge(task).is_err() {
         return Reading::Task.told(fault, task);
-    };
-    let variables = workspace.features().sizes().len();
+    }
+    let variables = sizes::of_task(task).unwrap_or_default().len();
     match fault {
         Fault::Refused(number) if variables != marks.len() => {
             let (marks, variables) = (counted(marks.len(), "mark"), counted(variables, "variable"));

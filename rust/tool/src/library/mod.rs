@@ -6,17 +6,21 @@ mod places;
 mod workspace;
 
 use crate::fault::Fault;
+use crate::sizes;
 use face::*;
 pub use pairs::{dropped, mend, pair_fault, Reason};
 pub use places::{display, display_bay, display_partial, Holder, Part, NO_WEIGHTS};
-pub use workspace::Workspace;
+pub use workspace::{words_due, Workspace, MOST_WORDS};
 
-// Room for the largest results that the rules' limits allow: 64 variables, 4,096 features, and in
-// a task file 16,383 operators of 64 entries. Room that is not used is never touched.
-const WORKSPACE_WORDS: usize = 1 + 3 * 64 + 64 * (1 + 4096);
-const TASK_BYTES: usize = 1 << 22;
-const WEIGHT_BYTES: usize = 2 * (1 + 4096);
+// Room for the largest results that the rules' limits allow. Room that is not used is never touched.
+// A task of a bay: 9,845 bytes, for four by four slots and labels that are all different.
+const BAY_TASK_BYTES: usize = 1 << 14;
+// A count and 32,768 features, each a number of three bytes at most.
+const WEIGHT_BYTES: usize = 3 * (1 + 32_768);
 const LINE_BYTES: usize = 64;
+// What is built of a file is never so much longer: there may be three bytes for each of 32,768 pairs,
+// which have other numbers, and four for each operator that forgets one of 64 values of 64 variables.
+const MORE_BYTES: usize = 1 << 17;
 
 /// What one returned word says: its case and its value.
 #[derive(Clone, Copy)]
@@ -100,7 +104,7 @@ pub fn check_line(task: &[u8], weights: &[u8]) -> Result<String, Fault> {
 
 /// Opens a task file.
 pub fn open(task: &[u8]) -> Result<Workspace, Fault> {
-    opened("open", |room| {
+    opened("open", sizes::of_task(task), |room| {
         // SAFETY: both slices live through the call, and only the room is written.
         unsafe { florumeja_open(task.as_ptr(), task.len(), room.as_mut_ptr(), room.len()) }
     })
@@ -108,15 +112,20 @@ pub fn open(task: &[u8]) -> Result<Workspace, Fault> {
 
 /// Opens a partial file's built task, by the letter.
 pub fn open_partial(partial: &[u8]) -> Result<Workspace, Fault> {
-    opened("open_partial", |room| {
+    opened("open_partial", sizes::of_built(partial), |room| {
         let (from, length) = (partial.as_ptr(), partial.len());
         // SAFETY: both slices live through the call, and only the room is written.
         unsafe { florumeja_open_partial(from, length, room.as_mut_ptr(), room.len()) }
     })
 }
 
-fn opened(name: &str, call: impl FnOnce(&mut [u64]) -> u64) -> Result<Workspace, Fault> {
-    let words = written(name, WORKSPACE_WORDS, call)?;
+fn opened(
+    name: &str,
+    sizes: Option<Vec<usize>>,
+    call: impl FnOnce(&mut [u64]) -> u64,
+) -> Result<Workspace, Fault> {
+    let room = workspace::room(&sizes.unwrap_or_default());
+    let words = written(name, room, call)?;
     let misfit = || format!("the library's {name} wrote a workspace of odd length");
     Workspace::new(words).ok_or_else(|| Fault::Failure(misfit()))
 }
@@ -149,7 +158,7 @@ pub fn find(workspace: &Workspace) -> Result<Option<Weights>, Fault> {
 
 /// Builds a task file from a bay file.
 pub fn build(bay: &[u8]) -> Result<Vec<u8>, Fault> {
-    written("build", TASK_BYTES, |room| {
+    written("build", BAY_TASK_BYTES, |room| {
         // SAFETY: both slices live through the call, and only the room is written.
         unsafe { florumeja_build(bay.as_ptr(), bay.len(), room.as_mut_ptr(), room.len()) }
     })
@@ -157,8 +166,8 @@ pub fn build(bay: &[u8]) -> Result<Vec<u8>, Fault> {
 
 /// Builds the task file of a partial file, by the letter.
 pub fn build_partial(partial: &[u8]) -> Result<Vec<u8>, Fault> {
-    written("build_partial", TASK_BYTES, |room: &mut [u8]| {
-        let (from, length) = (partial.as_ptr(), partial.len());
+    let (from, length) = (partial.as_ptr(), partial.len());
+    written("build_partial", length + MORE_BYTES, |room: &mut [u8]| {
         // SAFETY: both slices live through the call, and only the room is written.
         unsafe { florumeja_build_partial(from, length, room.as_mut_ptr(), room.len()) }
     })
@@ -166,8 +175,9 @@ pub fn build_partial(partial: &[u8]) -> Result<Vec<u8>, Fault> {
 
 /// The same without the operators that forget a named variable.
 pub fn build_partial_lean(partial: &[u8]) -> Result<Vec<u8>, Fault> {
-    written("build_partial_lean", TASK_BYTES, |room: &mut [u8]| {
-        let (from, length) = (partial.as_ptr(), partial.len());
+    let (from, length) = (partial.as_ptr(), partial.len());
+    let room = length + MORE_BYTES;
+    written("build_partial_lean", room, |room: &mut [u8]| {
         // SAFETY: both slices live through the call, and only the room is written.
         unsafe { florumeja_build_partial_lean(from, length, room.as_mut_ptr(), room.len()) }
     })
@@ -175,7 +185,7 @@ pub fn build_partial_lean(partial: &[u8]) -> Result<Vec<u8>, Fault> {
 
 /// Makes a partial file: a task with the goal values that are marked 1, and no others.
 pub fn silence(task: &[u8], marks: &[u8]) -> Result<Vec<u8>, Fault> {
-    written("silence", TASK_BYTES, |room: &mut [u8]| {
+    written("silence", task.len() + MORE_BYTES, |room: &mut [u8]| {
         // SAFETY: all slices live through the call, and only the room is written.
         unsafe {
             florumeja_silence(

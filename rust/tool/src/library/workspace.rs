@@ -1,6 +1,29 @@
-//! The words of a workspace, and where its parts stand in them.
+//! The words of a workspace: how many there are, and where its parts stand in them.
 
-use crate::features::Features;
+use crate::features::{self, Features};
+
+/// The most words that a workspace has: those of 64 variables and 32,768 features.
+pub const MOST_WORDS: usize = 1 + 3 * 64 + 512 * (1 + 32_768);
+/// So much room is lent whatever the task is, as it is next to nothing.
+const LEAST_ROOM: usize = 1 << 18;
+
+/// How many words the workspace of a task with these sizes has.
+pub fn words_due(sizes: &[usize]) -> usize {
+    let features = features::count(sizes);
+    let set_words = features.div_ceil(64);
+    let sets = set_words.saturating_mul(features.saturating_add(1));
+    sets.saturating_add(pairs_from(sizes.len()))
+}
+
+/// Room for that workspace; sizes that break a limit are refused whatever the room is.
+pub(super) fn room(sizes: &[usize]) -> usize {
+    words_due(sizes).clamp(LEAST_ROOM, MOST_WORDS)
+}
+
+// Before the listed pairs stand the count of variables, the sizes, the start and the goal.
+fn pairs_from(variables: usize) -> usize {
+    1 + 3 * variables
+}
 
 /// A workspace that the library opened.
 pub struct Workspace {
@@ -15,11 +38,8 @@ impl Workspace {
         let sizes = words.get(1..)?.get(..variables)?;
         let features = Features::new(sizes.iter().map(|&word| word as usize).collect());
         let workspace = Workspace { words, features };
-        (workspace.words.len() == workspace.words_due()).then_some(workspace)
-    }
-
-    fn words_due(&self) -> usize {
-        self.pairs_from() + self.set_words() * (1 + self.features.count())
+        let due = words_due(workspace.features.sizes());
+        (workspace.words.len() == due).then_some(workspace)
     }
 
     pub fn words(&self) -> &[u64] {
@@ -68,10 +88,28 @@ impl Workspace {
     }
 
     fn pairs_from(&self) -> usize {
-        1 + 3 * self.features.sizes().len()
+        pairs_from(self.features.sizes().len())
     }
 
     pub(super) fn set_words(&self) -> usize {
         self.features.count().div_ceil(64)
+    }
+}
+
+#[cfg(test)]
+mod tests {
+    use super::*;
+
+    // The words of bays of nine and of sixteen slots, and of the most features, as the rules count them.
+    #[test]
+    fn room_follows_the_sizes() {
+        assert_eq!(words_due(&[2, 2]), 16);
+        assert_eq!(words_due(&[9; 9]), 1 + 3 * 9 + 47 * (1 + 2_997));
+        assert_eq!(words_due(&[16; 16]), 1 + 3 * 16 + 484 * (1 + 30_976));
+        assert_eq!(room(&[2, 2]), LEAST_ROOM);
+        assert_eq!(room(&[16; 16]), 14_992_917);
+        assert_eq!(room(&[17; 16]), MOST_WORDS);
+        assert_eq!(room(&[usize::MAX; 3]), MOST_WORDS);
+        assert_eq!(MOST_WORDS, 16_777_921);
     }
 }

@@ -14,11 +14,11 @@ pub struct Shape {
 }
 
 impl Shape {
-    /// Reads rows and columns as in 2x3: a digit each, nothing else, and 2 to 9 slots in all.
+    /// Reads rows and columns as in 2x3: a digit each, nothing else, and 2 to 16 slots in all.
     pub fn read(words: &str) -> Option<Shape> {
         let (rows, columns) = words.split_once('x')?;
         let (rows, columns) = (digit(rows)?, digit(columns)?);
-        (2..=9)
+        (2..=16)
             .contains(&(rows * columns))
             .then_some(Shape { rows, columns })
     }
@@ -128,6 +128,8 @@ mod tests {
     fn a_shape_is_two_digits_and_nothing_else() {
         assert_eq!(Shape::read("2x3"), Some(shape(2, 3)));
         assert_eq!(Shape::read("1x9"), Some(shape(1, 9)));
+        assert_eq!(Shape::read("4x4"), Some(shape(4, 4)));
+        assert_eq!(Shape::read("8x2"), Some(shape(8, 2)));
         let bad = [
             "",
             "3",
@@ -140,7 +142,9 @@ mod tests {
             "+3x3",
             "03x3",
             "1x1",
-            "2x5",
+            "2x9",
+            "1x16",
+            "4x5",
             "0x9",
             "\u{663}x3",
         ];

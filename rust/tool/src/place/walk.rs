@@ -3,6 +3,7 @@
 use super::Kind;
 use crate::features;
 use crate::numbers::{self, Form, LARGEST};
+use crate::sizes;
 use crate::words::ordinal;
 use std::ops::Range;
 
@@ -53,21 +54,13 @@ pub fn due(kind: Kind, file: &[u8], place: usize) -> Option<Due> {
         Kind::Task => walk.task(),
         Kind::Partial => walk.partial(),
         Kind::Bay => walk.bay(),
-        Kind::Weights(task) => walk.weights(&sizes(task)?),
-        Kind::PartialWeights(partial) => {
-            let built: Vec<usize> = sizes(partial)?.iter().map(|size| size + 1).collect();
-            walk.weights(&built)
-        }
+        Kind::Weights(task) => walk.weights(&sizes::of_task(task)?),
+        Kind::PartialWeights(partial) => walk.weights(&sizes::of_built(partial)?),
     };
     match step {
         Err(Stop::Arrived(due)) => Some(due),
         _ => None,
     }
-}
-
-// The sizes with which a task file or a partial file begins.
-fn sizes(mut file: &[u8]) -> Option<Vec<usize>> {
-    numbers::take_list(&mut file)
 }
 
 struct Walk<'a> {

@@ -10,11 +10,14 @@ use crate::features::Features;
 use crate::files;
 use crate::library::{self, Verdict, Weights, Workspace};
 use crate::output::Status;
+use crate::progress::Telling;
 use crate::words::parity;
 use std::ffi::OsStr;
 
 /// Silent slots that can be filled in more ways are not asked about way by way.
 pub const MOST_WAYS: usize = 24;
+/// A question is built, opened, searched and checked; where nothing is found there is nothing to check.
+const STEPS: usize = 4;
 
 /// A bay that was asked about, and what came of it.
 pub struct Answered {
@@ -80,45 +83,59 @@ pub struct Proof {
 }
 
 /// Asks about the bay in a file.
-pub fn ask(name: &OsStr) -> Result<Answered, Fault> {
-    ask_text(&BayText::read(&files::read_text(name)?)?)
+pub fn ask(name: &OsStr, telling: &Telling) -> Result<Answered, Fault> {
+    ask_text(&BayText::read(&files::read_text(name)?)?, telling)
 }
 
-// Builds, opens, finds and checks; each step is a proved call.
-fn ask_text(text: &BayText) -> Result<Answered, Fault> {
+fn ask_text(text: &BayText, telling: &Telling) -> Result<Answered, Fault> {
     let bay = text.bay();
-    let task = library::build(&bay.file()).map_err(|fault| text.place(fault))?;
-    if bay.is_full() {
-        let (asked, ways) = (put(task)?, Vec::new());
-        return Ok(Answered { bay, asked, ways });
-    }
-    let asked = put(silenced(&bay, &task).map_err(Fault::of_partial)?)?;
+    let asked = put(&bay, telling, || built(text))?;
     let ways = match asked.proof {
-        None if bay.ways() <= MOST_WAYS => each_way(&bay)?,
+        None if !bay.is_full() && bay.ways() <= MOST_WAYS => each_way(&bay, telling)?,
         _ => Vec::new(),
     };
     Ok(Answered { bay, asked, ways })
 }
 
-// The order with its silent slots as one task: any way to fill them reaches its goal.
-fn silenced(bay: &Bay, task: &[u8]) -> Result<Vec<u8>, Fault> {
-    library::build_partial_lean(&library::silence(task, &bay.marks())?)
+// The task of the order; with silent slots, one whose goal any way to fill them reaches.
+fn built(text: &BayText) -> Result<Vec<u8>, Fault> {
+    let bay = text.bay();
+    let task = library::build(&bay.file()).map_err(|fault| text.place(fault))?;
+    if bay.is_full() {
+        return Ok(task);
+    }
+    let partial = library::silence(&task, &bay.marks());
+    let lean = partial.and_then(|partial| library::build_partial_lean(&partial));
+    lean.map_err(|fault| text.place_silent(fault).of_partial())
 }
 
-fn each_way(bay: &Bay) -> Result<Vec<Way>, Fault> {
-    let put_way = |bay: Bay| {
-        let asked = put(library::build(&bay.file())?)?;
+fn each_way(bay: &Bay, telling: &Telling) -> Result<Vec<Way>, Fault> {
+    let ways = bay.completions();
+    let total = ways.len();
+    let put_way = |(index, bay): (usize, Bay)| {
+        let telling = telling.part("way", index + 1, total);
+        let asked = put(&bay, &telling, || library::build(&bay.file()))?;
         Ok(Way { bay, asked })
     };
-    bay.completions().into_iter().map(put_way).collect()
+    ways.into_iter().enumerate().map(put_way).collect()
 }
 
-fn put(task: Vec<u8>) -> Result<Asked, Fault> {
-    let workspace = library::open(&task)?;
-    let proof = match library::find(&workspace)? {
-        Some(weights) => Some(checked(&task, workspace, weights)?),
-        None => None,
+// Builds, opens, finds and checks; each step is a proved call.
+fn put(
+    bay: &Bay,
+    telling: &Telling,
+    build: impl FnOnce() -> Result<Vec<u8>, Fault>,
+) -> Result<Asked, Fault> {
+    let mut steps = telling.steps(library::words_due(&bay.sizes()), STEPS);
+    let task = steps.take("building the task", build)?;
+    let workspace = steps.open(|| library::open(&task))?;
+    let found = steps.take("finding weights", || library::find(&workspace))?;
+    let Some(found) = found else {
+        let proof = None;
+        return Ok(Asked { task, proof });
     };
+    let check = || checked(&task, workspace, found);
+    let proof = Some(steps.take("checking the weights", check)?);
     Ok(Asked { task, proof })
 }
 

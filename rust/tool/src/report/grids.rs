@@ -12,6 +12,10 @@ const TOP: usize = 36;
 const NARROWEST: usize = 122;
 /// Bays up to this size have grids half as large again, for fingers that follow the rows.
 const SMALL: usize = 4;
+/// Bays up to this size show all grids; those of a larger one would bury what follows.
+const OPEN: usize = 9;
+/// A name of more characters is squeezed into its square.
+const WIDEST_NAME: usize = 3;
 
 /// What stands above, to the left and along the top of a grid.
 struct Sides {
@@ -28,13 +32,11 @@ struct Square {
     goal: bool,
 }
 
-/// The grid of single features: a row for each slot, a column for each label.
-pub fn singles(bay: &Bay, listed: &Listed) -> String {
+// The grid of single features: a row for each slot, a column for each label.
+fn singles(bay: &Bay, listed: &Listed) -> String {
     let sides = Sides {
         title: "One slot".to_string(),
-        left: (0..bay.slots())
-            .map(|row| slot(bay, row).to_string())
-            .collect(),
+        left: (0..bay.slots()).map(|row| slot(bay, row)).collect(),
         top: labels(bay),
     };
     grid(&sides, |row, column| {
@@ -43,12 +45,27 @@ pub fn singles(bay: &Bay, listed: &Listed) -> String {
     })
 }
 
-/// One grid for each two slots: rows are labels of the first, columns of the second.
-pub fn pairs(bay: &Bay, listed: &Listed) -> String {
-    let mut grids = String::new();
+/// All grids: the one of single features, and those of two slots.
+pub fn all(bay: &Bay, listed: &Listed) -> String {
+    let (singles, pairs) = (singles(bay, listed), pairs(bay, listed));
+    if bay.slots() <= OPEN {
+        return format!("<div class=\"grids\">\n{singles}{}</div>\n", pairs.concat());
+    }
+    format!(
+        "<div class=\"grids\">\n{singles}</div>\n\
+         <details><summary>All {} grids of two slots (open to see or print them)</summary>\n\
+         <div class=\"grids\">\n{}</div>\n</details>\n",
+        pairs.len(),
+        pairs.concat()
+    )
+}
+
+// One grid for each two slots: rows are labels of the first, columns of the second.
+fn pairs(bay: &Bay, listed: &Listed) -> Vec<String> {
+    let mut grids = Vec::new();
     for low in 0..bay.slots() {
         for high in low + 1..bay.slots() {
-            grids.push_str(&pair(bay, listed, low, high));
+            grids.push(pair(bay, listed, low, high));
         }
     }
     grids
@@ -101,12 +118,13 @@ fn grid(sides: &Sides, square: impl Fn(usize, usize) -> Square) -> String {
     let width = NARROWEST.max(LEFT + columns * SQUARE + 2);
     let height = TOP + rows * SQUARE + 2;
     let [shown_width, shown_height] = [width, height].map(|length| shown(length, rows));
-    let mut body = names(sides) + &ground(rows, columns);
+    let mut marks = Marks::default();
     for row in 0..rows {
         for column in 0..columns {
-            body.push_str(&marks(&square(row, column), row, column));
+            marks.add(&square(row, column), row, column);
         }
     }
+    let body = names(sides) + &ground(rows, columns) + &marks.drawn();
     format!(
         "<svg class=\"grid\" role=\"img\" aria-label=\"{}\" width=\"{shown_width}\" \
          height=\"{shown_height}\" viewBox=\"0 0 {width} {height}\">{body}</svg>\n",
@@ -122,25 +140,29 @@ fn shown(length: usize, slots: usize) -> usize {
 }
 
 fn names(sides: &Sides) -> String {
-    let mut names = format!(
-        "<text class=\"caption\" x=\"2\" y=\"14\">{}</text>",
-        sides.title
-    );
-    let mut name = |x: usize, y: usize, words: &str| {
-        names.push_str(&format!(
-            "<text class=\"side\" x=\"{x}\" y=\"{y}\">{words}</text>"
-        ));
-    };
-    for (column, words) in sides.top.iter().enumerate() {
-        name(LEFT + column * SQUARE + SQUARE / 2, TOP - 5, words);
-    }
-    for (row, words) in sides.left.iter().enumerate() {
-        name(LEFT / 2, TOP + row * SQUARE + 12, words);
-    }
-    names
+    let top = sides.top.iter().enumerate();
+    let top = top.map(|(column, words)| name(LEFT + column * SQUARE + SQUARE / 2, TOP - 5, words));
+    let left = sides.left.iter().enumerate();
+    let left = left.map(|(row, words)| name(LEFT / 2, TOP + row * SQUARE + 12, words));
+    format!(
+        "<text class=\"caption\" x=\"2\" y=\"14\">{}</text><g class=\"side\">{}</g>",
+        sides.title,
+        top.chain(left).collect::<String>()
+    )
 }
 
-// All squares at once, so that a page about nine slots stays small.
+fn name(x: usize, y: usize, words: &str) -> String {
+    let squeezed = match words.chars().count() > WIDEST_NAME {
+        true => format!(
+            " textLength=\"{}\" lengthAdjust=\"spacingAndGlyphs\"",
+            SQUARE - 1
+        ),
+        false => String::new(),
+    };
+    format!("<text x=\"{x}\" y=\"{y}\"{squeezed}>{words}</text>")
+}
+
+// All squares at once, so that a page about sixteen slots stays small.
 fn ground(rows: usize, columns: usize) -> String {
     let (width, height) = (columns * SQUARE, rows * SQUARE);
     let mut lines = String::new();
@@ -150,36 +172,54 @@ fn ground(rows: usize, columns: usize) -> String {
     for column in 0..=columns {
         lines.push_str(&format!("M{} {TOP}v{height}", LEFT + column * SQUARE));
     }
-    format!("<path class=\"lines\" d=\"{lines}\"/>")
+    path("lines", &lines)
 }
 
-fn marks(square: &Square, row: usize, column: usize) -> String {
-    let (x, y) = (LEFT + column * SQUARE, TOP + row * SQUARE);
-    let mut marks = String::new();
-    let mut frame = |class: &str, inset: usize| {
-        let (left, top, size) = (x + inset, y + inset, SQUARE - 2 * inset);
-        marks.push_str(&format!(
-            "<rect class=\"{class}\" x=\"{left}\" y=\"{top}\" width=\"{size}\" height=\"{size}\"/>"
-        ));
-    };
-    if square.listed {
-        frame("listed", 0);
+/// The marks of a grid; those of which there are many are one path of each kind.
+#[derive(Default)]
+struct Marks {
+    listed: String,
+    never: String,
+    start: String,
+    goal: String,
+}
+
+impl Marks {
+    fn add(&mut self, square: &Square, row: usize, column: usize) {
+        let (x, y) = (LEFT + column * SQUARE, TOP + row * SQUARE);
+        if square.listed {
+            self.listed += &format!("M{x} {y}h{SQUARE}v{SQUARE}h-{SQUARE}z");
+        }
+        if square.never {
+            self.never += &format!("M{x} {y}l{SQUARE} {SQUARE}");
+        }
+        if square.start {
+            let (across, down) = (x + SQUARE / 2, y + SQUARE / 2);
+            self.start +=
+                &format!("<circle class=\"start\" cx=\"{across}\" cy=\"{down}\" r=\"4\"/>");
+        }
+        if square.goal {
+            let (left, top, size) = (x + 1, y + 1, SQUARE - 2);
+            self.goal += &format!(
+                "<rect class=\"goal\" x=\"{left}\" y=\"{top}\" width=\"{size}\" height=\"{size}\"/>"
+            );
+        }
     }
-    if square.goal {
-        frame("goal", 1);
+
+    fn drawn(&self) -> String {
+        let [listed, never] = [("listed", &self.listed), ("never", &self.never)]
+            .map(|(class, strokes)| path(class, strokes));
+        [&listed, &self.goal, &never, &self.start]
+            .map(String::as_str)
+            .concat()
     }
-    if square.never {
-        marks.push_str(&format!(
-            "<path class=\"never\" d=\"M{x} {y}l{SQUARE} {SQUARE}\"/>"
-        ));
+}
+
+fn path(class: &str, strokes: &str) -> String {
+    if strokes.is_empty() {
+        return String::new();
     }
-    if square.start {
-        let (across, down) = (x + SQUARE / 2, y + SQUARE / 2);
-        marks.push_str(&format!(
-            "<circle class=\"start\" cx=\"{across}\" cy=\"{down}\" r=\"4\"/>"
-        ));
-    }
-    marks
+    format!("<path class=\"{class}\" d=\"{strokes}\"/>")
 }
 
 /// What the marks in the grids mean.
@@ -209,12 +249,14 @@ pub fn legend(bay: &Bay) -> String {
 
 fn item(square: &Square, words: &str) -> String {
     let size = SQUARE + 2;
+    let mut marks = Marks::default();
+    marks.add(square, 0, 0);
     format!(
         "<li><svg width=\"{size}\" height=\"{size}\" viewBox=\"{} {} {size} {size}\" \
          aria-hidden=\"true\">{}{}</svg> {words}</li>",
         LEFT - 1,
         TOP - 1,
         ground(1, 1),
-        marks(square, 0, 0)
+        marks.drawn()
     )
 }

@@ -8,9 +8,18 @@ use crate::words::{counted, parity};
 
 /// Lists up to this length stand open on the page.
 const SHORT: usize = 40;
+/// Nobody reads a longer list, and it would make the page many times as large.
+const LONGEST: usize = 2_000;
 
-/// A row for each listed feature, with its number and where it is true.
+/// A row for each listed feature, with its number and where it is true; a long list is left out.
 pub fn table(bay: &Bay, listed: &Listed, proof: &Proof) -> String {
+    if listed.len() > LONGEST {
+        return format!(
+            "<p>The {} are not told in words here, as they are more than {LONGEST}. Their numbers \
+             are in the answer to <code>florumeja ask --json FILE</code>.</p>\n",
+            counted(listed.len(), "listed feature")
+        );
+    }
     let mut rows = String::new();
     for &number in &proof.weights {
         let one = proof.features.get(number);

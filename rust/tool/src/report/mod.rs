@@ -257,11 +257,10 @@ fn whole_list(bay: &Bay, listed: &Listed, proof: &Proof) -> String {
          <p>Each filled square is a feature on the list. In the first grid a row is a slot and a \
          column is what it holds (&#8226; is the gap{unknown}{spare}). Each of the other grids is about two slots: \
          the row is what the first holds, the column is what the second holds.</p>\n{}\
-         <div class=\"grids\">\n{}{}</div>\n{}</section>\n",
+         {}{}</section>\n",
         counted(listed.len(), "feature"),
         grids::legend(bay),
-        grids::singles(bay, listed),
-        grids::pairs(bay, listed),
+        grids::all(bay, listed),
         listing::table(bay, listed, proof),
         unknown = if bay.is_full() { "" } else { ", ? is unknown" },
         spare = match bay.has_spare_labels() {

@@ -35,7 +35,7 @@ fn one(bay: &Bay, when: &str, labels: &[usize], moved: &[usize]) -> String {
         let (kind, shown) = content(bay, value);
         let mark = if moved.contains(&index) { " moved" } else { "" };
         let name = slot(bay, index);
-        cells.push_str(&cell(name, &format!("{kind}{mark}"), &shown, left, top));
+        cells.push_str(&cell(&name, &format!("{kind}{mark}"), &shown, left, top));
     }
     format!(
         "<svg class=\"bay\" role=\"img\" aria-label=\"{}\" width=\"{width}\" height=\"{height}\" \
@@ -53,7 +53,7 @@ fn content(bay: &Bay, value: usize) -> (&'static str, String) {
     }
 }
 
-fn cell(name: char, kind: &str, shown: &str, left: usize, top: usize) -> String {
+fn cell(name: &str, kind: &str, shown: &str, left: usize, top: usize) -> String {
     let (inner_left, inner_top, inner) = (left + 4, top + 4, CELL - 8);
     let (middle, base) = (left + CELL / 2, top + CELL / 2 + 12);
     let (letter_left, letter_top) = (left + 10, top + 19);

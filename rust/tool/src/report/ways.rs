@@ -14,7 +14,7 @@ pub fn proved(answered: &Answered) -> String {
          is impossible: there is a list of <em>features</em>, statements about what one slot or two \
          slots hold, of which an odd number is true in the one bay and an even number in the other, \
          while no move can change odd to even. Below, each way has its pictures, both counts and \
-         its list. A page about one of these full orders, made by <code>florumeja report</code>, \
+         its list, if that is not too long. A page about one of these full orders, made by <code>florumeja report</code>, \
          also shows move by move why its count cannot change from odd to even.</p>\n</section>\n{}{BY_PROGRAM}",
         counted(answered.ways.len(), "way"),
         all(&answered.ways)

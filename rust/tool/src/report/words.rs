@@ -6,15 +6,16 @@ use crate::words::joined;
 
 /// Slots get letters, or numbers where pallets have letters, so that nobody takes a slot for a
 /// pallet.
-pub fn slot(bay: &Bay, index: usize) -> char {
-    let first = if bay.letters.is_empty() { 'A' } else { '1' };
-    char::from_u32(first as u32 + index as u32).unwrap_or('?')
+pub fn slot(bay: &Bay, index: usize) -> String {
+    match bay.letters.is_empty() {
+        true => char::from(b'A' + index as u8).to_string(),
+        false => (index + 1).to_string(),
+    }
 }
 
 /// Some slots, as in "slot A", "slots A and B" and "slots A, B and C".
 pub fn slots(bay: &Bay, indices: &[usize]) -> String {
-    let name = |&index: &usize| slot(bay, index).to_string();
-    let names: Vec<String> = indices.iter().map(name).collect();
+    let names: Vec<String> = indices.iter().map(|&index| slot(bay, index)).collect();
     let ending = if names.len() > 1 { "s" } else { "" };
     format!("slot{ending} {}", joined(&names))
 }

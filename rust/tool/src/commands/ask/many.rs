@@ -7,7 +7,7 @@ use crate::fault::Fault;
 use crate::files::{self, Named};
 use crate::json::Json;
 use crate::output::{say, Status};
-use crate::progress::Progress;
+use crate::progress::{Bar, Shown, Telling};
 use crate::question::{self, Answered};
 use crate::words::{counted, shown};
 use std::collections::BTreeMap;
@@ -37,10 +37,13 @@ pub fn ask(arguments: &Arguments) -> Status {
         return refuse(arguments, name, fault);
     }
     let in_json = arguments.has(&JSON);
-    let mut progress = Progress::new(listed.len());
+    let (shown_how, total) = (Shown::of(arguments), listed.len());
+    let telling = Telling::new(shown_how);
+    let mut progress = Bar::new(shown_how, total);
     let mut answers = Vec::new();
-    for Named { name, fault } in listed {
-        let outcome = fault.map_or_else(|| question::ask(&name), Err);
+    for (index, Named { name, fault }) in listed.into_iter().enumerate() {
+        let telling = telling.part("bay", index + 1, total);
+        let outcome = fault.map_or_else(|| question::ask(&name, &telling), Err);
         summary.add(&outcome);
         if in_json {
             answers.push(item(&name, &outcome));

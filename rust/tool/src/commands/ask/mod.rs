@@ -8,6 +8,7 @@ use crate::answer;
 use crate::args::{Arguments, JSON};
 use crate::files;
 use crate::output::{complain, say, Status};
+use crate::progress::{Shown, Telling, PROGRESS};
 use crate::question;
 use crate::words::shown;
 use evidence::{TASK, WEIGHTS};
@@ -50,6 +51,9 @@ with ?. Where there is no proof for all ways at once, and there are 24 ways or
 fewer, each is asked by itself, and the order is IMPOSSIBLE if each of them is;
 --weights and --task then keep FILE.1, FILE.2 and so on, one for each way.
 
+A bay has 2 to 16 slots, 9 at most in a row or a column, as examples/swapped-4-by-4.txt
+does. Slots with ? may be in bays of up to 15 slots.
+
 Take care in scripts: exit status 0 means IMPOSSIBLE, not that the order can be
 done. What follows florumeja ask FILE && is done for impossible orders only.
 
@@ -57,7 +61,7 @@ FILE may be - for standard input, and a folder stands for the files in it, and
 in folders inside it, that end in .txt. For many files there is one line each
 and a summary, and the exit status is the highest that one of them gives.",
     binary: false,
-    options: &[&WEIGHTS, &TASK, &JSON],
+    options: &[&WEIGHTS, &TASK, &PROGRESS, &JSON],
     statuses: &["IMPOSSIBLE: the order cannot be done", "no parity proof"],
     run,
 };
@@ -74,7 +78,8 @@ fn run(arguments: &Arguments) -> Status {
 }
 
 fn one(arguments: &Arguments, name: &OsStr) -> Status {
-    let outcome = question::ask(name).and_then(|answered| {
+    let telling = Telling::new(Shown::of(arguments));
+    let outcome = question::ask(name, &telling).and_then(|answered| {
         let kept = evidence::keep(arguments, &answered)?;
         Ok((answered, kept))
     });

@@ -1,26 +1,24 @@
-//! A progress bar on standard error, shown only where that is a terminal.
+//! A progress bar for many files, shown only on a terminal.
 
-use std::io::{self, IsTerminal, Write};
+use super::{write, Shown, CLEAR};
 
 const WIDTH: usize = 30;
-const CLEAR: &str = "\r\x1b[K";
 
-pub struct Progress {
+pub struct Bar {
     shown: bool,
     done: usize,
     total: usize,
 }
 
-impl Progress {
-    pub fn new(total: usize) -> Progress {
-        let shown = io::stderr().is_terminal();
-        let progress = Progress {
-            shown,
+impl Bar {
+    pub fn new(shown: Shown, total: usize) -> Bar {
+        let bar = Bar {
+            shown: shown == Shown::InPlace,
             done: 0,
             total,
         };
-        progress.draw();
-        progress
+        bar.draw();
+        bar
     }
 
     /// Clears the bar, so that a line can be printed in its place.
@@ -44,9 +42,7 @@ impl Progress {
 
     fn write(&self, words: &str) {
         if self.shown {
-            let mut out = io::stderr();
-            // A bar that cannot be drawn is no reason to stop.
-            let _ = out.write_all(words.as_bytes()).and_then(|()| out.flush());
+            write(words);
         }
     }
 }

@@ -17,9 +17,17 @@ _florumeja() {
         return
     fi
     # Bash takes --weights=FILE for three words.
-    if [ "$word" = '=' ]; then word='' before='='; fi
+    if [ "$word" = '=' ]; then
+        word=''
+    elif [ "$before" = '=' ]; then
+        before=${COMP_WORDS[COMP_CWORD - 2]}
+    fi
     case $before in
-    -o | --output | --weights | --task | =)
+    --progress)
+        mapfile -t COMPREPLY < <(compgen -W 'auto always never' -- "$word")
+        return
+        ;;
+    -o | --output | --weights | --task)
         _florumeja_files "$word"
         return
         ;;
@@ -27,9 +35,10 @@ _florumeja() {
     --marks | --bay) return ;;
     esac
     case ${COMP_WORDS[1]} in
-    ask) options='--weights --task --json --help' ;;
-    report) options='--output --json --help' ;;
-    find | build | open) options='--output --partial --lean --json --help' ;;
+    ask) options='--weights --task --progress --json --help' ;;
+    report) options='--output --progress --json --help' ;;
+    find | open) options='--output --partial --lean --progress --json --help' ;;
+    build) options='--output --partial --lean --json --help' ;;
     check) options='--partial --lean --json --help' ;;
     silence) options='--marks --output --json --help' ;;
     mend) options='--bay --output --json --help' ;;

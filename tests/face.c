@@ -107,8 +107,8 @@ static size_t bay_of(uint8_t *bay, int rows, int columns) {
     return (size_t)(2 + 2 * n);
 }
 
-/* n variables of size n: 1 + n bytes, start and goal n each. Pairs: n for each two slots, from n * n on, n * n + 1 + the number of the two slots times n * n apart. Operators
- * of 7 bytes: n - 1 labels for each side that two slots share, either way.
+/* n variables of size n: 1 + n bytes, and n each for start and goal. A pair for each label t and each two slots, the k-th of which it is (1 + k) * n * n + t * (n + 1). An
+ * operator of 7 bytes for each label but the gap's and each side that two slots share, either way.
  * 3 by 3: 10 + 18; 324 pairs, of which 5 are below 128: 2 + 5 + 2 * 319; 12 sides, 192 operators: 2 + 7 * 192. In all 2,019.
  * 2 by 5: 11 + 20; 450 pairs, of which 3 are below 128: 2 + 3 + 2 * 447; 13 sides, 234 operators: 2 + 7 * 234. In all 2,570.
  * 4 by 4: 17 + 32; 1,920 pairs, those of the first 63 of 120 two slots below 16,384: 2 + 2 * 1,008 + 3 * 912; 24 sides, 720 operators: 2 + 7 * 720. In all 9,845.
@@ -368,12 +368,14 @@ static struct lengths with_all_pairs(const uint8_t *sizes, size_t v, uint8_t *or
     return lengths;
 }
 
-/* How much longer a built task is. 64 of size 3: pairs from the 1,008th block of eight on are 16,384 and more where they were so from the 1,799th on, 6,328 bytes; 192
- * operators, 768 bytes; their count, one byte. 40 of size 1 and 24 of size 6 is the worst that was found. The sizes with the most operators: 281. */
+/* How much longer a built task is: a byte for each listed pair that passes 128 or 16,384, four for each operator, and one where their count takes two. 16 of size 2: pairs 68
+ * to 127 but for 15 that the start holds. 64 of size 3: 9,264 to 16,383 but for 792. 40 of size 1 and 24 of size 6, the worst that was found: 6,544 to 16,383 but for 299.
+ * The sizes with the most operators: 15,876 to 16,383. */
 static void built_lengths(void) {
     static const struct { const char *name; size_t ones; uint8_t size, last; size_t v, more; } shapes[] = {
-        {"64 of size 3", 0, 3, 3, 64, 6328 + 4 * 192 + 1},
-        {"40 of size 1 and 24 of size 6", 40, 6, 6, 64, 9541 + 4 * 184 + 1},
+        {"16 of size 2", 0, 2, 2, 16, 60 - 15 + 4 * 32},
+        {"64 of size 3", 0, 3, 3, 64, 7120 - 792 + 4 * 192 + 1},
+        {"40 of size 1 and 24 of size 6", 40, 6, 6, 64, 9840 - 299 + 4 * 184 + 1},
         {"4 of size 63 and one of 29", 0, 63, 29, 5, 508 + 4 * 281 + 1},
     };
     static uint8_t order[100000], task[100000], room[100000 + FLORUMEJA_BUILT_MORE];

@@ -6,6 +6,8 @@ mod lying_pairs;
 mod lying_places;
 
 use lying_pairs::{lie, NO_LIE};
+use std::thread::sleep;
+use std::time::Duration;
 
 const REFUSED: u64 = 3 << 32;
 /// An answer outside the table of answers.
@@ -23,6 +25,10 @@ pub extern "C" fn florumeja_check(_: *const u8, _: usize, _: *const u8, _: usize
 /// The same with a goal that is its start.
 const ALIKE: [u64; 16] = [2, 2, 2, 0, 1, 0, 1, 0, 0, 0, 0, 0, 0, 0, 0, 0];
 
+/// A task that begins so, with a workspace that would be large, is opened slowly.
+const SLOW: [u8; 6] = [5, 64, 64, 64, 64, 2];
+const SLOWLY: Duration = Duration::from_millis(1500);
+
 /// Opens every task of no bytes as one workspace, and all others as another; a task that asks for a
 /// lie about its pairs is refused 7, and 6 where there is no lie; one that asks for a lie about a place
 /// says itself by which number it is refused.
@@ -38,6 +44,9 @@ pub unsafe extern "C" fn florumeja_open(
 ) -> u64 {
     if let Some(number) = lying_places::refusal(task, task_length) {
         return REFUSED | number;
+    }
+    if std::slice::from_raw_parts(task, task_length).starts_with(&SLOW) {
+        sleep(SLOWLY);
     }
     match lie(task, task_length) {
         Some(NO_LIE) => return REFUSED | 6,

@@ -152,3 +152,18 @@ fn is_hidden(path: &Path) -> bool {
     let name = path.file_name().unwrap_or_default();
     name.as_encoded_bytes().starts_with(b".")
 }
+
+#[cfg(test)]
+mod tests {
+    use super::*;
+
+    // 64 sizes, starts and goals of one byte each, three bytes for each count and each of 32,768 pairs,
+    // and as many operators as can be counted, of 64 entries.
+    #[test]
+    fn no_file_of_the_rules_is_too_long() {
+        let operators = 2_097_151 * (1 + 3 * 64);
+        let longest = 1 + 3 * 64 + 3 + 3 * 32_768 + 3 + operators;
+        assert_eq!(longest, 404_848_646);
+        assert!(longest <= MOST_BYTES);
+    }
+}

@@ -72,17 +72,18 @@ fn drops(task: &Task) -> Vec<usize> {
     for pair in &drops {
         left.listed.remove(*pair);
     }
-    let mut waiting = vec![true; task.operators.len()];
+    let operators: Vec<&Operator> = task.unrepeated().map(|(_, each)| each).collect();
+    let mut waiting = vec![true; operators.len()];
     while let Some(place) = waiting.iter().position(|waits| *waits) {
         waiting[place] = false;
-        let operator = &task.operators[place];
+        let operator = operators[place];
         if planted(IdleStaysIdle) && came.idle(operator) {
             continue;
         }
         for pair in faulty_unclosed(&left, operator) {
             left.listed.remove(pair);
             drops.push(pair);
-            for (waits, other) in waiting.iter_mut().zip(&task.operators) {
+            for (waits, other) in waiting.iter_mut().zip(&operators) {
                 *waits |= wakes(came.features.feature(pair), other);
             }
         }
@@ -189,7 +190,7 @@ fn held_fault(task: &Task, pairing: &Pairing) -> Option<PairFault> {
 /// The pair and the operator that are told where some are unclosed.
 fn unclosed_fault(task: &Task, pairing: &Pairing) -> Option<PairFault> {
     let mut faults = Vec::new();
-    for (operator, each) in task.operators.iter().enumerate() {
+    for (operator, each) in task.unrepeated() {
         let pairs = pairing.unclosed(each);
         let pair = if planted(NamingLastPair) {
             pairs.last()

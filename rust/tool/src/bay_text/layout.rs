@@ -44,54 +44,48 @@ fn begun_alike(lines: &Lines, rows: &[Row]) -> Result<(), Fault> {
 }
 
 fn evenly_apart(lines: &Lines, rows: &[Row]) -> Result<(), Fault> {
-    let apart = match in_columns(lines, rows) {
-        true => between_columns(lines, rows),
-        false => between_labels(lines, rows),
-    };
-    let Some(least) = apart.iter().map(|(cells, _)| *cells).min() else {
+    // There a label of one digit has more blanks beside it than one of two.
+    if in_even_columns(lines, rows) {
+        return Ok(());
+    }
+    let apart = |pair: &[Label]| cells(blanks(lines, pair));
+    let pairs = || rows.iter().flat_map(|row| row.labels.windows(2));
+    let Some(least) = pairs().map(apart).min() else {
         return Ok(());
     };
-    match apart.iter().find(|(cells, _)| *cells >= 2 * least) {
-        Some((_, label)) => {
+    match pairs().find(|pair| apart(pair) >= 2 * least) {
+        Some(pair) => {
             let expected = "labels evenly apart, as a wide blank could be a hole or part two bays";
-            let found = "a wide blank before this one";
-            Err(label.place.fault(lines, expected, found))
+            Err(pair[1]
+                .place
+                .fault(lines, expected, "a wide blank before this one"))
         }
         None => Ok(()),
     }
 }
 
-// Each label but the first of its row, with how many places it stands behind the one before it.
-fn between_labels<'a>(lines: &Lines, rows: &'a [Row]) -> Vec<(usize, &'a Label)> {
-    let pairs = rows.iter().flat_map(|row| row.labels.windows(2));
-    pairs
-        .map(|pair| (cells(blanks(lines, pair)), &pair[1]))
-        .collect()
-}
-
-// The same for columns, by the row in which the blank between two of them is least: a short label has
-// more blanks beside it than a long one.
-fn between_columns<'a>(lines: &Lines, rows: &'a [Row]) -> Vec<(usize, &'a Label)> {
-    let apart = between_labels(lines, rows);
-    let columns = rows[0].labels.len() - 1;
-    let least = |column| {
-        let column = apart.iter().skip(column).step_by(columns);
-        column.copied().min_by_key(|(cells, _)| *cells)
-    };
-    (0..columns).filter_map(least).collect()
-}
-
-// Whether the labels of each column begin, or end, below each other on every screen; a tab is not as
-// wide on all of them.
-fn in_columns(lines: &Lines, rows: &[Row]) -> bool {
-    let first = |label: &Label| label.place.column;
-    let last = |label: &Label| label.place.column + label.written.len();
-    let alike = |edge: &dyn Fn(&Label) -> usize| {
+// Whether the labels begin, or end, in columns that are all equally far apart. A tab is not as wide on
+// every screen, so it makes no such columns.
+fn in_even_columns(lines: &Lines, rows: &[Row]) -> bool {
+    let even = |edge: fn(&Label) -> usize| {
         let edges = |row: &Row| row.labels.iter().map(edge).collect::<Vec<_>>();
-        rows.iter().all(|row| edges(row) == edges(&rows[0]))
+        let first = edges(&rows[0]);
+        let apart: Vec<usize> = first.windows(2).map(|two| two[1] - two[0]).collect();
+        let alike = rows.iter().all(|row| edges(row) == first);
+        alike && apart.windows(2).all(|two| two[0] == two[1])
     };
-    let mut lines = rows.iter().map(|row| &lines[row.end.line - 1]);
-    lines.all(|line| !line.contains('\t')) && (alike(&first) || alike(&last))
+    let mut texts = rows.iter().map(|row| &lines[row.end.line - 1]);
+    let tabs = texts.any(|text| text.contains('\t'));
+    !tabs && (even(begin) || even(end))
+}
+
+fn begin(label: &Label) -> usize {
+    label.place.column
+}
+
+// The column behind the label.
+fn end(label: &Label) -> usize {
+    label.place.column + label.written.len()
 }
 
 // How many places further the next label stands: each tab leads to the next, and so do two columns.

@@ -227,6 +227,32 @@ fn uneven_blanks_do_no_harm_where_none_holds_a_label() {
     }
 }
 
+// Labels of one digit and of two, right under right or left under left, with blanks of two and three.
+#[test]
+fn labels_in_columns_stand_evenly_apart() {
+    let twice = |rows: &str| format!("{rows}\n\n{rows}\n");
+    let even = [
+        "   1   2   3\n   4   5   6\n  10  11   .",
+        "1   2   3\n4   5   6\n10  11  .",
+        " 1  2  3  4\n 5  6  7  8\n 9 10 11 12\n13 14 15  .",
+        "1\t2\t3\n4\t5\t6\n10\t11\t.",
+    ];
+    for rows in even {
+        assert_eq!(fault(&twice(rows)), "no fault", "{rows}");
+    }
+    // A label that is moved aside, aisles, and tabs that other screens show narrower.
+    let uneven = [
+        "   1   2   3\n   4 5     6\n  10  11   .",
+        " 1  2    3\n 4  5    6\n10 11    .",
+        "1 2   3 10\n4 5   6 11\n7 8   9  .",
+        "1       2       3\n4\t5\t6\n10\t11\t.",
+    ];
+    for rows in uneven {
+        let words = fault(&twice(rows));
+        assert!(words.contains("labels evenly apart"), "{rows}: {words}");
+    }
+}
+
 #[test]
 fn bays_side_by_side_are_not_read_as_one() {
     let words = fault("1 2   2 1\n3 .   3 .\n");
@@ -267,6 +293,19 @@ fn refusals_find_their_place() {
     };
     place("1 2\n. 4\n\n1 2\n. 3\n", 3, "line 2, column 3");
     place("1\n\n1\n", 2, "line 1, column 1");
+    // The first label of the tenth row, the tenth of a row, the seventeenth in all.
+    let rows = |row: &str, count| [row; 10][..count].join("\n");
+    let twice = |rows: String| format!("{rows}\n\n{rows}\n");
+    let tall =
+        "line 10, column 1: expected a bay of 2 to 16 slots in all, 9 at most in a row or a \
+                column, found 10 by 2 (refused 2: ";
+    place(&twice(rows("1 2", 10)), 2, tall);
+    place(
+        &twice(rows("1 2 3 4 5 6 7 8 9 1 2", 1)),
+        2,
+        "line 1, column 19",
+    );
+    place(&twice(rows("1 2 3 4 5 6 7 8 9", 2)), 2, "line 2, column 15");
     place("1 2\n. 3\n\n? 4\n. ?\n", 3, "line 4, column 3");
     place("1 .\n\n. 1\n", 5, "refused 5");
     // The gaps of the start come first.

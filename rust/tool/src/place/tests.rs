@@ -14,16 +14,24 @@ const PARTIAL: &[u8] = &[
 ];
 const BAY: &[u8] = &[2, 3, 1, 2, 3, 4, 5, 0, 1, 2, 3, 5, 4, 0];
 const WEIGHTS: &[u8] = &[3, 0, 2, 3];
+/// Sizes 64, 64, 64, 64 and 2: 25,346 features, so that the pairs 16,384 and 25,345 and weights of the
+/// same numbers have three bytes; no operator.
+const LARGE: &[u8] = &[
+    5, 64, 64, 64, 64, 2, 0, 0, 0, 0, 0, 1, 0, 0, 0, 0, 2, 0x80, 0x80, 1, 0x81, 0xc6, 1, 0,
+];
+const LARGE_WEIGHTS: &[u8] = &[3, 0, 0x80, 0x80, 1, 0x81, 0xc6, 1];
 /// Document 01's case A: two variables of size 2, and no more; it is accepted.
 const SMALL: &[u8] = &[2, 2, 2, 0, 0, 0, 1, 0, 0];
 /// A partial file of which the same is true.
 const SMALL_PARTIAL: &[u8] = &[2, 2, 2, 0, 1, 0, 0, 1, 0, 0];
 
-const KINDS: [(Kind, &[u8]); 5] = [
+const KINDS: [(Kind, &[u8]); 7] = [
     (Kind::Task, TASK),
+    (Kind::Task, LARGE),
     (Kind::Partial, PARTIAL),
     (Kind::Bay, BAY),
     (Kind::Weights(SMALL), WEIGHTS),
+    (Kind::Weights(LARGE), LARGE_WEIGHTS),
     (Kind::PartialWeights(SMALL_PARTIAL), WEIGHTS),
 ];
 
@@ -139,7 +147,10 @@ fn a_place_that_no_number_leads_to_has_no_name() {
 // The ends of a range are all that is asked of the library; here it is asked of many numbers.
 #[test]
 fn ranges_are_the_numbers_that_the_library_takes() {
-    let tried: Vec<usize> = (0..=300).chain([4095, 4096, 16_382, 16_383]).collect();
+    let ends = [
+        4095, 4096, 16_383, 16_384, 16_385, 25_345, 25_346, 32_768, 2_097_150, 2_097_151,
+    ];
+    let tried: Vec<usize> = (0..=300).chain(ends).collect();
     for (kind, file) in KINDS {
         let places = places(file);
         for place in &places[..places.len() - 1] {
@@ -204,15 +215,25 @@ fn the_number_that_is_due_does_not_depend_on_what_stands_there() {
                     format!("refused 1: the file ends behind 80 at byte {place}"),
                 ),
                 (
+                    with(&[0x80, 0x80]),
+                    format!("refused 1: the file ends behind 80 80 at byte {place}"),
+                ),
+                (
                     with(&[0x85, 0, 7]),
                     format!(
                         "refused 12: at byte {place} stands 85 00, which is not the shortest form"
                     ),
                 ),
                 (
-                    with(&[0xff, 0x80, 7]),
+                    with(&[0x85, 0x80, 0, 7]),
                     format!(
-                        "refused 13: at byte {place} stands ff 80, which says that more follows"
+                        "refused 12: at byte {place} stands 85 80 00, which is not the shortest form"
+                    ),
+                ),
+                (
+                    with(&[0xff, 0x80, 0x80, 7]),
+                    format!(
+                        "refused 13: at byte {place} stands ff 80 80, which says that more follows"
                     ),
                 ),
             ];
@@ -247,9 +268,11 @@ fn every_mistyped_byte_is_told_with_what_is_due() {
     assert!(placed > 10_000, "{placed}");
 }
 
+// Four variables of size 64 have 24,832 features, and a fifth of size s adds 257 * s: so s is 30 at most,
+// and then there are 32,542, to which a sixth variable would add 287 for each of its values.
 #[test]
 fn numbers_outside_their_range_are_told() {
-    let due: [(Kind, &[u8], &str); 9] = [
+    let due: [(Kind, &[u8], &str); 11] = [
         (
             Kind::Task,
             &[65, 9],
@@ -258,15 +281,15 @@ fn numbers_outside_their_range_are_told() {
         ),
         (
             Kind::Task,
-            &[2, 64, 63],
-            "refused 2: at byte 2 stands 3f, which is 63, where the size of variable 1 is due, \
-             from 1 to 62, as the features in all have a limit too; bytes and variables counted \
+            &[5, 64, 64, 64, 64, 31],
+            "refused 2: at byte 5 stands 1f, which is 31, where the size of variable 4 is due, \
+             from 1 to 30, as the features in all have a limit too; bytes and variables counted \
              from 0",
         ),
         (
             Kind::Task,
-            &[3, 64, 62, 1],
-            "refused 2: at byte 3 stands 01, which is 1, where the size of variable 2 is due, and \
+            &[6, 64, 64, 64, 64, 30, 1],
+            "refused 2: at byte 6 stands 01, which is 1, where the size of variable 5 is due, and \
              no number will do, as the features in all have a limit too; bytes and variables \
              counted from 0",
         ),
@@ -291,16 +314,28 @@ fn numbers_outside_their_range_are_told() {
         ),
         (
             Kind::Partial,
-            &[2, 63, 63],
-            "refused 2: at byte 2 stands 3f, which is 63, where the size of variable 1 is due, \
-             from 1 to 61, as the features in all have a limit too; bytes and variables counted \
+            &[5, 63, 63, 63, 63, 30],
+            "refused 2: at byte 5 stands 1e, which is 30, where the size of variable 4 is due, \
+             from 1 to 29, as the features in all have a limit too; bytes and variables counted \
              from 0",
         ),
         (
             Kind::Bay,
-            &[5, 2],
+            &[9, 2],
             "refused 2: at byte 1 stands 02, which is 2, where the count of columns is due, and \
              only 1 will do, as the slots in all have a limit too; bytes counted from 0",
+        ),
+        (
+            Kind::Bay,
+            &[5, 4],
+            "refused 2: at byte 1 stands 04, which is 4, where the count of columns is due, from 1 \
+             to 3, as the slots in all have a limit too; bytes counted from 0",
+        ),
+        (
+            Kind::Weights(LARGE),
+            &[2, 0x80, 0x80, 1, 0x82, 0xc6, 1],
+            "refused 3: at byte 4 stands 82 c6 01, which is 25346, where the 2nd of 2 weights is \
+             due, from 16385 to 25345; bytes counted from 0",
         ),
         (
             Kind::PartialWeights(SMALL_PARTIAL),
@@ -316,7 +351,7 @@ fn numbers_outside_their_range_are_told() {
 
 #[test]
 fn a_refusal_without_a_place_stays_as_it_is() {
-    let mut outgrown = vec![1, 1, 0, 0, 0, 0xff, 0x7f];
+    let mut outgrown = vec![1, 1, 0, 0, 0, 0xff, 0xff, 0x7f];
     outgrown.extend([1, 0, 0, 0].repeat(numbers::LARGEST));
     let due: [(Kind, &[u8], u32); 7] = [
         (Kind::Task, &[2, 2, 2, 0, 0, 0, 1, 0, 0, 7], 5),
@@ -340,7 +375,7 @@ fn a_refusal_without_a_place_stays_as_it_is() {
 fn a_refusal_that_the_bytes_do_not_bear_out_is_not_passed_on() {
     let ended: &[u8] = &[2, 2];
     let padded: &[u8] = &[2, 0x80, 0];
-    let endless: &[u8] = &[2, 0x80, 0x80];
+    let endless: &[u8] = &[2, 0x80, 0x80, 0x80];
     let beyond: &[u8] = &[2, 65];
     let lies = [
         (ended, [2, 3, 12, 13, 5]),
@@ -373,8 +408,8 @@ fn a_program_is_told_the_same() {
          \"least\": 0, \"most\": 63}"
     );
     assert_eq!(
-        json(Kind::Task, &[3, 64, 62]),
-        ": 3, \"bytes\": \"\", \"expected\": \"the size of variable 2, and no number will do, as \
+        json(Kind::Task, &[6, 64, 64, 64, 64, 30]),
+        ": 6, \"bytes\": \"\", \"expected\": \"the size of variable 5, and no number will do, as \
          the features in all have a limit too\"}"
     );
 }

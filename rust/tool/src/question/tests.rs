@@ -1,7 +1,12 @@
 //! Every order of a small bay, held against a search through all that moves lead to.
 
 use super::*;
+use crate::progress::Shown;
 use std::collections::HashSet;
+
+fn asked(text: &BayText) -> Answered {
+    ask_text(text, &Telling::new(Shown::Nowhere)).unwrap()
+}
 
 /// What moves lead to from the bay as it stands.
 fn reached(bay: &Bay) -> HashSet<Vec<usize>> {
@@ -66,7 +71,7 @@ fn impossible_orders_are_those_that_no_moves_meet() {
         assert_eq!(orders.len(), count);
         let reached = reached(&text_of(columns, &start, &["?"; 4]).bay());
         for order in orders {
-            let answered = ask_text(&text_of(columns, &start, &order)).unwrap();
+            let answered = asked(&text_of(columns, &start, &order));
             let met = reached.iter().any(|state| {
                 let mut both = answered.bay.goal.iter().zip(state);
                 both.all(|(wanted, label)| wanted.is_none_or(|wanted| wanted == *label))
@@ -83,7 +88,7 @@ fn impossible_orders_are_those_that_no_moves_meet() {
 
 #[test]
 fn ways_are_asked_where_one_proof_is_not_enough() {
-    let answered = |order: [&str; 4]| ask_text(&text_of(2, &["1", "2", "3", "0"], &order)).unwrap();
+    let answered = |order: [&str; 4]| asked(&text_of(2, &["1", "2", "3", "0"], &order));
     let one = answered(["2", "1", "3", "?"]);
     assert!(one.asked.proof.is_some() && one.ways.is_empty());
     let two = answered(["2", "1", "?", "?"]);
@@ -92,4 +97,31 @@ fn ways_are_asked_where_one_proof_is_not_enough() {
     let either = answered(["?", "1", "?", "0"]);
     assert!(!either.is_impossible_each_way() && either.status() == Status::No);
     assert_eq!((either.ways.len(), either.impossible_ways()), (2, 1));
+}
+
+// With "unknown" a slot of n has n + 1 labels: n * (n + 1) features of one slot, (n + 1) * (n + 1) for
+// each two. That makes 27,120 for fifteen slots and 34,952 for sixteen.
+#[test]
+fn slots_are_left_open_in_bays_of_up_to_fifteen() {
+    let text = |columns: usize, slots: usize| {
+        let pallets = (1..slots).map(|label| label.to_string());
+        let start: Vec<String> = pallets.chain([".".to_string()]).collect();
+        let start: Vec<&str> = start.iter().map(String::as_str).collect();
+        let mut order = start.clone();
+        order[slots - 2] = "?";
+        text_of(columns, &start, &order)
+    };
+    for (columns, slots) in [(5, 15), (3, 15), (7, 14), (4, 12)] {
+        assert!(built(&text(columns, slots)).is_ok(), "{columns} {slots}");
+    }
+    let words = built(&text(4, 16)).unwrap_err().words();
+    assert_eq!(
+        words,
+        "line 9, column 7: expected a label, as only bays of up to 15 slots may have slots with ? \
+         (with \"unknown\" as one more label this bay has 34952 features, and 32768 are the most), \
+         found \"?\" (refused 2: the count of variables, a size, the count of features, or a bay \
+         dimension breaks its limit)"
+    );
+    let wide = built(&text(8, 16)).unwrap_err().words();
+    assert!(wide.contains("only bays of up to 15 slots"), "{wide}");
 }

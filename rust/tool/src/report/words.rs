@@ -61,3 +61,24 @@ pub fn escaped(text: &str) -> String {
     }
     out
 }
+
+#[cfg(test)]
+mod tests {
+    use super::*;
+
+    #[test]
+    fn sixteen_slots_have_names_of_their_own() {
+        let names = |letters: &str| {
+            let bay = Bay {
+                rows: 4,
+                columns: 4,
+                start: vec![0; 16],
+                goal: vec![None; 16],
+                letters: letters.chars().collect(),
+            };
+            [0, 8, 9, 15].map(|index| slot(&bay, index)).join(" ")
+        };
+        assert_eq!(names(""), "A I J P");
+        assert_eq!(names("AB"), "1 9 10 16");
+    }
+}

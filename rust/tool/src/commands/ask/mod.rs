@@ -51,8 +51,9 @@ with ?. Where there is no proof for all ways at once, and there are 24 ways or
 fewer, each is asked by itself, and the order is IMPOSSIBLE if each of them is;
 --weights and --task then keep FILE.1, FILE.2 and so on, one for each way.
 
-A bay has 2 to 16 slots, 9 at most in a row or a column, as examples/swapped-4-by-4.txt
-does. Slots with ? may be in bays of up to 15 slots.
+A bay has 2 to 16 slots, at most 9 of them in a row or a column. An order for 16
+slots names each of them. One is examples/swapped-4-by-4.txt: the fifteen puzzle
+with 14 and 15 exchanged.
 
 Take care in scripts: exit status 0 means IMPOSSIBLE, not that the order can be
 done. What follows florumeja ask FILE && is done for impossible orders only.

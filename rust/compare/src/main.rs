@@ -15,7 +15,7 @@ mod tally;
 use groups::{Group, GROUPS};
 use run::{run_all, run_case, Choice, Plan, FIRST_SEED};
 use std::process::ExitCode;
-use tally::Tally;
+use tally::{Tally, DUE, DUE_OF_DEAR};
 
 /// What the arguments ask for.
 enum Wish {
@@ -30,14 +30,11 @@ const WHOLE: Plan = Plan {
     stop: false,
 };
 
-/// One of so many cases, of the groups whose cases are soon run.
-fn cheap(share: usize) -> Plan {
-    Plan {
-        choice: Choice::Cheap,
-        share,
-        ..WHOLE
-    }
-}
+const QUICK: Plan = Plan {
+    choice: Choice::Cheap,
+    share: 20,
+    ..WHOLE
+};
 
 fn hexadecimal(text: &str) -> Option<u64> {
     u64::from_str_radix(text.strip_prefix("0x")?, 16).ok()
@@ -47,7 +44,7 @@ fn wish(arguments: &[String]) -> Option<Wish> {
     let words: Vec<&str> = arguments.iter().map(String::as_str).collect();
     match words[..] {
         [] => Some(Wish::All(WHOLE)),
-        ["quick"] => Some(Wish::All(cheap(20))),
+        ["quick"] => Some(Wish::All(QUICK)),
         ["trace"] => Some(Wish::All(Plan {
             trace: true,
             ..WHOLE
@@ -73,7 +70,10 @@ fn main() -> ExitCode {
         Wish::All(plan) => {
             println!("seeds from {FIRST_SEED:#018x}");
             run_all(&mut tally, plan);
-            tally.demand();
+            tally.demand(&DUE);
+            if plan.choice == Choice::All {
+                tally.demand(&DUE_OF_DEAR);
+            }
         }
         Wish::One(group, seed) => run_case(&mut tally, group, seed),
     }
@@ -88,7 +88,6 @@ fn main() -> ExitCode {
 #[cfg(all(test, feature = "selftest"))]
 mod tests {
     use super::fake::{faults, plant, Fault};
-    use super::tally::DUE;
     use super::*;
 
     fn silent() -> Tally {
@@ -100,8 +99,8 @@ mod tests {
     #[test]
     fn no_difference_without_a_fault() {
         let mut tally = silent();
-        run_all(&mut tally, cheap(50));
-        tally.demand();
+        run_all(&mut tally, QUICK);
+        tally.demand(&DUE);
         assert_eq!(tally.failed(), 0);
         assert!(tally.passed() > 5_000, "{}", tally.passed());
     }
@@ -109,7 +108,7 @@ mod tests {
     #[test]
     fn what_was_never_met_is_a_difference() {
         let mut tally = silent();
-        tally.demand();
+        tally.demand(&DUE);
         let due: usize = DUE.iter().map(|(_, answers)| answers.len()).sum();
         assert_eq!(tally.failed(), due);
     }
@@ -133,7 +132,7 @@ mod tests {
             let plans = if fault.is_dear() {
                 vec![dear]
             } else {
-                [400, 50, 10].map(cheap).to_vec()
+                [400, 50, 10].map(|share| Plan { share, ..QUICK }).to_vec()
             };
             assert!(plans.into_iter().any(found), "{fault:?}");
         }

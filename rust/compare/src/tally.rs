@@ -32,8 +32,8 @@ pub const KINDS: [&str; 23] = [
     "display_bay",
 ];
 
-/// Answers that a run of all groups has to meet, or it says nothing of them.
-pub const DUE: [(&str, &[&str]); 22] = [
+/// Answers that a run of many groups has to meet, or it says nothing of them.
+pub const DUE: [(&str, &[&str]); 21] = [
     ("check", FORMS),
     ("check", &["far operator"]),
     ("open", FORMS),
@@ -118,7 +118,6 @@ pub const DUE: [(&str, &[&str]); 22] = [
     ("pair_fault", AS_READ),
     ("display", SHOWN),
     ("display_partial", SHOWN),
-    ("display_partial", &["2 nowhere"]),
     (
         "display_bay",
         &[
@@ -136,6 +135,9 @@ pub const DUE: [(&str, &[&str]); 22] = [
         ],
     ),
 ];
+
+/// Answers that only a group has to meet of which one case takes seconds.
+pub const DUE_OF_DEAR: [(&str, &[&str]); 1] = [("display_partial", &["2 nowhere"])];
 
 /// A number may end too early, be too long for what it says, or have no end.
 const FORMS: &[&str] = &["refused 1", "refused 12", "refused 13"];
@@ -306,8 +308,8 @@ impl Tally {
     }
 
     /// Counts each answer that is due and was never met as a difference.
-    pub fn demand(&mut self) {
-        for (kind, answers) in DUE {
+    pub fn demand(&mut self, due: &[(&'static str, &[&str])]) {
+        for (kind, answers) in due.iter().copied() {
             let count = self.counts.entry(kind).or_default();
             for answer in answers {
                 if !count.answers.contains_key(*answer) {

@@ -658,9 +658,10 @@ const FAULTS: [Fault; 214] = [
     AnswerAsBefore,
 ];
 
-/// The faults that show only behind as many operators as a number counts.
+/// The faults that show only behind as many operators as a number counts, or among as many features
+/// as there may be.
 #[cfg(test)]
-const DEAR: [Fault; 9] = [
+const DEAR: [Fault; 10] = [
     CountUnjudged,
     CountAfterPairs,
     CountsLeftOut,
@@ -670,6 +671,7 @@ const DEAR: [Fault; 9] = [
     OneKeptLess,
     OneKeptMore,
     OperatorInSixDigits,
+    WorkspaceOneMore,
 ];
 
 #[cfg(test)]

@@ -80,8 +80,8 @@ fn in_rooms(both: &mut Both, generator: &mut Generator, file: &[u8]) {
 }
 
 /// A bay from its file to the finder's answer, with weights that moves keep if no two labels are
-/// alike.
-pub fn whole_way(both: &mut Both, generator: &mut Generator, bay: &Bay) {
+/// alike; the opened words are handed back.
+pub fn whole_way(both: &mut Both, generator: &mut Generator, bay: &Bay) -> Vec<u64> {
     let room = generator.bytes(bay.task().file().len());
     let file = both.build(&bay.file(), &room).memory;
     both.check(&file, &weight_file(&order_weights(bay)));
@@ -97,6 +97,7 @@ pub fn whole_way(both: &mut Both, generator: &mut Generator, bay: &Bay) {
     let back = both.find(&turned, &room);
     assert_eq!(found.number, back.number, "moves go both ways");
     assert!(found.number <= calls::denied(), "built tasks are accepted");
+    words
 }
 
 /// Bays of up to six slots.

@@ -6,7 +6,9 @@ use reference::calls;
 use reference::feature_set::{words_for, FeatureSet};
 use reference::features::count_features;
 use reference::sample::damage::damaged_file;
-use reference::sample::tasks::{loose_task, loose_weights, meeting_weights, operator, PAST_EDGES};
+use reference::sample::tasks::{
+    loose_task, loose_weights, meeting_weights, operator, LIBRARY_EDGES, PAST_EDGES,
+};
 use reference::sample::Generator;
 use reference::task::{read_task, Task};
 use reference::weights::{weight_file, weight_numbers};
@@ -100,8 +102,8 @@ fn due(file: &[u8]) -> usize {
 /// Task files with faults of one kind or several at once.
 pub fn damaged_tasks(both: &mut Both, generator: &mut Generator) {
     let numbers = if generator.once_in(50) {
-        // Too many features, and values that must not be judged after them.
-        let sizes = generator.choose(&PAST_EDGES);
+        // Too many features or just not, and values that must not be judged after too many.
+        let sizes = generator.choose(&[&LIBRARY_EDGES[..], &PAST_EDGES].concat());
         [&[sizes.len()], sizes, &[0, 1, 70]].concat()
     } else {
         let sizes = some_sizes(generator);

@@ -121,7 +121,7 @@ fn last_at_fault(both: &mut Both, generator: &mut Generator, count: usize) {
 
 /// Counts that take three bytes, and operators whose numbers take more than sixteen bits.
 pub fn long_counts(both: &mut Both, generator: &mut Generator) {
-    for counts in [[16_381, 16_382, 16_383], [65_535, 65_536, 100_000]] {
+    for counts in [[16_382, 16_383, 16_384], [65_536, 65_537, 100_000]] {
         let count = generator.choose(&counts);
         last_at_fault(both, generator, count);
     }

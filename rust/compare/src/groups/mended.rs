@@ -11,7 +11,9 @@ use reference::sample::damage::damaged_file;
 use reference::sample::handmade::{
     every_list, every_operator, handmade_bay, handmade_task, paired_sizes,
 };
-use reference::sample::tasks::{sizes, Scale, FORMER_EDGES, LARGE, PAST_EDGES, SMALL, TINY, WIDE};
+use reference::sample::tasks::{
+    sizes, Scale, FORMER_EDGES, LARGE, LIBRARY_EDGES, PAST_EDGES, SMALL, TINY, WIDE,
+};
 use reference::sample::Generator;
 use reference::task::{read_numbers, Task};
 use reference::weights::weight_file;
@@ -112,7 +114,7 @@ pub fn step_by_step(both: &mut Both, generator: &mut Generator) {
 /// Files with faults of one kind or several at once, beside whatever is at fault with the list.
 pub fn damaged(both: &mut Both, generator: &mut Generator) {
     let file = if generator.once_in(50) {
-        let sizes = generator.choose(&PAST_EDGES);
+        let sizes = generator.choose(&[&LIBRARY_EDGES[..], &PAST_EDGES].concat());
         encode(&[&[sizes.len()], sizes, &[0, 1, 70]].concat())
     } else {
         let numbers = handmade(generator).numbers();

@@ -122,7 +122,7 @@ pub const GROUPS: [Group; 71] = [
     },
     Group {
         name: "middling",
-        cases: 40,
+        cases: 100,
         run: large::middling,
     },
     Group {
@@ -317,23 +317,18 @@ pub const GROUPS: [Group; 71] = [
     },
     Group {
         name: "wider-tasks",
-        cases: 1_000,
+        cases: 2_000,
         run: wider::tasks,
     },
     Group {
         name: "wider-lists",
-        cases: 500,
+        cases: 800,
         run: wider::lists,
     },
     Group {
         name: "wider-partials",
-        cases: 300,
+        cases: 400,
         run: wider::partial_files,
-    },
-    Group {
-        name: "wider-words",
-        cases: 8,
-        run: wider::words,
     },
     Group {
         name: "long-bays",
@@ -352,18 +347,8 @@ pub const GROUPS: [Group; 71] = [
     },
     Group {
         name: "openings-of-silenced-long-bays",
-        cases: 4,
+        cases: 8,
         run: sixteen::silenced_openings,
-    },
-    Group {
-        name: "twelve-slots",
-        cases: 4,
-        run: sixteen::twelve,
-    },
-    Group {
-        name: "operators-in-millions",
-        cases: 1,
-        run: large::operators_in_millions,
     },
     Group {
         name: "kept-in-millions",
@@ -371,13 +356,28 @@ pub const GROUPS: [Group; 71] = [
         run: kept::counted_in_millions,
     },
     Group {
+        name: "operators-in-millions",
+        cases: 1,
+        run: large::operators_in_millions,
+    },
+    Group {
+        name: "wider-words",
+        cases: 8,
+        run: wider::words,
+    },
+    Group {
         name: "wider-openings",
-        cases: 4,
+        cases: 6,
         run: wider::openings,
     },
     Group {
+        name: "twelve-slots",
+        cases: 6,
+        run: sixteen::twelve,
+    },
+    Group {
         name: "fifteen-slots",
-        cases: 1,
+        cases: 2,
         run: sixteen::fifteen,
     },
     Group {
@@ -388,10 +388,12 @@ pub const GROUPS: [Group; 71] = [
 ];
 
 /// Groups of which one case takes seconds.
-const DEAR: [&str; 5] = [
-    "operators-in-millions",
+const DEAR: [&str; 7] = [
     "kept-in-millions",
+    "operators-in-millions",
+    "wider-words",
     "wider-openings",
+    "twelve-slots",
     "fifteen-slots",
     "four-by-four",
 ];

@@ -96,7 +96,10 @@ pub fn limits(both: &mut Both, generator: &mut Generator) {
     }
     if generator.once_in(3) {
         let feature = generator.between(NOW.features - 3, 64 * length - 1);
-        words[feature / 64] |= 1 << (feature % 64);
+        let feature = generator.choose(&[NOW.features - 1, NOW.features, feature]);
+        if let Some(word) = words.get_mut(feature / 64) {
+            *word |= 1 << (feature % 64);
+        }
     }
     written(both, generator, &words);
 }

@@ -14,7 +14,7 @@ use reference::sample::tasks::loose_weights;
 use reference::sample::Generator;
 use reference::separation::separates;
 use reference::weights::weight_file;
-use reference::workspace::words_due;
+use reference::workspace::{words_due, Record};
 use std::ops::RangeInclusive;
 
 /// A shape of so many slots.
@@ -127,8 +127,16 @@ pub fn fifteen(both: &mut Both, generator: &mut Generator) {
     whole_way(both, generator, &bay);
 }
 
-/// Four by four the whole way, with an answer.
+/// Four by four the whole way, with an answer; then a pallet may jump from corner to corner.
 pub fn four_by_four(both: &mut Both, generator: &mut Generator) {
     let bay = parted_bay(generator, (4, 4));
-    whole_way(both, generator, &bay);
+    let words = whole_way(both, generator, &bay);
+    let label = generator.between(1, 15) as u64;
+    let jump = Record {
+        count: 2,
+        variables: vec![0, 15],
+        befores: vec![0, label],
+        afters: vec![label, 0],
+    };
+    both.add_operator(&words, &jump);
 }

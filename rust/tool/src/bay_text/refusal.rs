@@ -61,6 +61,9 @@ impl BayText {
     // None where the features do not bear out that they are too many.
     fn too_many_features(&self) -> Option<Fault> {
         let count = features::count(&self.bay.sizes());
+        if count <= MOST_FEATURES {
+            return None;
+        }
         let mut labels = self.goal.iter();
         let label = labels.find(|label| label.value == Value::Silent)?;
         let expected = format!(
@@ -69,8 +72,7 @@ impl BayText {
              {MOST_FEATURES} are the most)"
         );
         let found = quoted(&label.written);
-        let fault = label.place.fault(&self.lines, &expected, &found);
-        (count > MOST_FEATURES).then_some(fault)
+        Some(label.place.fault(&self.lines, &expected, &found))
     }
 
     fn range(&self) -> Option<Fault> {

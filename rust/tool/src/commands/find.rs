@@ -9,7 +9,7 @@ use crate::files;
 use crate::json::Json;
 use crate::library::{self, Weights};
 use crate::output::Status;
-use crate::progress::{Shown, Telling, PROGRESS};
+use crate::progress::{Telling, PROGRESS};
 
 pub const COMMAND: Command = Command {
     name: "find",
@@ -39,7 +39,7 @@ fn run(arguments: &Arguments) -> Status {
 fn find(arguments: &Arguments) -> Result<Option<Weights>, Fault> {
     let reading = Reading::of(arguments);
     let file = files::read(&arguments.files[0])?;
-    let telling = Telling::new(Shown::of(arguments));
+    let telling = Telling::of(arguments);
     let mut steps = reading.steps(&telling, &file, 1);
     let workspace = reading.open(&file, &mut steps)?;
     steps.take("finding weights", || library::find(&workspace))

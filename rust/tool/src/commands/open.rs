@@ -8,7 +8,7 @@ use crate::files;
 use crate::json::Json;
 use crate::library::Workspace;
 use crate::output::Status;
-use crate::progress::{Shown, Telling, PROGRESS};
+use crate::progress::{Telling, PROGRESS};
 use crate::words::counted;
 
 pub const COMMAND: Command = Command {
@@ -54,7 +54,7 @@ fn open(arguments: &Arguments) -> Result<(), Fault> {
 fn opened(arguments: &Arguments) -> Result<Workspace, Fault> {
     let reading = Reading::of(arguments);
     let file = files::read(&arguments.files[0])?;
-    let telling = Telling::new(Shown::of(arguments));
+    let telling = Telling::of(arguments);
     let mut steps = reading.steps(&telling, &file, 0);
     reading.open(&file, &mut steps)
 }

@@ -5,7 +5,7 @@ use crate::answer;
 use crate::args::{Arguments, JSON};
 use crate::fault::Fault;
 use crate::output::{complain, Status};
-use crate::progress::{Shown, Telling, PROGRESS};
+use crate::progress::{Telling, PROGRESS};
 use crate::question;
 use crate::report;
 use crate::words::shown;
@@ -46,7 +46,7 @@ fn run(arguments: &Arguments) -> Status {
 
 fn write(arguments: &Arguments) -> Result<Status, Fault> {
     let name = &arguments.files[0];
-    let answered = question::ask(name, &Telling::new(Shown::of(arguments)))?;
+    let answered = question::ask(name, &Telling::of(arguments))?;
     let page = report::page(&shown(name), &answered)?;
     let line = format!("{}: {}", shown(name), answer::line(&answered));
     let json = answer::json(&name.to_string_lossy(), &answered);

@@ -12,7 +12,7 @@ pub use pairs::{dropped, mend, pair_fault, Reason};
 pub use places::{display, display_bay, display_partial, Holder, Part, NO_WEIGHTS};
 pub use workspace::{words_due, Workspace, MOST_WORDS};
 
-// Room for the largest results that the rules' limits allow. Room that is not used is never touched.
+// Room for the largest results that the rules' limits allow.
 // A task of a bay: 9,845 bytes, for four by four slots and labels that are all different.
 const BAY_TASK_BYTES: usize = 1 << 14;
 // A count and 32,768 features, each a number of three bytes at most.
@@ -214,7 +214,7 @@ fn written<T: Clone + Default>(
     size: usize,
     call: impl FnOnce(&mut [T]) -> u64,
 ) -> Result<Vec<T>, Fault> {
-    let mut room = vec![T::default(); size];
+    let mut room = lent(size)?;
     let word = call(&mut room);
     match answer(name, word)? {
         Answer::Yes(due) if due as usize <= size => {
@@ -224,6 +224,19 @@ fn written<T: Clone + Default>(
         Answer::Refused(number) => Err(Fault::Refused(number)),
         _ => Err(unknown(name, word)),
     }
+}
+
+// Room that cannot be had is a fault that is told, and no reason to break off without a word.
+fn lent<T: Clone + Default>(size: usize) -> Result<Vec<T>, Fault> {
+    let mut room = Vec::new();
+    if room.try_reserve_exact(size).is_err() {
+        let megabytes = (size * size_of::<T>()).div_ceil(1_000_000);
+        return Err(Fault::Failure(format!(
+            "there is not enough memory: this takes {megabytes} MB more"
+        )));
+    }
+    room.resize(size, T::default());
+    Ok(room)
 }
 
 fn members(words: &[u64]) -> Vec<usize> {

@@ -5,7 +5,7 @@ use crate::features::{self, Features};
 /// The most words that a workspace has: those of 64 variables and 32,768 features.
 pub const MOST_WORDS: usize = 1 + 3 * 64 + 512 * (1 + 32_768);
 /// So much room is lent whatever the task is, as it is next to nothing.
-const LEAST_ROOM: usize = 1 << 18;
+const LEAST_ROOM: usize = 1 << 10;
 
 /// How many words the workspace of a task with these sizes has.
 pub fn words_due(sizes: &[usize]) -> usize {

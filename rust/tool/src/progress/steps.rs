@@ -4,6 +4,7 @@
 //! what it does and since when.
 
 use super::{write, Shown, CLEAR};
+use crate::args::Arguments;
 use crate::library::MOST_WORDS;
 use crate::output::complain;
 use std::sync::mpsc::{channel, RecvTimeoutError};
@@ -21,6 +22,11 @@ pub struct Telling {
 }
 
 impl Telling {
+    /// As the command line asks for it.
+    pub fn of(arguments: &Arguments) -> Telling {
+        Telling::new(Shown::of(arguments))
+    }
+
     pub fn new(shown: Shown) -> Telling {
         let part = String::new();
         Telling { shown, part }

@@ -37,9 +37,8 @@ pub fn ask(arguments: &Arguments) -> Status {
         return refuse(arguments, name, fault);
     }
     let in_json = arguments.has(&JSON);
-    let (shown_how, total) = (Shown::of(arguments), listed.len());
-    let telling = Telling::new(shown_how);
-    let mut progress = Bar::new(shown_how, total);
+    let (telling, total) = (Telling::of(arguments), listed.len());
+    let mut progress = Bar::new(Shown::of(arguments), total);
     let mut answers = Vec::new();
     for (index, Named { name, fault }) in listed.into_iter().enumerate() {
         let telling = telling.part("bay", index + 1, total);

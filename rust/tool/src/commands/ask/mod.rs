@@ -8,7 +8,7 @@ use crate::answer;
 use crate::args::{Arguments, JSON};
 use crate::files;
 use crate::output::{complain, say, Status};
-use crate::progress::{Shown, Telling, PROGRESS};
+use crate::progress::{Telling, PROGRESS};
 use crate::question;
 use crate::words::shown;
 use evidence::{TASK, WEIGHTS};
@@ -79,7 +79,7 @@ fn run(arguments: &Arguments) -> Status {
 }
 
 fn one(arguments: &Arguments, name: &OsStr) -> Status {
-    let telling = Telling::new(Shown::of(arguments));
+    let telling = Telling::of(arguments);
     let outcome = question::ask(name, &telling).and_then(|answered| {
         let kept = evidence::keep(arguments, &answered)?;
         Ok((answered, kept))

@@ -24,6 +24,7 @@ pub fn read_bay(bytes: &[u8]) -> Result<Bay, Refusal> {
     bay_from(&mut Reader::new(bytes))
 }
 
+/// The same by the reader's limits.
 pub fn bay_from(reader: &mut Reader) -> Result<Bay, Refusal> {
     let bay = lists_from(reader)?;
     bay.judge_gaps()?;
@@ -32,10 +33,6 @@ pub fn bay_from(reader: &mut Reader) -> Result<Bay, Refusal> {
 }
 
 /// Reads a bay file up to its last byte; what its lists hold isn't judged yet.
-pub fn read_lists(bytes: &[u8]) -> Result<Bay, Refusal> {
-    lists_from(&mut Reader::new(bytes))
-}
-
 pub fn lists_from(reader: &mut Reader) -> Result<Bay, Refusal> {
     let rows = reader.number_within(&(1..MOST_SIDE + 1), Refusal::Limit)?;
     let columns = reader.number_within(&(1..MOST_SIDE + 1), Refusal::Limit)?;

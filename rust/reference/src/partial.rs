@@ -143,6 +143,7 @@ pub fn read_partial(bytes: &[u8]) -> Result<Partial, Refusal> {
     partial_from(&mut Reader::new(bytes))
 }
 
+/// The same by the reader's limits.
 pub fn partial_from(reader: &mut Reader) -> Result<Partial, Refusal> {
     let sizes = read_sizes(reader)?;
     let mut marks = Vec::new();
@@ -197,6 +198,7 @@ pub fn read_built(bytes: &[u8], left_out: LeftOut) -> Result<Task, Refusal> {
     built_from(&mut Reader::new(bytes), left_out)
 }
 
+/// The same by the reader's limits.
 pub fn built_from(reader: &mut Reader, left_out: LeftOut) -> Result<Task, Refusal> {
     let built = partial_from(reader)?.built(left_out);
     if built.operators.len() > reader.limits.largest() {

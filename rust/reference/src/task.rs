@@ -61,6 +61,7 @@ pub fn read_task(bytes: &[u8]) -> Result<Task, Refusal> {
     task_from(&mut Reader::new(bytes))
 }
 
+/// The same by the reader's limits.
 pub fn task_from(reader: &mut Reader) -> Result<Task, Refusal> {
     let task = numbers_from(reader)?;
     judge_pairs(&task)?;
@@ -72,6 +73,7 @@ pub fn read_numbers(bytes: &[u8]) -> Result<Task, Refusal> {
     numbers_from(&mut Reader::new(bytes))
 }
 
+/// The same by the reader's limits.
 pub fn numbers_from(reader: &mut Reader) -> Result<Task, Refusal> {
     let sizes = read_sizes(reader)?;
     let start = read_state(reader, &sizes)?;
@@ -135,6 +137,7 @@ fn read_operator(reader: &mut Reader, sizes: &[usize]) -> Result<Operator, Refus
     Ok(Operator { entries })
 }
 
+/// The start holds no listed pair, and the list is closed under each operator.
 pub fn judge_pairs(task: &Task) -> Result<(), Refusal> {
     let pairing = task.pairing();
     if pairing.held_by(&task.start) {

@@ -9,6 +9,7 @@ pub fn read_weights(bytes: &[u8], count: usize) -> Result<FeatureSet, Refusal> {
     weights_from(&mut Reader::new(bytes), count)
 }
 
+/// The same by the reader's limits.
 pub fn weights_from(reader: &mut Reader, count: usize) -> Result<FeatureSet, Refusal> {
     let listed = reader.increasing_list(&(0..count))?;
     reader.finish()?;

@@ -28,7 +28,7 @@ pub struct Group {
     pub run: fn(&mut Both, &mut Generator),
 }
 
-/// The counts make an optimised run take about three minutes.
+/// The counts make an optimised run take about two minutes.
 pub const GROUPS: [Group; 71] = [
     Group {
         name: "weights",

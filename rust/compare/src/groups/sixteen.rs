@@ -6,13 +6,14 @@ use crate::both::Both;
 use reference::bay::{Bay, GAP};
 use reference::feature_set::words_for;
 use reference::features::count_features;
-use reference::partial::{built_sizes, LeftOut};
+use reference::partial::{built_sizes, LeftOut, Partial};
 use reference::sample::bays::{bay, order_weights, shapes, shuffled};
 use reference::sample::handmade::handmade_bay;
 use reference::sample::partials::{marks, silenced_bay};
 use reference::sample::tasks::loose_weights;
 use reference::sample::Generator;
 use reference::separation::separates;
+use reference::task::Task;
 use reference::weights::weight_file;
 use reference::workspace::{words_due, Record};
 use std::ops::RangeInclusive;
@@ -62,22 +63,37 @@ pub fn lists(both: &mut Both, generator: &mut Generator) {
     mended::every_call(both, generator, &task);
 }
 
-/// Orders that name some slots; sixteen are too many for "unknown".
+/// A task's order with marks, whether or not it has room for "unknown".
+fn marked(task: Task, marks: &[u8]) -> Partial {
+    let ends = task.goal.iter().zip(marks);
+    Partial {
+        goal: ends
+            .map(|(value, mark)| (*mark == 1).then_some(*value))
+            .collect(),
+        sizes: task.sizes,
+        start: task.start,
+        pairs: task.pairs,
+        operators: task.operators,
+    }
+}
+
+/// Orders that name some slots; sixteen slots are too many for "unknown".
 pub fn silenced(both: &mut Both, generator: &mut Generator) {
     let shape = shape(generator, 10..=16);
-    let bay = bay(generator, shape);
-    let marks = marks(generator, bay.slots());
-    let task = bay.task().file();
-    let room = generator.bytes(task.len() + bay.slots());
-    let written = both.silence(&task, &marks, &room);
-    let partial = &written.memory[..written.number.min(room.len() as u64) as usize];
-    let due = 2 * task.len();
-    let room = generator.bytes(due);
-    both.build_partial(partial, &room);
-    both.build_partial_lean(partial, &room);
-    let weights = loose_weights(generator, count_features(&built_sizes(&bay.task().sizes)));
-    both.check_partial(partial, &weight_file(&weights));
-    both.display_partial(partial, &weight_file(&weights), &[7; 2]);
+    let task = bay(generator, shape).task();
+    let marks = marks(generator, task.sizes.len());
+    let partial = marked(task.clone(), &marks).file();
+    let room = byte_room(generator, partial.len());
+    both.silence(&task.file(), &marks, &room);
+    // Forgetting operators and longer numbers don't make the file twice as long.
+    let room = generator.bytes(2 * partial.len());
+    both.build_partial(&partial, &room);
+    both.build_partial_lean(&partial, &room);
+    let count = count_features(&built_sizes(&task.sizes));
+    let weights = weight_file(&loose_weights(generator, count));
+    both.check_partial(&partial, &weights);
+    let words = generator.words(2);
+    both.display_partial(&partial, &weights, &words);
 }
 
 /// Orders of ten slots, opened by the letter and searched.

@@ -118,7 +118,7 @@ pub const LIBRARY_EDGES: [&[usize]; 5] = [
     &[4; 64],
 ];
 
-/// Sizes past the library's limit: 32,769 features, more by the least size, and far more.
+/// Sizes past the library's limit: 32,769 features, the least past four of size 64, and far more.
 pub const PAST_EDGES: [&[usize]; 5] = [
     &[64, 38, 63, 60, 61],
     &[45, 28, 37, 31, 34, 28, 37, 33],

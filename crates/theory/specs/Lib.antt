@@ -12,6 +12,8 @@ pub mod SlotsOf
 pub mod Whole
 pub mod Insert
 pub mod InsertAll
+pub mod Pending
+pub mod Postponed
 pub mod Group
 pub mod Splits
 pub mod Numbering

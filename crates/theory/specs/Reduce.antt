@@ -21,12 +21,12 @@ red-dot n S w h zero d l = refl
 red-dot n S w h (suc k) d l = dot-xor n w (red S k d) _
     ∙ rw (dot-and n w (red S k d k) (S k), stored-dot n S w h k (omega arith), red-dot n S w h k d (omega arith), and-false (red S k d k)) (xor-false (dot n w d))
 
--- Nothing is left at a full slot's index.
-red-avoid-to : {n : ℕ} {S : Slots} → Reduced n S → (k : ℕ) (d : Set) (p : ℕ) → p < k → S p p ≡ true → red S k d p ≡ false
+-- Nothing is left at a full slot's index, where no slot has a member below its own.
+pub red-lowest : {S : Slots} → ((i f : ℕ) → f < i → S i f ≡ false) → (k : ℕ) (d : Set) (p : ℕ) → p < k → S p p ≡ true → red S k d p ≡ false
 unfolding red
-red-avoid-to R zero d p l e = absurd (omega arith)
-red-avoid-to {n} {S} R (suc k) d p l e = elim (order p k) [
-  | less j ↦ rw (red-avoid-to R k d p j e, R .clear k p e (omega arith)) (and-false (red S k d k))
+red-lowest low zero d p l e = absurd (omega arith)
+red-lowest {S} low (suc k) d p l e = elim (order p k) [
+  | less j ↦ rw (red-lowest low k d p j e, low k p j) (and-false (red S k d k))
   | same q ↦ rw (← q, e, and-true (red S p d p)) (xor-self (red S p d p))
   | more j ↦ absurd (omega arith)
 ]
@@ -38,17 +38,20 @@ red-later R zero d p l e = refl
 red-later {n} {S} R (suc k) d p l e = rw (R .clear k p e (omega arith), and-false (red S k d k)) (xor-false (red S k d p) ∙ red-later R k d p (omega arith) e)
 
 -- Reducing brings in no member past the bound.
-pub red-within : {n : ℕ} {S : Slots} → Reduced n S → (k : ℕ) (d : Set) → ((f : ℕ) → d f ≡ true → f < n) → (f : ℕ) → red S k d f ≡ true → f < n
+pub red-below : {n : ℕ} {S : Slots} → ((i f : ℕ) → S i f ≡ true → (i < n) × (f < n)) → (k : ℕ) (d : Set) → ((f : ℕ) → d f ≡ true → f < n) → (f : ℕ) → red S k d f ≡ true → f < n
 unfolding red
-red-within R zero d h f e = h f e
-red-within {n} {S} R (suc k) d h f e = elim (test (red S k d f)) [
-  | on q ↦ red-within R k d h f q
-  | off q ↦ elim (test (S k f)) [ on t ↦ R .within k f t .1 | off t ↦ absurd (clash e (rw (q, t) (and-false (red S k d k)))) ]
+red-below within zero d h f e = h f e
+red-below {n} {S} within (suc k) d h f e = elim (test (red S k d f)) [
+  | on q ↦ red-below within k d h f q
+  | off q ↦ elim (test (S k f)) [ on t ↦ within k f t .1 | off t ↦ absurd (clash e (rw (q, t) (and-false (red S k d k)))) ]
 ]
+
+pub red-within : {n : ℕ} {S : Slots} → Reduced n S → (k : ℕ) (d : Set) → ((f : ℕ) → d f ≡ true → f < n) → (f : ℕ) → red S k d f ≡ true → f < n
+red-within R = red-below (R .within)
 
 module _ {n : ℕ} {S : Slots} (R : Reduced n S) where
   pub red-avoid : (d : Set) (p : ℕ) → S p p ≡ true → red S n d p ≡ false
-  red-avoid d p e = red-avoid-to R n d p (R .within p p e .0) e
+  red-avoid d p e = red-lowest (R .low) n d p (R .within p p e .0) e
 
   -- If nothing is left, all stored weights meet the set evenly.
   pub no-weights : (d w : Set) → ((f : ℕ) → f < n → red S n d f ≡ false) → Stored n S w → dot n w d ≡ false

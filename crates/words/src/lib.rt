@@ -1,5 +1,6 @@
 // Sets of features in slices of 64-bit words: members and their count, changes of one feature, sums, parities of what two sets share.
 ghost use mathlib.Core.Path.{_≡_};
+ghost use mathlib.Core.Bool.{_&&_};
 ghost use Prim.Native.Nat.{_*_, _^_, _≤_, _<_};
 ghost use lib.ListN.{length, replicate};
 ghost use Rattle.meaning.specs.Limits.{wordBits};
@@ -88,6 +89,30 @@ pub fn next_member(words: &[u64], start: usize) -> usize
         i += 1;
     }
     words.len() * WORD_BITS
+}
+
+// The least number at `start` or above it that two sets share; the number of bits of all words where there is none.
+pub fn next_shared(a: &[u64], b: &[u64], start: usize) -> usize
+    requires { ⌜ (length (now a) ≡ length (now b)) × (start ≤ wordBits * length (now a)) × (wordBits * length (now a) < 2 ^ 64) ⌝ }
+    ensures { λ r. ⌜ Next (λ f. has (now (a .entry)) f && has (now (b .entry)) f) (wordBits * length (now (a .entry))) start r ⌝ }
+{
+    let first = start / WORD_BITS;
+    if a.len() <= first {
+        return start;
+    }
+    let rest = (a[first] & b[first]) >> (start % WORD_BITS);
+    if rest != 0 {
+        return start + (u64::trailing_zeros(rest) as usize);
+    }
+    let mut i = first + 1;
+    while i < a.len() {
+        let word = a[i] & b[i];
+        if word != 0 {
+            return i * WORD_BITS + (u64::trailing_zeros(word) as usize);
+        }
+        i += 1;
+    }
+    a.len() * WORD_BITS
 }
 
 // How many members a set has, going from member to member.

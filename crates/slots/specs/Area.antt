@@ -2,7 +2,7 @@
 use Prim.Native.Nat.{ℕ, zero, suc, _+_, _-_, _*_, _<_, _≤_, min}
 use mathlib.Core.Path.{_≡_, ap, ap₂, sym, _∙_, fun-ext}
 use mathlib.Core.Logic.{_≢_, _⊎_, inl, inr}
-use mathlib.Core.Bool.{_&&_}
+use mathlib.Core.Bool.{true, false, _&&_}
 use mathlib.Core.List.{List, [], _++_, append-nil}
 use native.Mathlib.Omega.{arith}
 use native.Mathlib.Nat.{mul-le-mul-right}
@@ -11,9 +11,10 @@ use lib.ListN.{length, getD, take, drop, length-take, length-drop, length-append
 use lib.Seq.{length-take-le, take-at, drop-at, drop-drop, take-add, take-all, getD-take, getD-drop, ext-getD}
 use borrow.Author.Tests.{ltb-true, ltb-false, lt-ltb}
 use Rattle.meaning.specs.Sets.{Slots}
+use Rattle.meaning.specs.Limits.{mostFeatures}
 use Rattle.meaning.specs.Slot.{Reduced}
 use Rattle.meaning.specs.Workspace.{has, packed, wordsFor}
-use Rattle.theory.specs.Truth.{on, off, test, less, same, more, order}
+use Rattle.theory.specs.Truth.{on, off, test, less, same, more, order, clash}
 use Rattle.theory.specs.Words.{Words, length-packed, packed-holds}
 use Rattle.theory.specs.Slots.{slot-past}
 use Rattle.theory.specs.Contents.{slotWords, length-slots, flat-from, written-outside}
@@ -60,9 +61,28 @@ pub slot-has : (n i : ℕ) (area : List ℕ) (f : ℕ) → i < n → slotsIn n a
 unfolding slotsIn
 slot-has n i area f l = rw (lt-ltb i n l)
 
--- In a family of reduced shape slot i is empty or has i as least member.
-pub slot-led : (n i : ℕ) (area : List ℕ) → Reduced n (slotsIn n area) → i < n → Led i (has (slotAt (wordsFor n) area i))
-slot-led n i area R l = record { low = λ f j. sym (slot-has n i area f l) ∙ R .low i f j; full = λ f e. sym (slot-has n i area i l) ∙ R .full i f (slot-has n i area f l ∙ e) }
+-- An area of n slots, each empty or with its index as least member.
+pub record LedArea (n : ℕ) (area : List ℕ) : Type 0 where
+  pub few : n ≤ mostFeatures
+  pub long : length area ≡ n * wordsFor n
+  pub each : (i : ℕ) → i < n → Led i (has (slotAt (wordsFor n) area i))
+
+-- Slots that have no member below their index, and the index where they have one.
+pub led-area : (n : ℕ) (area : List ℕ) → n ≤ mostFeatures → length area ≡ n * wordsFor n → ((i f : ℕ) → f < i → slotsIn n area i f ≡ false)
+    → ((i f : ℕ) → slotsIn n area i f ≡ true → slotsIn n area i i ≡ true) → LedArea n area
+led-area n area few long low full = record {
+  few = few;
+  long = long;
+  each = λ i l. record { low = λ f j. sym (slot-has n i area f l) ∙ low i f j; full = λ f e. sym (slot-has n i area i l) ∙ full i f (slot-has n i area f l ∙ e) };
+}
+
+pub led-full : (n : ℕ) (area : List ℕ) → LedArea n area → (i f : ℕ) → slotsIn n area i f ≡ true → slotsIn n area i i ≡ true
+unfolding slotsIn
+led-full n area led i f e = elim (test (ltb i n)) [ on t ↦ rw t (led .each i (ltb-true i n t) .full f (rw t at e)) | off t ↦ absurd (clash e (rw t)) ]
+
+-- The slots hold what the words of each hold.
+pub slot-set : (n i : ℕ) (area : List ℕ) → i < n → has (slotAt (wordsFor n) area i) ≡ slotsIn n area i
+slot-set n i area l = fun-ext (λ f. sym (slot-has n i area f l))
 
 -- ---- one slot written
 

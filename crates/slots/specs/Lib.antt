@@ -2,6 +2,8 @@
 pub mod Change
 pub mod Reducing
 pub mod Area
+pub mod Waiting
 pub mod Inserting
+pub mod Settling
 pub mod Find
 pub mod Shape

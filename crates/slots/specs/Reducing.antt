@@ -1,10 +1,9 @@
--- Reducing a row turn by turn: only its own members can be indices of slots that are added, and the turns between two of them change nothing.
-use Prim.Native.Nat.{ℕ, zero, suc, _+_, _-_, _*_, _<_, _≤_, min}
-use mathlib.Core.Path.{_≡_, refl, ap, sym, _∙_, subst}
-use mathlib.Core.Bool.{true, false, _&&_, and-false}
+-- Slots added to a row turn by turn: by the indices that it has when their turns come, or by indices that are fixed beforehand.
+use Prim.Native.Nat.{ℕ, suc, _+_, _*_, _<_, _≤_, min}
+use mathlib.Core.Path.{_≡_, refl, ap, ap₂, sym, _∙_, fun-ext}
+use mathlib.Core.Bool.{Bool, true, false, _&&_, and-false}
 use mathlib.Core.List.{List}
 use native.Mathlib.Omega.{arith}
-use native.Mathlib.Nat.{add-zero, add-suc}
 use lib.Dec.{ltb}
 use lib.ListN.{length}
 use borrow.Author.Tests.{ltb-true, ltb-false}
@@ -12,78 +11,107 @@ use Rattle.meaning.specs.Sets.{_⊕_, Set, Slots}
 use Rattle.meaning.specs.Limits.{wordBits}
 use Rattle.meaning.specs.Slot.{Reduced}
 use Rattle.meaning.specs.Workspace.{has, packed, wordsFor}
-use Rattle.theory.specs.Truth.{on, off, test, clash, xor-false}
-use Rattle.theory.specs.Reduce.{red, red-later, red-within}
+use Rattle.theory.specs.Truth.{on, off, test, clash}
+use Rattle.theory.specs.Search.{and-left}
+use Rattle.theory.specs.Reduce.{red, red-within}
+use Rattle.theory.specs.Postponed.{red-skip, added, added-skip, added-turn, red-added}
 use Rattle.theory.specs.Words.{Words, packed-has, packed-cong}
 use Rattle.words.specs.Change.{summed, length-summed, has-summed}
-use Rattle.words.specs.Next.{Clear, Next}
+use Rattle.words.specs.Next.{Next}
 
--- A row stands as a set d does after the turns of the slots below p.
-abbrev Upto : Slots → ℕ → Set → ℕ → List ℕ → Type 0
-Upto slots n d p row = (f : ℕ) → has row f ≡ red slots (min p n) d f
+-- ---- by the indices that the row has by then
 
-module _ {n : ℕ} {S : Slots} (R : Reduced n S) (d : Set) where
-  skip-to : (k p : ℕ) → Clear d p (p + k) → (f : ℕ) → red S (p + k) d f ≡ red S p d f
+-- A row between two turns: it stands as a set d does after the turns of the slots below p, and p is the next index that it has.
+pub record Turn (n : ℕ) (slots : Slots) (full : Set) (d : Set) (words p : ℕ) (row : List ℕ) : Type 0 where
+  pub within : p ≤ wordBits * words
+  pub long : length row ≡ words
+  pub member : p < wordBits * words → (has row p && full p) ≡ true
+  pub upto : (f : ℕ) → has row f ≡ red slots (min p n) d f
+
+module _ (n : ℕ) (S : Slots) (full : Set) (covers : (i f : ℕ) → S i f ≡ true → full i ≡ true) (d : Set) where
+  -- A slot whose index the row has not, or which is empty, changes nothing.
+  still : (a : Set) (i f : ℕ) → (a i && full i) ≡ false → (a i && S i f) ≡ false
+  still a i f h = elim (test (S i f)) [ on t ↦ rw t (rw (covers i f t) at h) | off t ↦ rw t (and-false (a i)) ]
+
+  pub turn-first : (row : List ℕ) (p : ℕ) → has row ≡ d → Next (λ f. has row f && full f) (wordBits * length row) 0 p → Turn n S full d (length row) p row
   unfolding red
-  skip-to zero p h f = rw (add-zero p)
-  skip-to (suc k) p h f = rw (add-suc p k, turn) (xor-false (red S (p + k) d f) ∙ skip-to k p (λ g j l. h g j (omega arith)) f)
-    where
-      turn : (red S (p + k) d (p + k) && S (p + k) f) ≡ false
-      turn = elim (test (S (p + k) f)) [
-        | on t ↦ rw (red-later R (p + k) d (p + k) (omega arith) (R .full (p + k) f t), h (p + k) (omega arith) (omega arith))
-        | off t ↦ rw t (and-false (red S (p + k) d (p + k)))
-      ]
-
-  -- The turns of slots whose indices are no members.
-  red-skip : (p q : ℕ) → p ≤ q → Clear d p q → (f : ℕ) → red S q d f ≡ red S p d f
-  red-skip p q l h f = let e : p + (q - p) ≡ q = omega arith in ap (λ k. red S k d f) (sym e) ∙ skip-to (q - p) p (rw e h) f
-
-  -- The turn of a member.
-  red-turn : (p : ℕ) → d p ≡ true → (f : ℕ) → red S (suc p) d f ≡ red S p d f ⊕ S p f
-  unfolding red
-  red-turn p e f = elim (test (S p f)) [
-    | on t ↦ rw (t, red-later R p d p (omega arith) (R .full p f t), e)
-    | off t ↦ rw (t, and-false (red S p d p))
-  ]
-
-  upto-first : (p : ℕ) (row : List ℕ) → has row ≡ d → Clear d 0 p → Upto S n d p row
-  unfolding red
-  upto-first p row e h f = ap (λ a. a f) e ∙ sym (red-skip 0 (min p n) (omega arith) (λ g j l. h g j (omega arith)) f)
-
-  upto-next : (p q : ℕ) (row row' : List ℕ) → p < n → p + 1 ≤ q → d p ≡ true → Clear d (p + 1) q → ((f : ℕ) → has row' f ≡ has row f ⊕ S p f) → Upto S n d p row
-      → Upto S n d q row'
-  upto-next p q row row' l m e h k u f = let z : min p n ≡ p = omega arith in
-      k f ∙ ap (λ b. b ⊕ S p f) (u f ∙ ap (λ j. red S j d f) z) ∙ sym (red-turn p e f)
-      ∙ sym (red-skip (suc p) (min q n) (omega arith) (λ g j i. h g (omega arith) (omega arith)) f)
-
-  upto-done : (p : ℕ) (row : List ℕ) → n ≤ p → Upto S n d p row → (f : ℕ) → has row f ≡ red S n d f
-  upto-done p row l u f = let z : min p n ≡ n = omega arith in u f ∙ ap (λ k. red S k d f) z
-
--- The state of a row between two turns: p is the next of its own members, those that it began with.
-pub record Turn (n : ℕ) (slots : Slots) (own : List ℕ) (p : ℕ) (row : List ℕ) : Type 0 where
-  pub within : p ≤ wordBits * length own
-  pub long : length row ≡ length own
-  pub member : p < wordBits * length own → has own p ≡ true
-  pub upto : Upto slots n (has own) p row
-
-module _ {n : ℕ} {S : Slots} (R : Reduced n S) (own : List ℕ) where
-  pub turn-first : (copy : List ℕ) (p : ℕ) → copy ≡ own → Next (has copy) (wordBits * length copy) 0 p → Turn n S own p own
-  turn-first copy p e h = let k = subst (λ l. Next (has l) (wordBits * length l) 0 p) e h in
-      record { within = k .within; long = refl; member = k .member; upto = upto-first R (has own) p own refl (k .clear) }
-
-  pub turn-next : (copy row row' slot : List ℕ) (p q : ℕ) → p < n → n ≤ wordBits * length own → copy ≡ own → Next (has copy) (wordBits * length copy) (p + 1) q
-      → length slot ≡ length own
-      → ((f : ℕ) → has slot f ≡ S p f) → row' ≡ summed row slot → Turn n S own p row → Turn n S own q row'
-  turn-next copy row row' slot p q l m e h s each r t = let k = subst (λ l. Next (has l) (wordBits * length l) (p + 1) q) e h in record {
-    within = k .within;
-    long = ap length r ∙ length-summed row slot ∙ t .long;
-    member = k .member;
-    upto = upto-next R (has own) p q row row' l (k .above) (t .member (omega arith)) (k .clear)
-        (λ f. ap (λ a. has a f) r ∙ has-summed row slot f (t .long ∙ sym s) ∙ ap (_⊕_ (has row f)) (each f)) (t .upto);
+  turn-first row p e h = record {
+    within = h .within;
+    long = refl;
+    member = h .member;
+    upto = λ f. ap (λ a. a f) e ∙ sym (red-skip S d 0 (min p n) (omega arith) (λ i g j l. rw (← e) (still (has row) i g (h .clear i j (omega arith)))) f);
   }
 
-  pub turn-done : (row : List ℕ) (p : ℕ) → n ≤ p → Turn n S own p row → (f : ℕ) → has row f ≡ red S n (has own) f
-  turn-done row p l t = upto-done R (has own) p row l (t .upto)
+  pub turn-next : (words : ℕ) (row row' slot : List ℕ) (p q : ℕ) → p < n → n ≤ wordBits * words → Next (λ f. has row' f && full f) (wordBits * words) (p + 1) q
+      → length slot ≡ words → ((f : ℕ) → has slot f ≡ S p f) → row' ≡ summed row slot → Turn n S full d words p row → Turn n S full d words q row'
+  unfolding red
+  turn-next words row row' slot p q l m h s each r t = record {
+    within = h .within;
+    long = ap length r ∙ length-summed row slot ∙ t .long;
+    member = h .member;
+    upto = λ f. now f ∙ sym (red-skip S d (suc p) (min q n) (omega (arith, h .above)) (λ i g j k. rw (← now i) (still (has row') i g (h .clear i (omega arith) (omega arith)))) f);
+  }
+    where
+      here : min p n ≡ p
+      here = omega arith
+
+      has-index : red S p d p ≡ true
+      has-index = ap (λ k. red S k d p) (sym here) ∙ sym (t .upto p) ∙ and-left (has row p) (full p) (t .member (omega arith))
+
+      now : (f : ℕ) → has row' f ≡ red S (suc p) d f
+      now f = ap (λ a. has a f) r ∙ has-summed row slot f (t .long ∙ sym s) ∙ ap₂ _⊕_ (t .upto f ∙ ap (λ k. red S k d f) here) (each f) ∙ rw has-index
+
+  pub turn-done : (words : ℕ) (row : List ℕ) (p : ℕ) → n ≤ p → Turn n S full d words p row → (f : ℕ) → has row f ≡ red S n d f
+  turn-done words row p l t f = let z : min p n ≡ n = omega arith in t .upto f ∙ ap (λ k. red S k d f) z
+
+-- ---- by indices that are fixed beforehand
+
+-- A row between two turns: to a set d the slots below p are added whose indices are in a set, and p is the next index there.
+pub record Adding (n : ℕ) (slots : Slots) (own : Set) (d : Set) (words p : ℕ) (row : List ℕ) : Type 0 where
+  pub within : p ≤ wordBits * words
+  pub long : length row ≡ words
+  pub member : p < wordBits * words → own p ≡ true
+  pub upto : (f : ℕ) → has row f ≡ added slots own (min p n) d f
+
+module _ (n : ℕ) (S : Slots) (own : Set) (d : Set) (words : ℕ) where
+  pub adding-first : (row : List ℕ) (start p : ℕ) → length row ≡ words → has row ≡ d → ((f : ℕ) → f < start → own f ≡ false) → Next own (wordBits * words) start p
+      → Adding n S own d words p row
+  unfolding added
+  adding-first row start p e q none h = record {
+    within = h .within;
+    long = e;
+    member = h .member;
+    upto = λ f. ap (λ a. a f) q ∙ sym (added-skip S own d 0 (min p n) (omega arith) (λ i j l. elim (test (ltb i start)) [
+      | on t ↦ none i (ltb-true i start t)
+      | off t ↦ h .clear i (ltb-false i start t) (omega arith)
+    ]) f);
+  }
+
+  pub adding-next : (row row' slot : List ℕ) (p q : ℕ) → p < n → n ≤ wordBits * words → Next own (wordBits * words) (p + 1) q
+      → length slot ≡ words → ((f : ℕ) → has slot f ≡ S p f) → row' ≡ summed row slot → Adding n S own d words p row → Adding n S own d words q row'
+  adding-next row row' slot p q l m h s each r t = record {
+    within = h .within;
+    long = ap length r ∙ length-summed row slot ∙ t .long;
+    member = h .member;
+    upto = λ f. let z : min p n ≡ p = omega arith in
+        ap (λ a. has a f) r ∙ has-summed row slot f (t .long ∙ sym s) ∙ ap₂ _⊕_ (t .upto f ∙ ap (λ k. added S own k d f) z) (each f)
+        ∙ sym (added-turn S own d p (t .member (omega arith)) f)
+        ∙ sym (added-skip S own d (suc p) (min q n) (omega (arith, h .above)) (λ i j k. h .clear i (omega arith) (omega arith)) f);
+  }
+
+  pub adding-done : (row : List ℕ) (p : ℕ) → n ≤ p → Adding n S own d words p row → (f : ℕ) → has row f ≡ added S own n d f
+  adding-done row p l t f = let z : min p n ≡ n = omega arith in t .upto f ∙ ap (λ k. added S own k d f) z
+
+-- A row to which the slots of its own members are added is reduced.
+pub own-reduced : {n : ℕ} {S : Slots} → Reduced n S → (own row row' : List ℕ) → own ≡ row → ((f : ℕ) → has row' f ≡ added S (λ i. has own i && has own i) n (has row) f)
+    → (f : ℕ) → has row' f ≡ red S n (has row) f
+own-reduced {n} {S} R own row row' e h f = h f ∙ ap (λ a. added S a n (has row) f) (fun-ext (λ i. twice (has own i) ∙ ap (λ l. has l i) e)) ∙ sym (red-added R n (has row) f)
+  where
+    twice : (a : Bool) → (a && a) ≡ a
+    twice true = refl
+    twice false = refl
+
+-- ---- what is left in words
 
 -- What is left of a set with nothing at n or beyond has nothing there.
 pub red-past : {n : ℕ} {S : Slots} → Reduced n S → (d : Set) → ((f : ℕ) → n ≤ f → d f ≡ false) → (f : ℕ) → n ≤ f → red S n d f ≡ false

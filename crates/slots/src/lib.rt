@@ -1,9 +1,9 @@
 // A slot area: n slots of as many words as are due for n features. Rows are reduced by the slots and inserted, weights are found, the shape is tested.
 ghost use mathlib.Core.Path.{_≡_};
-ghost use mathlib.Core.Bool.{_&&_, false};
+ghost use mathlib.Core.Bool.{_&&_, false, cond};
 ghost use Prim.Native.Nat.{ℕ, _+_, _*_, _≤_, _<_};
 ghost use lib.Dec.{eqb, ltb};
-ghost use lib.ListN.{length};
+ghost use lib.ListN.{length, replicate};
 ghost use Rattle.meaning.specs.Limits.{wordBits, mostFeatures};
 ghost use Rattle.meaning.specs.Slot.{Reduced};
 ghost use Rattle.meaning.specs.Sets.{_⊕_};
@@ -13,10 +13,13 @@ ghost use Rattle.theory.specs.Tells.{Tells};
 ghost use Rattle.theory.specs.Slots.{lead};
 ghost use Rattle.theory.specs.Reduce.{red};
 ghost use Rattle.theory.specs.Insert.{insert};
-ghost use Rattle.words.specs.Change.{summed};
-ghost use Rattle.slots.specs.Area.{slotAt, slotsIn};
+ghost use Rattle.theory.specs.Postponed.{added};
+ghost use Rattle.words.specs.Change.{summed, toggled};
 ghost use Rattle.slots.specs.Change.{Led, cleared, marked};
+ghost use Rattle.slots.specs.Area.{slotAt, slotPut, slotsIn, LedArea};
+ghost use Rattle.slots.specs.Waiting.{Indexes, Waiting, settledIn};
 ghost use Rattle.slots.specs.Inserting.{slotCleared, slotAfter};
+ghost use Rattle.slots.specs.Settling.{settledSlot};
 ghost use Rattle.slots.specs.Find.{found};
 ghost use Rattle.slots.specs.Shape.{Apart, Shaped, AllShaped};
 use limits::MOST_WORDS;
@@ -30,6 +33,16 @@ fn slot_of<'a>(area: &'a [u64], w: usize, i: usize) -> &'a [u64]
     &area[base..base + w]
 }
 
+// Makes slot i the same as a row.
+fn write_slot(area: &mut [u64], i: usize, row: &[u64])
+    requires { ⌜ i * length (now row) + length (now row) ≤ length (now area) ⌝ }
+    ensures { λ r. ⌜ now (area .exit) ≡ slotPut (length (now (row .entry))) (now (area .entry)) i (now (row .entry)) ⌝ }
+{
+    let w = row.len();
+    let base = i * w;
+    words::copy(&mut area[base..base + w], row);
+}
+
 // Adds a set to another. Its least member is p, if it has any, so the words before that of p stay.
 fn add_from(sum: &mut [u64], set: &[u64], p: usize)
     requires { ⌜ (length (now sum) ≡ length (now set)) × (p < wordBits * length (now set)) × Led p (has (now set)) ⌝ }
@@ -39,13 +52,25 @@ fn add_from(sum: &mut [u64], set: &[u64], p: usize)
     words::add(&mut sum[k..], &set[k..]);
 }
 
-// Adds a slot to a row, where the slot is not empty.
-fn add_slot(row: &mut [u64], slot: &[u64], p: usize)
-    requires { ⌜ (length (now row) ≡ length (now slot)) × (p < wordBits * length (now slot)) × Led p (has (now slot)) ⌝ }
-    ensures { λ r. ⌜ now (row .exit) ≡ summed (now (row .entry)) (now (slot .entry)) ⌝ }
+// Adds slot p to a row.
+fn add_slot(area: &[u64], n: usize, p: usize, row: &mut [u64])
+    requires { ⌜ LedArea n (now area) × (p < n) × (length (now row) ≡ wordsFor n) ⌝ }
+    ensures { λ r. ⌜ now (row .exit) ≡ summed (now (row .entry)) (slotAt (wordsFor n) (now (area .entry)) p) ⌝ }
 {
-    if words::has(slot, p) {
-        add_from(row, slot, p);
+    let w = row.len();
+    add_from(row, slot_of(area, w, p), p);
+}
+
+// Adds to a row each slot whose index two sets share, from `start` on; below that the first has no member.
+fn add_slots(area: &[u64], n: usize, own: &[u64], chosen: &[u64], start: usize, row: &mut [u64])
+    requires { ⌜ LedArea n (now area) × (length (now own) ≡ wordsFor n) × (length (now chosen) ≡ wordsFor n) × (length (now row) ≡ wordsFor n)
+        × (start ≤ n) × ((f : ℕ) → f < start → has (now own) f ≡ false) ⌝ }
+    ensures { λ r. ⌜ ((f : ℕ) → has (now (row .exit)) f ≡ added (slotsIn n (now (area .entry))) (λ i. has (now (own .entry)) i && has (now (chosen .entry)) i) n (has (now (row .entry))) f) ⌝ }
+{
+    let mut p = words::next_shared(own, chosen, start);
+    while p < n {
+        add_slot(area, n, p, row);
+        p = words::next_shared(own, chosen, p + 1);
     }
 }
 
@@ -55,12 +80,7 @@ fn reduce_members(area: &[u64], n: usize, row: &mut [u64], own: &mut [u64])
     ensures { λ r. ⌜ ((f : ℕ) → has (now (row .exit)) f ≡ red (slotsIn n (now (area .entry))) n (has (now (row .entry))) f) ⌝ }
 {
     words::copy(own, row);
-    let w = row.len();
-    let mut p = words::next_member(own, 0);
-    while p < n {
-        add_slot(row, slot_of(area, w, p), p);
-        p = words::next_member(own, p + 1);
-    }
+    add_slots(area, n, own, own, 0, row);
 }
 
 // Adds to a row each slot whose index it has.
@@ -74,6 +94,18 @@ pub fn reduce(area: &[u64], n: usize, row: &mut [u64])
     reduce_members(area, n, row, &mut own[..w]);
 }
 
+// Adds to a row each slot whose index it has by then, where a set has the indices of the slots that are not empty. A settled slot may bring in the index of a pending one above it.
+fn reduce_upward(area: &[u64], n: usize, full: &[u64], row: &mut [u64])
+    requires { ⌜ LedArea n (now area) × Indexes (slotsIn n (now area)) (now full) × (length (now full) ≡ wordsFor n) × (length (now row) ≡ wordsFor n) ⌝ }
+    ensures { λ r. ⌜ ((f : ℕ) → has (now (row .exit)) f ≡ red (slotsIn n (now (area .entry))) n (has (now (row .entry))) f) ⌝ }
+{
+    let mut p = words::next_shared(row, full, 0);
+    while p < n {
+        add_slot(area, n, p, row);
+        p = words::next_shared(row, full, p + 1);
+    }
+}
+
 // Adds a row to a slot that has the row's least member p.
 fn clear_index(slot: &mut [u64], p: usize, row: &[u64])
     requires { ⌜ (length (now slot) ≡ length (now row)) × (p < wordBits * length (now row)) × Led p (has (now row)) ⌝ }
@@ -84,42 +116,81 @@ fn clear_index(slot: &mut [u64], p: usize, row: &[u64])
     }
 }
 
-// Takes a row's least member p out of the slots below p; no other slot can have it.
-fn clear_below(area: &mut [u64], p: usize, row: &[u64])
-    requires { ⌜ (p * length (now row) ≤ length (now area)) × (p < wordBits * length (now row)) × Led p (has (now row)) ⌝ }
-    ensures { λ r. ⌜ ((i : ℕ) → slotAt (length (now (row .entry))) (now (area .exit)) i ≡ slotCleared p (now (row .entry)) (now (area .entry)) p i) ⌝ }
+// Takes a row's least member p out of the pending slots below p; no other pending slot can have it.
+fn clear_pending(area: &mut [u64], p: usize, pending: &[u64], row: &[u64])
+    requires { ⌜ (p * length (now row) ≤ length (now area)) × (p < wordBits * length (now row)) × Led p (has (now row)) × (length (now pending) ≡ length (now row)) × (length (now row) ≤ mostFeatures) ⌝ }
+    ensures { λ r. ⌜ ((i : ℕ) → slotAt (length (now (row .entry))) (now (area .exit)) i ≡ slotCleared (has (now (pending .entry))) p (now (row .entry)) (now (area .entry)) p i) ⌝ }
 {
     let w = row.len();
-    let mut i = 0;
+    let mut i = words::next_member(pending, 0);
     while i < p {
         let base = i * w;
         clear_index(&mut area[base..base + w], p, row);
-        i += 1;
+        i = words::next_member(pending, i + 1);
     }
 }
 
-// A reduced row becomes the slot of its least member p.
-fn put(area: &mut [u64], p: usize, row: &[u64])
-    requires { ⌜ (p * length (now row) + length (now row) ≤ length (now area)) × (p < wordBits * length (now row)) × Led p (has (now row)) ⌝ }
-    ensures { λ r. ⌜ ((i : ℕ) → slotAt (length (now (row .entry))) (now (area .exit)) i ≡ slotAfter p (now (row .entry)) (now (area .entry)) i) ⌝ }
+// A reduced row becomes the slot of its least member p, which is pending.
+fn put(area: &mut [u64], p: usize, full: &mut [u64], pending: &mut [u64], row: &[u64])
+    requires { ⌜ (p * length (now row) + length (now row) ≤ length (now area)) × (p < wordBits * length (now row)) × Led p (has (now row)) × (length (now full) ≡ length (now row))
+        × (length (now pending) ≡ length (now row)) × (length (now row) ≤ mostFeatures) ⌝ }
+    ensures slots { λ r. ⌜ ((i : ℕ) → slotAt (length (now (row .entry))) (now (area .exit)) i ≡ slotAfter (has (now (pending .entry))) p (now (row .entry)) (now (area .entry)) i) ⌝ }
+    ensures full { λ r. ⌜ now (full .exit) ≡ toggled (now (full .entry)) p ⌝ }
+    ensures pending { λ r. ⌜ now (pending .exit) ≡ toggled (now (pending .entry)) p ⌝ }
 {
-    clear_below(area, p, row);
-    let w = row.len();
-    let base = p * w;
-    words::copy(&mut area[base..base + w], row);
+    clear_pending(area, p, pending, row);
+    write_slot(area, p, row);
+    words::toggle(full, p);
+    words::toggle(pending, p);
 }
 
-// Inserts a row: what is left of it, if anything, becomes the slot of its least member. The row is spent.
-pub fn insert(area: &mut [u64], n: usize, row: &mut [u64])
-    requires { ⌜ Reduced n (slotsIn n (now area)) × (length (now area) ≡ n * wordsFor n) × (length (now row) ≡ wordsFor n) × (n ≤ mostFeatures)
-        × ((f : ℕ) → n ≤ f → has (now row) f ≡ false) ⌝ }
-    ensures { λ r. ⌜ now (area .exit) ≡ slotWords n (insert n (slotsIn n (now (area .entry))) (has (now (row .entry)))) ⌝ }
+// Inserts a row: what is left of it, if anything, becomes the slot of its least member, which is pending. The row is spent.
+pub fn insert(area: &mut [u64], n: usize, full: &mut [u64], pending: &mut [u64], row: &mut [u64])
+    requires { ⌜ Waiting n (now full) (now pending) (now area) × (length (now row) ≡ wordsFor n) × ((f : ℕ) → n ≤ f → has (now row) f ≡ false) ⌝ }
+    ensures waiting { λ r. ⌜ Waiting n (now (full .exit)) (now (pending .exit)) (now (area .exit)) ⌝ }
+    ensures row { λ r. ⌜ settledIn n (now (pending .exit)) (now (area .exit)) ≡ insert n (settledIn n (now (pending .entry)) (now (area .entry))) (has (now (row .entry))) ⌝ }
 {
-    reduce(area, n, row);
+    reduce_upward(area, n, full, row);
     let p = words::next_member(row, 0);
     if p < n {
-        put(area, p, row);
+        put(area, p, full, pending, row);
     }
+}
+
+// Settles slot i with room for a row: the pending slots whose indices it has are added. A pending slot and an empty one stay.
+fn settle_slot(area: &mut [u64], n: usize, full: &[u64], pending: &[u64], i: usize, row: &mut [u64])
+    requires { ⌜ LedArea n (now area) × Indexes (slotsIn n (now area)) (now full) × (length (now full) ≡ wordsFor n) × (length (now pending) ≡ wordsFor n)
+        × (length (now row) ≡ wordsFor n) × (i < n) ⌝ }
+    ensures { λ r. ⌜ ((j f : ℕ) → j < n → has (slotAt (wordsFor n) (now (area .exit)) j) f
+        ≡ cond (eqb j i) (settledSlot n (has (now (pending .entry))) (slotsIn n (now (area .entry))) i f) (slotsIn n (now (area .entry)) j f)) ⌝ }
+{
+    if words::has(pending, i) {
+        return;
+    }
+    if !words::has(full, i) {
+        return;
+    }
+    let slot = slot_of(area, row.len(), i);
+    if n <= words::next_shared(slot, pending, i) {
+        return;
+    }
+    words::copy(row, slot);
+    add_slots(area, n, slot, pending, i, row);
+    write_slot(area, i, row);
+}
+
+// Settles every slot, with room for a row; nothing is pending then.
+pub fn settle(area: &mut [u64], n: usize, full: &[u64], pending: &mut [u64], row: &mut [u64])
+    requires { ⌜ Waiting n (now full) (now pending) (now area) × (length (now row) ≡ wordsFor n) ⌝ }
+    ensures words { λ r. ⌜ now (area .exit) ≡ slotWords n (settledIn n (now (pending .entry)) (now (area .entry))) ⌝ }
+    ensures none { λ r. ⌜ now (pending .exit) ≡ replicate (wordsFor n) 0 ⌝ }
+{
+    let mut i = 0;
+    while i < n {
+        settle_slot(area, n, full, pending, i, row);
+        i += 1;
+    }
+    words::clear(pending);
 }
 
 // Puts feature i in a set, or takes it out, where slot i has feature m.

@@ -41,7 +41,7 @@ red-low {n} {S} R (suc k) d i h f l = elim (order k i) [
 ]
 
 -- The empty set.
-red-none : (S : Slots) (k : ℕ) (d : Set) → ((f : ℕ) → d f ≡ false) → (f : ℕ) → red S k d f ≡ false
+pub red-none : (S : Slots) (k : ℕ) (d : Set) → ((f : ℕ) → d f ≡ false) → (f : ℕ) → red S k d f ≡ false
 unfolding red
 red-none S zero d h f = h f
 red-none S (suc k) d h f = rw (red-none S k d h f, red-none S k d h k)

@@ -16,7 +16,7 @@ use Rattle.theory.specs.Reduce.{red, red-dot, red-lowest, red-below, red
 use Rattle.theory.specs.SlotsOf.{same-slots}
 use Rattle.theory.specs.Cut.{cut, cut-within, cut-dot}
 use Rattle.theory.specs.Insert.{put, Fresh, put-stored, rest, insert, insert-reduced, insert-stored}
-use Rattle.theory.specs.Pending.{Two, settle, red-keeps, settle-free, settle-reduced, settle-stored, put-two}
+use Rattle.theory.specs.Pending.{Two, settle, red-keeps, red-none, settle-free, settle-reduced, settle-stored, put-two}
 
 -- The slots whose indices are in a set; the others are empty.
 unfoldable pub only : Set → Slots → Slots
@@ -136,6 +136,16 @@ module _ {n : ℕ} {P : Set} {S : Slots} (h : Part n P S) where
   unfolding settled settle
   settled-other i e f = rw (only-off P S i f e) (xor-false (red (only P S) n (settledIn P S i) f) ∙ ap (λ d. red (only P S) n d f) (fun-ext (λ g. settled-off P S i g e)))
 
+  -- A slot's index stays.
+  pub settled-index : (i : ℕ) → settled n P S i i ≡ S i i
+  settled-index i = elim (test (P i)) [
+    | on e ↦ settled-pending i e i
+    | off e ↦ settled-other i e i ∙ elim (test (S i i)) [
+      | on t ↦ red-keeps (only P S) n (S i) i (λ k. h .two .apart k i (settled-off P S i i e ∙ t))
+      | off t ↦ red-none (only P S) n (S i) (λ f. elim (test (S i f)) [ on q ↦ absurd (clash (part-full i f q) t) | off q ↦ q ]) i ∙ sym t
+    ]
+  ]
+
 -- ---- a row
 
 module _ {n : ℕ} {P : Set} {S : Slots} (h : Part n P S) (r : Set) where
@@ -197,6 +207,17 @@ module _ {n : ℕ} {P : Set} {S : Slots} (h : Part n P S) (r : Set) where
     put-filled i e = elim (test (eqb i p)) [
       | on t ↦ rw (t, eqb-true i p t) (first .member)
       | off t ↦ let q : P i ≡ true = rw t at e in rw (t, h .filled i q, left-avoids i (h .filled i q), and-false (P i && S i p))
+    ]
+
+    -- The indices of the slots that are not empty: those of before, and p.
+    pub put-index : (full : Set) → ((i : ℕ) → full i ≡ S i i) → (i : ℕ) → with full p i ≡ putLater P S p (rest n S r) i i
+    unfolding with putLater
+    put-index full h' i = elim (test (eqb i p)) [
+      | on t ↦ rw (t, eqb-true i p t, h' p, free-slot p, first .member)
+      | off t ↦ rw (t, h' i) (elim (test (S i i)) [
+        | on e ↦ rw (e, left-avoids i e, and-false (P i && S i p))
+        | off e ↦ elim (test (P i)) [ on q ↦ absurd (clash (h .filled i q) e) | off q ↦ rw (e, q) ]
+      ])
     ]
 
     pub put-part : Part n (with P p) (putLater P S p (rest n S r))

@@ -1,0 +1,101 @@
+-- `slots::clear_pending`: between two turns the area is a `Clearing`.
+use Prim.Native.Nat.{ℕ, _+_, _-_, _*_, _≤_}
+use mathlib.Core.Path.{_≡_, refl, ap, sym, _∙_, subst}
+use native.Mathlib.Omega.{arith}
+use lib.ListN.{length}
+use Rattle.slots.specs.Area.{slotAt, slot-in, part-is, length-slot, length-put}
+use Rattle.slots.specs.Change.{cleared, length-cleared}
+use Rattle.slots.specs.Inserting.{Clearing, clearing-first, clearing-next, clearing-done}
+use Rattle.slots.proofs.clear_pending.Statement.{statement}
+use Rattle.slots.proofs.clear_pending.Tie as tie
+
+abbrev Inv-loop : tie.InvT-loop
+Inv-loop area₀ p pending row w i₀ area i = Clearing p pending row area₀ i area
+
+abbrev μ-loop : tie.MeasureT-loop
+μ-loop area₀ p pending row w i₀ area i = p - i
+
+-- The slot of a turn is in the area.
+place : (c : tie.In-loop Inv-loop μ-loop) → c .before .loop .i * length (c .before .before .before .before .before .before .args .row .now) + length (c .before .before .before .before .before .before .args .row .now) ≤
+    length (c .before .loop .area)
+place c = let s = c .before .before .before .before .before .before in omega (
+  arith,
+  slot-in (length (s .args .row .now)) (c .before .loop .i) (s .args .p) (c .loop-test .taken),
+  c .before .loop .inv .long,
+  s .pre,
+)
+
+next-member-requires : tie.Need-next-member-requires Inv-loop μ-loop
+next-member-requires c κs = omega (arith, c .before .before .before .pre)
+
+loop-holds : tie.Need-loop-holds Inv-loop μ-loop
+loop-holds c = clearing-first _ _ _ _ _ (c .next-member .ensures)
+
+mul-base : tie.Need-mul-base Inv-loop μ-loop
+mul-base c = omega (arith, place c)
+
+add-clear-index : tie.Need-add-clear-index Inv-loop μ-loop
+add-clear-index c = omega (arith, place c)
+
+mul-clear-index : tie.Need-mul-clear-index Inv-loop μ-loop
+mul-clear-index c = omega (arith, place c)
+
+sub-clear-index : tie.Need-sub-clear-index Inv-loop μ-loop
+sub-clear-index c = omega arith
+
+part-clear-index-start : tie.Need-part-clear-index-start Inv-loop μ-loop
+part-clear-index-start c = omega (arith, place c)
+
+part-clear-index-end : tie.Need-part-clear-index-end Inv-loop μ-loop
+part-clear-index-end c = omega (arith, place c)
+
+clear-index-requires : tie.Need-clear-index-requires Inv-loop μ-loop
+clear-index-requires c κs = let s = c .before .before .before .before .before .before .before in let w = length (s .args .row .now) in
+    let i = c .before .before .loop .i in (
+      ap length (part-is w i (c .before .before .loop .area)) ∙ length-slot w i (c .before .before .loop .area) (place (c .before)),
+      s .pre .1,
+      s .pre .2,
+  )
+
+add-next-member : tie.Need-add-next-member Inv-loop μ-loop
+add-next-member c = omega arith
+
+next-member-requires-2 : tie.Need-next-member-requires-2 Inv-loop μ-loop
+next-member-requires-2 c κs = omega (arith, c .before .before .before .before .before .before .before .before .before .before .pre, c .before .before .before .before .loop-test .taken)
+
+loop-less : tie.Need-loop-less Inv-loop μ-loop
+loop-less c = omega (arith, c .next-member2 .ensures .above)
+
+loop-again : tie.Need-loop-again Inv-loop μ-loop
+loop-again c = let s = c .before .before .before .before .before .before .before .before .before .before .before in let w = length (s .args .row .now) in let i = c .before .before .before .before .before .before .loop .i in let area = c .before .before .before .before .before .before .loop .area in
+    let words = c .before .before .before .clear-index .last .0 in
+    clearing-next (s .args .p) _ (s .args .row .now) (s .args .area .now) i (c .next-member2 .result) area words (place (c .before .before .before .before .before)) (c .before .before .before .before .before .loop-test .taken) (s .pre .1) (s .pre .3) (c .next-member2 .ensures)
+    (c .before .before .before .clear-index .ensures ∙ ap (cleared (s .args .p) (s .args .row .now)) (part-is w i area)) (c .before .before .before .before .before .before .loop .inv)
+
+same-length : tie.Need-same-length Inv-loop μ-loop
+same-length c = c .before .loop .inv .long
+
+returns : tie.Need-returns Inv-loop μ-loop
+returns c = clearing-done _ _ _ _ _ _ (c .loop-test .left) (c .before .loop .inv)
+
+pub clear-pending-spec : {M : Type 1} → statement M
+clear-pending-spec =
+    tie.close
+    (tie.spec
+    Inv-loop
+    μ-loop
+    next-member-requires
+    loop-holds
+    mul-base
+    add-clear-index
+    mul-clear-index
+    sub-clear-index
+    part-clear-index-start
+    part-clear-index-end
+    clear-index-requires
+    add-next-member
+    next-member-requires-2
+    loop-less
+    loop-again
+    same-length
+    returns)

@@ -1,7 +1,7 @@
 //! Runs each call once and holds the answers and words against each other; a difference ends the run.
 
 use crate::answer;
-use crate::calls::{self, Calls};
+use crate::calls::{Call, FINDINGS, OPENINGS};
 use crate::m4ri::{self, Echelon};
 use crate::plain::{self, Tables, Task, WORD_BITS};
 use crate::tasks::Case;
@@ -27,10 +27,15 @@ impl Checked {
         self.rows.len() / self.width()
     }
 
+    /// All slots, one after the other.
+    pub fn slots(&self) -> &[u64] {
+        &self.workspace[self.workspace.len() - self.features * self.width()..]
+    }
+
     /// The slots that are not empty, one after the other.
     fn filled_slots(&self) -> Vec<u64> {
-        let slots = &self.workspace[self.workspace.len() - self.features * self.width()..];
-        let filled = slots
+        let filled = self
+            .slots()
             .chunks_exact(self.width())
             .filter(|slot| slot.iter().any(|&word| word != 0));
         filled.flatten().copied().collect()
@@ -46,14 +51,12 @@ fn room(words: usize) -> Vec<u64> {
 }
 
 pub fn check(case: &Case) -> Result<Checked, String> {
-    let task =
-        Task::<Tables>::read(&case.file).map_err(|refusal| format!("refused: {refusal:?}"))?;
-    let features = task.features.count();
+    let task = read(case)?;
     let mut checked = Checked {
-        features,
+        features: task.features.count(),
         operators: task.operators.len(),
         rows: plain::rows_of(&task),
-        workspace: opened(&case.file, features)?,
+        workspace: opened(case)?,
         filled: 0,
         separates: false,
     };
@@ -64,30 +67,38 @@ pub fn check(case: &Case) -> Result<Checked, String> {
     Ok(checked)
 }
 
+fn read(case: &Case) -> Result<Task<Tables>, String> {
+    Task::read(&case.file).map_err(|refusal| format!("refused: {refusal:?}"))
+}
+
 /// The answer and the words that a call gives, the same ones from all.
-fn agreed(
+fn agreed<I>(
     name: &str,
     words: usize,
-    call: impl Fn(&Calls, &mut [u64]) -> u64,
+    calls: &[Call<I>],
+    input: &[I],
 ) -> Result<(u64, Vec<u64>), String> {
-    let [of_library, of_plain @ ..] = calls::ALL.map(|calls| {
+    let mut outcomes = calls.iter().map(|call| {
         let mut room = room(words);
-        (call(&calls, &mut room), room)
+        (call(input, &mut room), room)
     });
-    for (answer, room) in &of_plain {
-        if *answer != of_library.0 {
+    let of_library = outcomes.next().ok_or("there is no call")?;
+    for (answer, room) in outcomes {
+        if answer != of_library.0 {
             return Err(format!("the calls to {name} answer differently"));
         }
-        if *room != of_library.1 {
+        if room != of_library.1 {
             return Err(format!("the calls to {name} leave different words"));
         }
     }
     Ok(of_library)
 }
 
-fn opened(file: &[u8], features: usize) -> Result<Vec<u64>, String> {
-    let words = MOST_HEADER + features * features.div_ceil(WORD_BITS);
-    let (answer, mut room) = agreed("open", words, |calls, room| (calls.open)(file, room))?;
+/// The words that a case is opened to.
+pub fn opened(case: &Case) -> Result<Vec<u64>, String> {
+    let features = &read(case)?.features;
+    let words = MOST_HEADER + features.count() * features.words();
+    let (answer, mut room) = agreed("open", words, &OPENINGS, &case.file)?;
     room.truncate(answer::value(answer).ok_or("the opening is refused")?);
     Ok(room)
 }
@@ -95,9 +106,7 @@ fn opened(file: &[u8], features: usize) -> Result<Vec<u64>, String> {
 /// Whether weights are found.
 fn separated(checked: &Checked) -> Result<bool, String> {
     let words = checked.width() + 1;
-    let (answer, _) = agreed("find", words, |calls, room| {
-        (calls.find)(&checked.workspace, room)
-    })?;
+    let (answer, _) = agreed("find", words, &FINDINGS, &checked.workspace)?;
     Ok(answer == 0)
 }
 

@@ -1,5 +1,6 @@
-//! Measures opening and finding: the proved library beside plain Rust of the same algorithm in two variants, and libm4ri on the same rows. Below that
-//! opening an order that names some slots, and mending pair lists. With `--stack` it measures the stack of every public call instead.
+//! Measures opening and finding: the proved library beside plain Rust of the same algorithm in two ways of numbering, beside plain Rust that inserts one
+//! row at a time, and libm4ri on the same rows. Below that opening an order that names some slots, what opening a bay has to do, and mending pair lists.
+//! With `thresholds` it measures when to settle instead, with `--stack` the stack of every public call.
 
 mod answer;
 mod calls;
@@ -15,39 +16,58 @@ mod plain;
 mod share;
 mod stack;
 mod table;
+mod targets;
 mod tasks;
+mod thresholds;
+mod work;
 
+use calls::{FINDINGS, OPENINGS};
 use check::Checked;
 use m4ri::Echelon;
-use measure::{in_turn, timed_warm, Contestant, Plan, FIGURE, LONG, TRIAL};
+use measure::{in_turn, Contestant, Plan, FIGURE, TRIAL};
 use std::process::ExitCode;
-use table::Line;
+use table::{Line, OPENING};
 use tasks::Case;
+use work::Work;
 
-/// Opening by the library and by the plain Rust, and libm4ri's fastest way to reduce the same rows.
-fn measure_opening(case: &Case, checked: &Checked) -> Line {
-    let mut contestants: Vec<Contestant> = calls::ALL
-        .map(|calls| {
-            let mut room = checked.workspace.clone();
-            contestant(move || (calls.open)(&case.file, &mut room))
-        })
-        .into();
-    let way = way_of(case, checked);
-    contestants.extend(way.map(|way| reduction(checked, way)));
-    let times = in_turn(plan_of(case), contestants);
-    let line = Line::new(case, "open", checked, &times);
-    match way {
-        Some(way) => line.with_echelon(m4ri::WAYS[way], &times[calls::ALL.len()], &times[0]),
-        None => line,
+/// On a long case libm4ri takes so long that it has no turn after so many rounds.
+const LONG_REDUCTIONS: usize = 3;
+
+/// What is printed of the cases: a line for each call, and what opening the bays has to do.
+#[derive(Default)]
+struct Measured {
+    lines: Vec<Line>,
+    works: Vec<Work>,
+}
+
+impl Measured {
+    fn add(&mut self, case: &Case) -> Result<(), String> {
+        eprintln!("{} ..", case.name);
+        let checked = check::check(case)?;
+        let opening = measure_opening(case, &checked);
+        if case.is_bay() {
+            let seconds = opening.library_seconds();
+            self.works.push(Work::new(case, &checked, seconds));
+        }
+        self.lines.push(opening);
+        self.lines.push(measure_finding(case, &checked));
+        Ok(())
     }
 }
 
-fn plan_of(case: &Case) -> &'static Plan {
-    if case.is_long() {
-        &LONG
-    } else {
-        &FIGURE
-    }
+/// Opening by the library and by the plain Rust, and libm4ri's fastest way to reduce the same rows.
+fn measure_opening(case: &Case, checked: &Checked) -> Line {
+    let mut contestants: Vec<Contestant> = OPENINGS
+        .map(|open| {
+            let mut room = checked.workspace.clone();
+            Contestant::warm(move || open(&case.file, &mut room))
+        })
+        .into();
+    let way = way_of(case, checked);
+    contestants.extend(way.map(|way| reduction_beside(case, checked, way)));
+    let times = in_turn(Plan::for_figure(case.is_long()), contestants);
+    let way = way.map(|way| m4ri::WAYS[way]);
+    Line::new(case, OPENING, checked, times, way)
 }
 
 /// libm4ri's way that is measured: the fastest; of a long case the one that is checked, which was the fastest of all other cases.
@@ -59,10 +79,6 @@ fn way_of(case: &Case, checked: &Checked) -> Option<usize> {
     }
 }
 
-fn contestant<'a>(mut call: impl FnMut() -> u64 + 'a) -> Contestant<'a> {
-    Box::new(move |repeats| timed_warm(repeats, &mut call))
-}
-
 fn fastest_way(checked: &Checked) -> Option<usize> {
     let ways = 0..m4ri::WAYS.len();
     let contestants = ways.clone().map(|way| reduction(checked, way)).collect();
@@ -72,16 +88,26 @@ fn fastest_way(checked: &Checked) -> Option<usize> {
 
 fn reduction(checked: &Checked, way: usize) -> Contestant<'_> {
     let mut echelon = Echelon::new(&checked.rows, checked.features);
-    Box::new(move |repeats| (0..repeats).map(|_| echelon.timed_reduction(way)).sum())
+    Contestant::new(move |repeats| (0..repeats).map(|_| echelon.timed_reduction(way)).sum())
+}
+
+/// The reduction that has its turns beside the openings of a case.
+fn reduction_beside<'a>(case: &Case, checked: &'a Checked, way: usize) -> Contestant<'a> {
+    let reduction = reduction(checked, way);
+    if case.is_long() {
+        reduction.in_first(LONG_REDUCTIONS)
+    } else {
+        reduction
+    }
 }
 
 fn measure_finding(case: &Case, checked: &Checked) -> Line {
-    let contestants = calls::ALL.map(|calls| {
+    let contestants = FINDINGS.map(|find| {
         let mut room = vec![0; checked.width()];
-        contestant(move || (calls.find)(&checked.workspace, &mut room))
+        Contestant::warm(move || find(&checked.workspace, &mut room))
     });
     let times = in_turn(&FIGURE, contestants.into());
-    Line::new(case, finding(checked), checked, &times)
+    Line::new(case, finding(checked), checked, times, None)
 }
 
 fn finding(checked: &Checked) -> &'static str {
@@ -92,20 +118,12 @@ fn finding(checked: &Checked) -> &'static str {
     }
 }
 
-fn measure(case: &Case) -> Result<[Line; 2], String> {
-    eprintln!("{} ..", case.name);
-    let checked = check::check(case)?;
-    Ok([
-        measure_opening(case, &checked),
-        measure_finding(case, &checked),
-    ])
-}
-
-/// Measures each case, or those whose names contain the first argument; or stack, by a listing of the library's functions.
+/// Measures each case, or those whose names contain the first argument; or when to settle; or stack, by a listing of the library's functions.
 fn main() -> ExitCode {
     let arguments: Vec<String> = std::env::args().skip(1).collect();
     let measured = match &arguments[..] {
         [option, listing] if option == "--stack" => stack::print(listing),
+        [option] if option == "thresholds" => thresholds::print(),
         [wanted, ..] => run(wanted),
         [] => run(""),
     };
@@ -119,20 +137,24 @@ fn main() -> ExitCode {
 }
 
 fn run(wanted: &str) -> Result<(), String> {
-    let mut lines = Vec::new();
+    let mut measured = Measured::default();
     for case in tasks::cases() {
         if case.name.contains(wanted) {
-            lines.extend(measure(&case).map_err(|fault| format!("{}: {fault}", case.name))?);
+            measured
+                .add(&case)
+                .map_err(|fault| format!("{}: {fault}", case.name))?;
         }
     }
-    let shares = share::measure(wanted)?;
+    let share = share::measure(wanted)?;
     let order = orders::measure(wanted)?;
     let mended = mending::measure(wanted)?;
-    table::print(&lines);
-    share::print(&shares);
+    table::print(&measured.lines);
+    targets::print(&measured.lines);
+    share::print(&share);
     if let Some(order) = &order {
         orders::print(order);
     }
+    work::print(&measured.works);
     mending::print(&mended);
     Ok(())
 }

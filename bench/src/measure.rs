@@ -3,8 +3,35 @@
 use crate::clock;
 use std::time::{Duration, Instant};
 
-/// Runs so many times, and answers how long that took without any preparation.
-pub type Contestant<'a> = Box<dyn FnMut(u32) -> Duration + 'a>;
+/// One of those that are measured in turn.
+pub struct Contestant<'a> {
+    /// Runs so many times, and answers how long that took without any preparation.
+    run: Box<dyn FnMut(u32) -> Duration + 'a>,
+    /// In later rounds it has no turn.
+    most_rounds: usize,
+}
+
+impl<'a> Contestant<'a> {
+    pub fn new(run: impl FnMut(u32) -> Duration + 'a) -> Contestant<'a> {
+        Contestant {
+            run: Box::new(run),
+            most_rounds: usize::MAX,
+        }
+    }
+
+    /// A call that finds its own words in the caches.
+    pub fn warm(mut call: impl FnMut() -> u64 + 'a) -> Contestant<'a> {
+        Contestant::new(move |repeats| timed_warm(repeats, &mut call))
+    }
+
+    /// The contestant with a turn in the first rounds alone.
+    pub fn in_first(self, most_rounds: usize) -> Contestant<'a> {
+        Contestant {
+            most_rounds,
+            ..self
+        }
+    }
+}
 
 /// How many rounds there are: no more begin after so long, once there were enough.
 pub struct Plan {
@@ -15,6 +42,17 @@ pub struct Plan {
     least_turn: Duration,
 }
 
+impl Plan {
+    /// The plan for a figure of a call.
+    pub fn for_figure(is_long: bool) -> &'static Plan {
+        if is_long {
+            &LONG
+        } else {
+            &FIGURE
+        }
+    }
+}
+
 /// Enough for a figure in the table.
 pub const FIGURE: Plan = Plan {
     least_rounds: 15,
@@ -23,10 +61,10 @@ pub const FIGURE: Plan = Plan {
     least_turn: TURN,
 };
 
-/// Enough for a figure of a call that takes seconds.
-pub const LONG: Plan = Plan {
-    least_rounds: 3,
-    most_rounds: 3,
+/// Enough for a figure of a call that takes half a second or more.
+const LONG: Plan = Plan {
+    least_rounds: 5,
+    most_rounds: 5,
     budget: Duration::ZERO,
     least_turn: Duration::ZERO,
 };
@@ -52,7 +90,7 @@ impl Times {
         median(self.seconds.clone())
     }
 
-    /// The median of the ratios round by round.
+    /// The median of the ratios round by round, over the rounds in which both had a turn.
     pub fn over(&self, other: &Times) -> f64 {
         let rounds = self.seconds.iter().zip(&other.seconds);
         median(rounds.map(|(one, another)| one / another).collect())
@@ -86,7 +124,7 @@ pub fn timed_warm<A>(repeats: u32, mut call: impl FnMut() -> A) -> Duration {
     timed(repeats, call)
 }
 
-/// The times of each contestant; each has its turn in every round.
+/// The times of each contestant; they have their turns round by round.
 pub fn in_turn(plan: &Plan, mut contestants: Vec<Contestant>) -> Vec<Times> {
     let repeats: Vec<u32> = contestants
         .iter_mut()
@@ -99,8 +137,10 @@ pub fn in_turn(plan: &Plan, mut contestants: Vec<Contestant>) -> Vec<Times> {
             break;
         }
         for ((times, contestant), &repeats) in all.iter_mut().zip(&mut contestants).zip(&repeats) {
-            let turn = contestant(repeats);
-            times.seconds.push(turn.as_secs_f64() / f64::from(repeats));
+            if round < contestant.most_rounds {
+                let turn = (contestant.run)(repeats);
+                times.seconds.push(turn.as_secs_f64() / f64::from(repeats));
+            }
         }
     }
     all
@@ -111,6 +151,6 @@ fn repeats_of(plan: &Plan, contestant: &mut Contestant) -> u32 {
     if plan.least_turn.is_zero() {
         return 1;
     }
-    let run = contestant(1).max(Duration::from_nanos(100));
+    let run = (contestant.run)(1).max(Duration::from_nanos(100));
     plan.least_turn.as_nanos().div_ceil(run.as_nanos()) as u32
 }

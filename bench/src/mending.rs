@@ -1,11 +1,12 @@
 //! Mending a pair list, beside plain Rust of the same algorithm: a bay, whose list is good, and chains, which take many passes.
 
-use crate::measure::{in_turn, once, Times, FIGURE};
+use crate::measure::{in_turn, once, Contestant, Times, FIGURE};
 use crate::plain::{self, Anew, Mended, Task};
-use crate::table::{shown, verdict};
+use crate::table::shown;
+use crate::targets::verdict;
 use crate::tasks::bays::task_file;
 use crate::tasks::chains::{chains, Chain};
-use crate::{answer, contestant, library};
+use crate::{answer, library};
 
 const BAY: &str = "mending a bay 3 by 3";
 
@@ -59,10 +60,12 @@ fn measure_bay() -> Result<Bay, String> {
     let times = in_turn(
         &FIGURE,
         vec![
-            contestant(|| library::mend(&file, &mut room)),
-            contestant(|| plain::mend::<Anew>(&file).map_or(0, |mended| mended.passes as u64)),
-            contestant(|| u64::from(task.is_closed())),
-            contestant(|| library::pair_fault(&file, &mut words)),
+            Contestant::warm(|| library::mend(&file, &mut room)),
+            Contestant::warm(|| {
+                plain::mend::<Anew>(&file).map_or(0, |mended| mended.passes as u64)
+            }),
+            Contestant::warm(|| u64::from(task.is_closed())),
+            Contestant::warm(|| library::pair_fault(&file, &mut words)),
         ],
     );
     let [mend, plain, pass, fault] =

@@ -1,9 +1,10 @@
 //! Opening an order that names some slots, beside opening the task file that is built for it: the same words come of both.
 
-use crate::measure::{in_turn, Times, FIGURE};
-use crate::table::{shown, verdict};
+use crate::measure::{in_turn, Contestant, Times, FIGURE};
+use crate::table::shown;
+use crate::targets::verdict;
 use crate::tasks::bays::{task_file, written};
-use crate::{answer, contestant, library};
+use crate::{answer, library};
 
 const NAME: &str = "order for a bay 3 by 3, two slots silent";
 
@@ -43,8 +44,8 @@ pub fn measure(wanted: &str) -> Result<Option<Opened>, String> {
     let times = in_turn(
         &FIGURE,
         vec![
-            contestant(|| library::open_partial(&order, of_order)),
-            contestant(|| library::open(&task, of_task)),
+            Contestant::warm(|| library::open_partial(&order, of_order)),
+            Contestant::warm(|| library::open(&task, of_task)),
         ],
     );
     Ok(Some(Opened { times }))

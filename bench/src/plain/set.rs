@@ -41,6 +41,21 @@ pub fn members(words: &[u64]) -> impl Iterator<Item = usize> + '_ {
     })
 }
 
+/// The least member from `start` on that two sets of as many words share.
+pub fn next_shared(one: &[u64], other: &[u64], start: usize) -> Option<usize> {
+    let first = start / WORD_BITS;
+    let rest = (one.get(first)? & other[first]) >> (start % WORD_BITS);
+    if rest != 0 {
+        return Some(start + rest.trailing_zeros() as usize);
+    }
+    let words = one.iter().zip(other).map(|(one, other)| one & other);
+    let (place, word) = words
+        .enumerate()
+        .skip(first + 1)
+        .find(|&(_, word)| word != 0)?;
+    Some(place * WORD_BITS + word.trailing_zeros() as usize)
+}
+
 /// Whether every member is below `end`, where the words reach no further than the word of `end`.
 pub fn is_below(words: &[u64], end: usize) -> bool {
     words

@@ -3,7 +3,7 @@
 use super::features::MOST_FEATURES;
 use super::set::{self, WORD_BITS};
 
-const MOST_WORDS: usize = MOST_FEATURES / WORD_BITS;
+pub const MOST_WORDS: usize = MOST_FEATURES / WORD_BITS;
 
 /// Slots to read, each of so many words.
 #[derive(Clone, Copy)]
@@ -81,7 +81,7 @@ fn shares_above(words: &[u64], others: &[u64], index: usize) -> bool {
     (first + 1..words.len()).fold(head, |found, place| found | shared(place)) != 0
 }
 
-/// Inserts a row: what is left of it, if anything, becomes the slot of its least member. The row is used up.
+/// Inserts a row and clears at once: what is left of it, if anything, becomes the slot of its least member. The row is used up.
 /// It is not inlined, so that its loops have the registers for themselves.
 #[inline(never)]
 pub fn insert(words: &mut [u64], row: &mut [u64]) {

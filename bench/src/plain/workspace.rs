@@ -3,7 +3,9 @@
 use super::features::{Atom, Features, MOST_FEATURES};
 use super::file::Refusal;
 use super::numbering::Numbering;
+use super::observer::Observer;
 use super::pairs::Pairs;
+use super::postponed::{Postponed, PENDING_SHARE};
 use super::rows::Rows;
 use super::set;
 use super::slots::{self, Slots};
@@ -38,13 +40,49 @@ impl Layout {
 
 /// Opens a workspace, and answers how many words are due.
 pub fn open<N: Numbering>(file: &[u8], room: &mut [u64]) -> Result<usize, Refusal> {
+    open_observed::<N, ()>(file, room, PENDING_SHARE, &mut ())
+}
+
+/// Opens a workspace, and settles after an operator where one of so many features, or more, is the index of a pending slot. The observer is told of
+/// each addition.
+pub fn open_observed<N: Numbering, O: Observer>(
+    file: &[u8],
+    room: &mut [u64],
+    pending_share: usize,
+    observer: &mut O,
+) -> Result<usize, Refusal> {
+    open_by::<N>(file, room, |task, words| {
+        let mut slots = Postponed::new(words, task.features.words(), observer);
+        visit_operators(task, |rows| {
+            rows.visit(|row| slots.insert(row));
+            if slots.pending() >= task.features.count() / pending_share {
+                slots.settle();
+            }
+        });
+        slots.settle();
+    })
+}
+
+/// Opens a workspace one row at a time: each new slot's index is cleared from all slots below at once.
+pub fn open_at_once<N: Numbering>(file: &[u8], room: &mut [u64]) -> Result<usize, Refusal> {
+    open_by::<N>(file, room, |task, slots| {
+        visit_operators(task, |rows| rows.visit(|row| slots::insert(slots, row)));
+    })
+}
+
+/// Opens a workspace whose slots, all empty at first, are filled in a given way.
+fn open_by<N: Numbering>(
+    file: &[u8],
+    room: &mut [u64],
+    fill: impl FnOnce(&Task<N>, &mut [u64]),
+) -> Result<usize, Refusal> {
     let task = Task::<N>::read(file)?;
     let layout = Layout::new(&task.features);
     let workspace = room.get_mut(..layout.end).ok_or(Refusal::Small)?;
     let (header, slots) = workspace.split_at_mut(layout.slots);
     fill_header(&task, header);
     slots.fill(0);
-    visit_rows(&task, |row| slots::insert(slots, row));
+    fill(&task, slots);
     Ok(layout.end)
 }
 
@@ -61,22 +99,22 @@ fn fill_header<N: Numbering>(task: &Task<N>, header: &mut [u64]) {
     }
 }
 
-/// Hands over the rows of each operator that is not idle.
-fn visit_rows<N: Numbering>(task: &Task<N>, mut visit: impl FnMut(&mut [u64])) {
+/// Hands over what makes the rows of each operator that is not idle.
+fn visit_operators<N: Numbering>(task: &Task<N>, mut visit: impl FnMut(Rows<N>)) {
     let pairs = task.pairs();
     for operator in &task.operators {
         let possible = pairs.possible(operator);
         if !pairs.is_idle(operator, &possible) {
-            Rows::new(&task.features, operator, &possible).visit(&mut visit);
+            visit(Rows::new(&task.features, operator, &possible));
         }
     }
 }
 
 /// The rows of a task one after the other, each of as many words as its features take.
 pub fn rows_of<N: Numbering>(task: &Task<N>) -> Vec<u64> {
-    let mut rows = Vec::new();
-    visit_rows(task, |row| rows.extend_from_slice(row));
-    rows
+    let mut all = Vec::new();
+    visit_operators(task, |rows| rows.visit(|row| all.extend_from_slice(row)));
+    all
 }
 
 /// A well formed workspace, cut into its parts.

@@ -1,16 +1,16 @@
 //! Bays whose goal swaps two pallets, so that no moves lead there; the library writes their task files.
 
-use super::{Case, Target};
+use super::{Case, Kind};
 use crate::{answer, library};
 
 /// More than a task file takes of the largest bay, or of an order for it.
 const ROOM: usize = 16384;
 
-pub fn case(rows: u8, columns: u8, target: Target) -> Case {
+pub fn case(rows: u8, columns: u8, kind: Kind) -> Case {
     Case {
         name: format!("bay {rows} by {columns}"),
         file: task_file(rows, columns),
-        target,
+        kind,
     }
 }
 

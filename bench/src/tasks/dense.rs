@@ -2,7 +2,7 @@
 
 use super::random::Random;
 use super::write::{Entry, Parts};
-use super::{Case, Target};
+use super::{Case, Kind};
 
 pub fn cases() -> Vec<Case> {
     vec![
@@ -20,7 +20,7 @@ fn case(name: &str, parts: Parts) -> Case {
     Case {
         name: format!("dense, {name}"),
         file: parts.file(),
-        target: Target::None,
+        kind: Kind::Dense,
     }
 }
 

@@ -1,4 +1,5 @@
 pub mod Ends
 pub mod Walk
 pub mod Slotted
+pub mod Later
 pub mod Holds

@@ -9,25 +9,25 @@ ghost use mathlib.Core.List.{List};
 ghost use Prim.Native.Nat.{ℕ, _*_, _<_, _≤_};
 ghost use lib.ListN.{length, replicate};
 ghost use Rattle.meaning.specs.Sets.{Set};
-ghost use Rattle.meaning.specs.Limits.{wordBits};
+ghost use Rattle.meaning.specs.Limits.{wordBits, mostVariables};
 ghost use Rattle.meaning.specs.Task.{State, applies, size};
 ghost use Rattle.meaning.specs.Feature.{atoms, features};
 ghost use Rattle.meaning.specs.File.{InLimits};
 ghost use Rattle.meaning.specs.Pair.{idle};
 ghost use Rattle.meaning.specs.Workspace.{wordsFor, has, packed};
 ghost use Rattle.theory.specs.Slices.{entriesIn, Given};
-ghost use Rattle.theory.specs.Contents.{slotWords};
 ghost use Rattle.theory.specs.Rows.{base, allowed};
 ghost use Rattle.theory.specs.InsertAll.{insertAll};
 ghost use Rattle.theory.specs.Finder.{difference};
 ghost use Rattle.pairs.specs.Ready.{Ready, HoldsPossible};
 ghost use Rattle.words.specs.Toggled.{toggledAll};
 ghost use Rattle.rows.specs.Moves.{Room};
-ghost use Rattle.slots.specs.Area.{slotsIn};
+ghost use Rattle.slots.specs.Waiting.{Waiting, settledIn};
 ghost use Rattle.layout.specs.Parts.{sizesPart};
 ghost use Rattle.condition.specs.Ends.{trueAtoms, truePairsOf, truePairs, trueFeatures};
 ghost use Rattle.condition.specs.Walk.{Prepared, Walked, rowsBy, rowsAfter, allEven};
-ghost use Rattle.condition.specs.Slotted.{Filled, Opened, withRows};
+ghost use Rattle.condition.specs.Slotted.{Opened, withRows};
+ghost use Rattle.condition.specs.Later.{Kept, Rowed, settledAs};
 
 // A walk over an operator's rows: whether a row is at hand, and from which value of which variable on the next one is looked for.
 struct Walk {
@@ -280,16 +280,19 @@ fn insert_rows(
     state: &[usize],
     area: &mut [u64],
     n: usize,
+    full: &mut [u64],
+    pending: &mut [u64],
     row: &mut [u64],
 )
     requires { ⌜ ((pairs : Set) × Prepared (now sizes) pairs (now variables) (now befores) (now afters) (now possible) (now state))
-        × (n ≡ features (now sizes)) × Filled n (now area) × (length (now row) ≡ wordsFor (features (now sizes))) ⌝ }
-    ensures { λ r. ⌜ now (area .exit) ≡ slotWords n (insertAll n (slotsIn n (now (area .entry)))
-        (rowsBy (now (sizes .entry)) (entriesIn (now (variables .entry)) (now (befores .entry)) (now (afters .entry))) (now (possible .entry)) (now (state .entry)))) ⌝ }
+        × (n ≡ features (now sizes)) × Waiting n (now full) (now pending) (now area) × (length (now row) ≡ wordsFor (features (now sizes))) ⌝ }
+    ensures waiting { λ r. ⌜ Waiting n (now (full .exit)) (now (pending .exit)) (now (area .exit)) ⌝ }
+    ensures rows { λ r. ⌜ settledIn n (now (pending .exit)) (now (area .exit)) ≡ insertAll n (settledIn n (now (pending .entry)) (now (area .entry)))
+        (rowsBy (now (sizes .entry)) (entriesIn (now (variables .entry)) (now (befores .entry)) (now (afters .entry))) (now (possible .entry)) (now (state .entry))) ⌝ }
 {
     let mut walk = first_row(sizes, variables, befores, afters, state, row);
     while walk.more {
-        slots::insert(area, n, row);
+        slots::insert(area, n, full, pending, row);
         walk = next_row(
             sizes,
             variables,
@@ -309,6 +312,8 @@ fn insert_condition(
     workspace: &mut [u64],
     v: usize,
     n: usize,
+    full: &mut [u64],
+    pending: &mut [u64],
     variables: &[usize],
     befores: &[usize],
     afters: &[usize],
@@ -317,9 +322,11 @@ fn insert_condition(
     state: &mut [usize],
     row: &mut [u64],
 )
-    requires { ⌜ Opened v n (now workspace) (now variables) (now befores) (now afters) × (length (now sizes) ≡ v)
+    requires { ⌜ Kept v n (now full) (now pending) (now workspace) × Rowed v n (now workspace) (now variables) (now befores) (now afters) × (length (now sizes) ≡ v)
         × (atoms (sizesPart v (now workspace)) ≤ wordBits * length (now possible)) × (length (now state) ≡ v) × (length (now row) ≡ wordsFor n) ⌝ }
-    ensures { λ r. ⌜ now (workspace .exit) ≡ withRows v n (now (workspace .entry)) (entriesIn (now (variables .entry)) (now (befores .entry)) (now (afters .entry))) ⌝ }
+    ensures kept { λ r. ⌜ Kept v n (now (full .exit)) (now (pending .exit)) (now (workspace .exit)) ⌝ }
+    ensures rows { λ r. ⌜ settledAs v n (now (pending .exit)) (now (workspace .exit))
+        ≡ withRows v n (settledAs v n (now (pending .entry)) (now (workspace .entry))) (entriesIn (now (variables .entry)) (now (befores .entry)) (now (afters .entry))) ⌝ }
 {
     words::copy(sizes, layout::sizes(workspace, v));
     if prepare(
@@ -345,8 +352,105 @@ fn insert_condition(
         state,
         &mut workspace[slots..end],
         n,
+        full,
+        pending,
         row,
     );
+}
+
+// Inserts the operator's rows into the slots of a workspace for v variables and n features; new slots stay pending.
+pub fn add_rows_later(
+    workspace: &mut [u64],
+    v: usize,
+    n: usize,
+    full: &mut [u64],
+    pending: &mut [u64],
+    variables: &[usize],
+    befores: &[usize],
+    afters: &[usize],
+)
+    requires { ⌜ Kept v n (now full) (now pending) (now workspace) × Rowed v n (now workspace) (now variables) (now befores) (now afters) ⌝ }
+    ensures kept { λ r. ⌜ Kept v n (now (full .exit)) (now (pending .exit)) (now (workspace .exit)) ⌝ }
+    ensures rows { λ r. ⌜ settledAs v n (now (pending .exit)) (now (workspace .exit))
+        ≡ withRows v n (settledAs v n (now (pending .entry)) (now (workspace .entry))) (entriesIn (now (variables .entry)) (now (befores .entry)) (now (afters .entry))) ⌝ }
+{
+    let w = layout::words_for(n);
+    let mut sizes = [0u64; MOST_VARIABLES];
+    let mut possible = [0u64; ATOM_WORDS];
+    let mut state = [0usize; MOST_VARIABLES];
+    let mut row = [0u64; MOST_WORDS];
+    insert_condition(
+        workspace,
+        v,
+        n,
+        full,
+        pending,
+        variables,
+        befores,
+        afters,
+        &mut sizes[..v],
+        &mut possible,
+        &mut state[..v],
+        &mut row[..w],
+    );
+}
+
+// Settles the slots of a workspace, with room for a row.
+fn settle_with(
+    workspace: &mut [u64],
+    v: usize,
+    n: usize,
+    full: &[u64],
+    pending: &mut [u64],
+    row: &mut [u64],
+)
+    requires { ⌜ Kept v n (now full) (now pending) (now workspace) × (v ≤ mostVariables) × (length (now row) ≡ wordsFor n) ⌝ }
+    ensures words { λ r. ⌜ now (workspace .exit) ≡ settledAs v n (now (pending .entry)) (now (workspace .entry)) ⌝ }
+    ensures none { λ r. ⌜ now (pending .exit) ≡ replicate (wordsFor n) 0 ⌝ }
+{
+    let places = layout::places_for(v, n);
+    let slots = places.slots;
+    let end = places.end;
+    slots::settle(&mut workspace[slots..end], n, full, pending, row);
+}
+
+// Settles the slots of a workspace; nothing is pending then.
+pub fn settle_rows(workspace: &mut [u64], v: usize, n: usize, full: &[u64], pending: &mut [u64])
+    requires { ⌜ Kept v n (now full) (now pending) (now workspace) × (v ≤ mostVariables) ⌝ }
+    ensures words { λ r. ⌜ now (workspace .exit) ≡ settledAs v n (now (pending .entry)) (now (workspace .entry)) ⌝ }
+    ensures none { λ r. ⌜ now (pending .exit) ≡ replicate (wordsFor n) 0 ⌝ }
+{
+    let w = pending.len();
+    let mut row = [0u64; MOST_WORDS];
+    settle_with(workspace, v, n, full, pending, &mut row[..w]);
+}
+
+// Inserts the operator's rows and settles the slots, with room for the indices of those that are not empty and of those that are pending.
+fn add_rows_with(
+    workspace: &mut [u64],
+    v: usize,
+    n: usize,
+    full: &mut [u64],
+    pending: &mut [u64],
+    variables: &[usize],
+    befores: &[usize],
+    afters: &[usize],
+)
+    requires { ⌜ Opened v n (now workspace) (now variables) (now befores) (now afters) × (length (now full) ≡ wordsFor n) × (now pending ≡ replicate (wordsFor n) 0) ⌝ }
+    ensures { λ r. ⌜ now (workspace .exit) ≡ withRows v n (now (workspace .entry)) (entriesIn (now (variables .entry)) (now (befores .entry)) (now (afters .entry))) ⌝ }
+{
+    slots::indices(layout::slots(workspace, v, n), n, full);
+    add_rows_later(
+        workspace,
+        v,
+        n,
+        full,
+        pending,
+        variables,
+        befores,
+        afters,
+    );
+    settle_rows(workspace, v, n, full, pending);
 }
 
 // Inserts the operator's rows into the slots of a workspace for v variables and n features.
@@ -362,20 +466,16 @@ pub fn add_rows(
     ensures { λ r. ⌜ now (workspace .exit) ≡ withRows v n (now (workspace .entry)) (entriesIn (now (variables .entry)) (now (befores .entry)) (now (afters .entry))) ⌝ }
 {
     let w = layout::words_for(n);
-    let mut sizes = [0u64; MOST_VARIABLES];
-    let mut possible = [0u64; ATOM_WORDS];
-    let mut state = [0usize; MOST_VARIABLES];
-    let mut row = [0u64; MOST_WORDS];
-    insert_condition(
+    let mut full = [0u64; MOST_WORDS];
+    let mut pending = [0u64; MOST_WORDS];
+    add_rows_with(
         workspace,
         v,
         n,
+        &mut full[..w],
+        &mut pending[..w],
         variables,
         befores,
         afters,
-        &mut sizes[..v],
-        &mut possible,
-        &mut state[..v],
-        &mut row[..w],
     );
 }

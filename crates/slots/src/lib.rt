@@ -234,7 +234,7 @@ pub fn find(area: &[u64], n: usize, left: &[u64], room: &mut [u64]) -> bool
 }
 
 // The indices of the slots that are not empty, as far as a slot's own bit says so.
-fn indices(area: &[u64], n: usize, full: &mut [u64])
+pub fn indices(area: &[u64], n: usize, full: &mut [u64])
     requires { ⌜ (length (now area) ≡ n * length (now full)) × (n ≤ wordBits * length (now full)) ⌝ }
     ensures { λ r. ⌜ ((f : ℕ) → has (now (full .exit)) f ≡ (ltb f n && has (slotAt (length (now (full .entry))) (now (area .entry)) f) f)) ⌝ }
 {

@@ -20,7 +20,7 @@ use Rattle.pairs.specs.Ready.{Ready}
 use Rattle.slots.specs.Area.{slotsIn, area-back}
 use Rattle.slots.specs.Waiting.{Indexes, Waiting, settledIn}
 use Rattle.layout.specs.Parts.{sizesPart, pairsPart, slotsPart, Due, length-part}
-use Rattle.condition.specs.Slotted.{heldSlots, areaPut, slotted, withRows, Opened, put-long, put-area, put-again, put-part, area-slotted, held-slotted, own-put, rows-none}
+use Rattle.condition.specs.Slotted.{heldSlots, areaPut, slotted, withRows, Opened, opened-due, put-long, put-area, put-again, put-part, area-slotted, held-slotted, own-put, rows-none}
 
 -- The workspace once its slots are settled.
 unfoldable pub settledAs : ℕ → ℕ → List ℕ → List ℕ → List ℕ
@@ -127,6 +127,20 @@ module _ (v n : ℕ) (full pending ws : List ℕ) (few : n ≤ mostFeatures) (du
   pub none-as : slotsPart v n ws ≡ slotWords n (heldSlots v n ws) → settledAs v n pending ws ≡ ws
   unfolding settledAs
   none-as filled = ap (slotted v n ws) (settled-none n (has pending) (heldSlots v n ws) clear) ∙ ap (areaPut v n ws) (sym filled) ∙ own-put v n ws due
+
+-- A workspace that is ready for an operator's rows.
+module _ {v n : ℕ} {ws variables befores afters : List ℕ} (opened : Opened v n ws variables befores afters) (full pending : List ℕ) (full-long : length full ≡ wordsFor n)
+    (full-are : Indexes (heldSlots v n ws) full) (none : pending ≡ replicate (wordsFor n) 0) where
+  pub opened-kept : Kept v n full pending ws
+  opened-kept = none-kept v n full pending ws (opened-due opened .features) (opened .due) (opened .reduced) full-long full-are none
+
+  pub opened-as : settledAs v n pending ws ≡ ws
+  opened-as = none-as v n full pending ws (opened-due opened .features) (opened .due) (opened .reduced) full-long full-are none (opened .filled)
+
+-- The workspace after a call that settled its area.
+pub settled-written : (v n : ℕ) (pending ws area ws' : List ℕ) → ws' ≡ areaPut v n ws area → area ≡ slotWords n (settledIn n pending (slotsPart v n ws)) → ws' ≡ settledAs v n pending ws
+unfolding settledAs
+settled-written v n pending ws area ws' e q = e ∙ ap (areaPut v n ws) q
 
 -- Settled, it is what it was to be.
 module _ {v n : ℕ} {full pending ws : List ℕ} (kept : Kept v n full pending ws) (none ws' : List ℕ) (is : ws' ≡ settledAs v n pending ws) (none-is : none ≡ replicate (wordsFor n) 0) where

@@ -1,52 +1,29 @@
--- `add_rows`: the local arrays have room for the sizes, the table (`atoms-most`), the base state and a row.
+-- `add_rows`: the local arrays have room for the two sets of indices; nothing is in them.
 use native.Mathlib.Omega.{arith}
 use lib.ListN.{length-take}
-use borrow.Author.Needs.{needs}
-use Rattle.numbering.specs.Sizes.{atoms-most}
-use Rattle.layout.specs.Parts.{sizesPart, Due}
+use Rattle.layout.specs.Parts.{room-zeros}
 use Rattle.condition.specs.Slotted.{opened-due}
+use borrow.Author.Needs.{needs}
 use Rattle.condition.proofs.add_rows.Statement.{statement}
 use Rattle.condition.proofs.add_rows.Tie as tie
-
--- What the call began with, where the last array is lent.
-abbrev start : tie.After-row → tie.Start
-start c = c .before .before .before .before .before .before .before .before .before .before
-
-due : (s : tie.Start) → Due (s .args .v) (s .args .n) (s .args .workspace .now)
-due s = opened-due (s .pre)
 
 words-for-requires : tie.Need-words-for-requires
 words-for-requires c κs = search needs
 
-array-borrow-prefix-sizes : tie.Need-array-borrow-prefix-sizes
-array-borrow-prefix-sizes c = omega (arith, due (c .before .before .before .before .before .before) .variables)
+array-borrow-prefix-full : tie.Need-array-borrow-prefix-full
+array-borrow-prefix-full c = search needs
 
-slice-aggregate-insert-condition : tie.Need-slice-aggregate-insert-condition
-slice-aggregate-insert-condition c = simp length-take (omega (arith, due (c .before .before .before .before .before .before .before) .variables))
+slice-aggregate-add-rows-with : tie.Need-slice-aggregate-add-rows-with
+slice-aggregate-add-rows-with c = simp length-take (omega (arith, c .before .before .words-for .ensures, opened-due (c .before .before .before .before .before .before .before .pre) .features))
 
-slice-aggregate-insert-condition-2 : tie.Need-slice-aggregate-insert-condition-2
-slice-aggregate-insert-condition-2 c = search needs
+array-borrow-prefix-pending : tie.Need-array-borrow-prefix-pending
+array-borrow-prefix-pending c = search needs
 
-array-borrow-prefix-state : tie.Need-array-borrow-prefix-state
-array-borrow-prefix-state c = omega (arith, due (c .before .before .before .before .before .before .before .before) .variables)
+slice-aggregate-add-rows-with-2 : tie.Need-slice-aggregate-add-rows-with-2
+slice-aggregate-add-rows-with-2 c = simp length-take (omega (arith, c .before .before .before .words-for .ensures, opened-due (c .before .before .before .before .before .before .before .before .pre) .features))
 
-slice-aggregate-insert-condition-3 : tie.Need-slice-aggregate-insert-condition-3
-slice-aggregate-insert-condition-3 c = simp length-take (omega (arith, due (c .before .before .before .before .before .before .before .before .before) .variables))
-
-array-borrow-prefix-row : tie.Need-array-borrow-prefix-row
-array-borrow-prefix-row c = search needs
-
-slice-aggregate-insert-condition-4 : tie.Need-slice-aggregate-insert-condition-4
-slice-aggregate-insert-condition-4 c = simp length-take (omega (arith, c .before .before .before .before .before .words-for .ensures, due (start c) .features))
-
-insert-condition-requires : tie.Need-insert-condition-requires
-insert-condition-requires c κs = let s = start c in (
-  s .pre,
-  simp length-take (omega (arith, due s .variables)),
-  omega (arith, atoms-most (sizesPart (s .args .v) (s .args .workspace .now)) (s .pre .ready .limits)),
-  simp length-take (omega (arith, due s .variables)),
-  simp length-take (omega (arith, c .before .before .before .before .before .words-for .ensures, due s .features)),
-)
+add-rows-with-requires : tie.Need-add-rows-with-requires
+add-rows-with-requires c κs = let s = c .before .before .before .before .before .before .before .before in let few = opened-due (s .pre) .features in (s .pre, simp length-take (omega (arith, c .before .before .before .words-for .ensures, few)), room-zeros _ (s .args .n) few (c .before .before .before .words-for .ensures))
 
 same-length : tie.Need-same-length
 same-length c = search needs
@@ -59,13 +36,10 @@ add-rows-spec =
     tie.close
     (tie.spec
     words-for-requires
-    array-borrow-prefix-sizes
-    slice-aggregate-insert-condition
-    slice-aggregate-insert-condition-2
-    array-borrow-prefix-state
-    slice-aggregate-insert-condition-3
-    array-borrow-prefix-row
-    slice-aggregate-insert-condition-4
-    insert-condition-requires
+    array-borrow-prefix-full
+    slice-aggregate-add-rows-with
+    array-borrow-prefix-pending
+    slice-aggregate-add-rows-with-2
+    add-rows-with-requires
     same-length
     returns)

@@ -52,8 +52,14 @@ module _ (v n : ℕ) (c : Content) (further ws : List ℕ) (h : Holds v n c furt
   own : slotted v n ws (c .slots) ≡ ws
   own = held-slotted (c .slots) ∙ sym (h .words)
 
-  held-slots : heldSlots v n ws ≡ c .slots
+  pub held-slots : heldSlots v n ws ≡ c .slots
   held-slots = ap (heldSlots v n) (sym own) ∙ slots-back v n ws (held-due .words) (c .slots) held-reduced
+
+  pub held-shape : Reduced n (heldSlots v n ws)
+  held-shape = rw held-slots held-reduced
+
+  pub held-filled : slotsPart v n ws ≡ slotWords n (heldSlots v n ws)
+  held-filled = ap (slotsPart v n) (sym own) ∙ area-slotted v n ws (held-due .words) (c .slots) ∙ ap (slotWords n) (sym held-slots)
 
   -- It is ready for the rows of an operator in three slices.
   pub held-opened : (vs xs ys : List ℕ) → Ready (sizesPart v ws) (pairsPart v n ws) vs xs ys → Opened v n ws vs xs ys
@@ -61,8 +67,8 @@ module _ (v n : ℕ) (c : Content) (further ws : List ℕ) (h : Holds v n c furt
     counted = h .total ∙ ap features (sym held-sizes);
     due = held-due .words;
     ready = r;
-    filled = ap (slotsPart v n) (sym own) ∙ area-slotted v n ws (held-due .words) (c .slots) ∙ ap (slotWords n) (sym held-slots);
-    reduced = rw held-slots held-reduced;
+    filled = held-filled;
+    reduced = held-shape;
   }
 
   pub held-listed : Listed (sizesPart v ws) (pairsPart v n ws)

@@ -85,6 +85,10 @@ module _ {v n : ℕ} {full pending ws : List ℕ} (kept : Kept v n full pending 
 
   -- ---- the rows of an operator
 
+  -- Ready for them as it is once it is settled.
+  pub settled-rowed : {variables befores afters : List ℕ} → Opened v n (settledAs v n pending ws) variables befores afters → Rowed v n ws variables befores afters
+  settled-rowed opened = record { counted = rw settled-sizes at (opened .counted); ready = rw (settled-sizes, settled-pairs) at (opened .ready) }
+
   -- It has none.
   pub later-none : (o : Operator) → rowsOf (sizesPart v ws) (has (pairsPart v n ws)) o ≡ [] → settledAs v n pending ws ≡ withRows v n (settledAs v n pending ws) o
   later-none o e = rows-none v n (settledAs v n pending ws) settled-due o settled-filled (rw (settled-sizes, settled-pairs) e)

@@ -29,8 +29,8 @@ use Rattle.task.specs.Header.{headerWords, header-content, header-length}
 use Rattle.layout.specs.Parts.{sizesPart}
 use Rattle.operator.specs.Fold.{walk-all}
 use Rattle.task.specs.Answer.{KnownAs, known-headed, known-header}
-use Rattle.condition.specs.Slotted.{withRows}
-use Rattle.condition.specs.Holds.{Holds, held-sizes}
+use Rattle.condition.specs.Slotted.{heldSlots, withRows}
+use Rattle.condition.specs.Holds.{Holds, held-sizes, held-slots}
 use Rattle.opening.specs.Adding.{Sized, addedFrom, fold-rows}
 
 -- ---- two parts written one after the other
@@ -106,6 +106,10 @@ module _ (judging : Read Task) (words left room : List ℕ) (v n : ℕ) (known :
 
     pub begun-sized : Sized v n (task .sizes) ws
     begun-sized = record { workable = (contentOf task bare, drop due room, holds); sizes-are = sym (held-sizes v n (contentOf task bare) (drop due room) ws holds) }
+
+    pub begun-blank : (i : ℕ) → heldSlots v n ws i i ≡ false
+    unfolding bare
+    begun-blank i = ap (λ S. S i i) (held-slots v n (contentOf task bare) (drop due room) ws holds)
 
     -- The rows of operators that are read by its sizes.
     pub begun-added : (bytes : List ℕ) (count at next : ℕ) (os : List Operator) → operatorsOf (task .sizes) count bytes at ≡ got os next

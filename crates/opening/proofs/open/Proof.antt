@@ -5,12 +5,13 @@ use mathlib.Core.List.{List}
 use native.Mathlib.Omega.{arith}
 use lib.ListN.{replicate, length-take}
 use lib.Seq.{length-take-le}
-use borrow.Author.Needs.{needs}
 use Rattle.meaning.specs.Limits.{mostVariables, mostFeatures}
 use Rattle.meaning.specs.Workspace.{slotsAt, wordsDue}
 use Rattle.layout.specs.Places.{places-are}
+use Rattle.layout.specs.Parts.{room-zeros}
 use Rattle.task.specs.Answer.{Known, judged-accepted, judged-refused, known-room}
-use Rattle.opening.specs.Begin.{begun-sized, begun-added, begun-rows, opens-small, opens-done, opens-refused}
+use Rattle.opening.specs.Begin.{begun-sized, begun-blank, begun-added, begun-rows, opens-small, opens-done, opens-refused}
+use borrow.Author.Needs.{needs}
 use Rattle.opening.proofs.open.Statement.{statement}
 use Rattle.opening.proofs.open.Tie as tie
 
@@ -60,9 +61,29 @@ slice-aggregate-begin c = let p = c .before .before .before .before in let room 
 begin-requires : tie.Need-begin-requires
 begin-requires c κs = let p = c .before .before .before .before in (simp length-take (omega (arith, due p, slots p)), c .before .before .if1 .left)
 
-add-operators-requires : tie.Need-add-operators-requires
-add-operators-requires c κs = let p = c .before .before .before .before .before .before .before .before in
-    begun-sized _ _ _ (lent p) _ _ (known (task p) .accepted) _ _ _ (due p) (slots p) (c .before .before .before .begin .ensures) .workable
+words-for-requires : tie.Need-words-for-requires
+words-for-requires c κs = known-room (known (c .before .before .before .before .before .before .before .before .before) .accepted) .features
+
+array-borrow-prefix-full : tie.Need-array-borrow-prefix-full
+array-borrow-prefix-full c = omega (arith, c .before .words-for .ensures, known-room (known (c .before .before .before .before .before .before .before .before .before .before .before) .accepted) .features)
+
+slice-aggregate-add-task : tie.Need-slice-aggregate-add-task
+slice-aggregate-add-task c = simp length-take (omega (arith, c .before .before .words-for .ensures, known-room (known (c .before .before .before .before .before .before .before .before .before .before .before .before) .accepted) .features))
+
+array-borrow-prefix-pending : tie.Need-array-borrow-prefix-pending
+array-borrow-prefix-pending c = omega (arith, c .before .before .words-for .ensures, known-room (known (c .before .before .before .before .before .before .before .before .before .before .before .before) .accepted) .features)
+
+slice-aggregate-add-task-2 : tie.Need-slice-aggregate-add-task-2
+slice-aggregate-add-task-2 c = simp length-take (omega (arith, c .before .before .before .words-for .ensures, known-room (known (c .before .before .before .before .before .before .before .before .before .before .before .before .before) .accepted) .features))
+
+add-task-requires : tie.Need-add-task-requires
+add-task-requires c κs = let p = c .before .before .before .before .before .before .before .before .before .before .before in let accepted = known (task p) .accepted in let begun = c .before .before .before .before .before .before .begin .ensures in
+    let none = room-zeros _ _ (known-room accepted .features) (c .before .before .before .words-for .ensures) in record {
+      workable = begun-sized _ _ _ (lent p) _ _ accepted _ _ _ (due p) (slots p) begun .workable;
+      empty = begun-blank _ _ _ (lent p) _ _ accepted _ _ _ (due p) (slots p) begun;
+      full-none = none;
+      pending-none = none;
+    }
 
 enum-known-reason : tie.Need-enum-known-reason
 enum-known-reason c = search needs
@@ -74,13 +95,10 @@ same-length : tie.Need-same-length
 same-length c = search needs
 
 returns-2 : tie.Need-returns-2
-returns-2 c =
-    let p = c .before .before .before .before .before .before .before .before .before .before .before in
-    let accepted = known (task p) .accepted in
-    let begun = c .before .before .before .before .before .before .begin .ensures in
-    opens-done _ _ _ (lent p) _ _ accepted _ _ (due p) (c .before .before .before .before .before .before .before .before .before .if1 .left)
+returns-2 c = let p = c .before .before .before .before .before .before .before .before .before .before .before .before .before .before .before .before in let accepted = known (task p) .accepted in let begun = c .before .before .before .before .before .before .before .before .before .before .before .begin .ensures in
+    opens-done _ _ _ (lent p) _ _ accepted _ _ (due p) (c .before .before .before .before .before .before .before .before .before .before .before .before .before .before .if1 .left)
     (begun-rows _ _ _ (lent p) _ _ accepted _ _ _ (due p) (slots p) begun _
-    (begun-added _ _ _ (lent p) _ _ accepted _ _ _ (due p) (slots p) begun _ _ _ _ _ (known (task p) .operators) _ (c .before .before .add-operators .ensures)))
+    (begun-added _ _ _ (lent p) _ _ accepted _ _ _ (due p) (slots p) begun _ _ _ _ _ (known (task p) .operators) _ (c .before .before .before .before .add-task .ensures)))
 
 returns-3 : tie.Need-returns-3
 returns-3 c = opens-refused _ (c .before .before .before .before .before .before .before .before .before .args .room .now) _ _ _ (judged-refused _ _ _ _ _ _ (c .before .before .before .before .before .judge .ensures) (c .before .before .reason .given .1)) (c .refusal2 .ensures)
@@ -98,7 +116,12 @@ open-spec =
     array-share-prefix-header
     slice-aggregate-begin
     begin-requires
-    add-operators-requires
+    words-for-requires
+    array-borrow-prefix-full
+    slice-aggregate-add-task
+    array-borrow-prefix-pending
+    slice-aggregate-add-task-2
+    add-task-requires
     enum-known-reason
     refusal-requires-2
     same-length

@@ -1,6 +1,6 @@
 -- A workspace of which some slots are pending: what it is once they are settled.
 use Prim.Native.Nat.{ℕ, _*_, _≤_}
-use mathlib.Core.Path.{_≡_, ap, sym, _∙_, subst}
+use mathlib.Core.Path.{_≡_, ap, sym, _∙_}
 use mathlib.Core.Bool.{false}
 use mathlib.Core.List.{List, []}
 use native.Mathlib.Omega.{arith}
@@ -17,7 +17,6 @@ use Rattle.theory.specs.Rows.{rowsOf}
 use Rattle.theory.specs.Postponed.{settled-reduced, settled-index, settled-none, reduced-part}
 use Rattle.words.specs.Part.{has-none}
 use Rattle.pairs.specs.Ready.{Ready}
-use Rattle.slots.specs.Area.{slotsIn, area-back}
 use Rattle.slots.specs.Waiting.{Indexes, Waiting, settledIn}
 use Rattle.layout.specs.Parts.{sizesPart, pairsPart, slotsPart, Due, length-part}
 use Rattle.condition.specs.Slotted.{heldSlots, areaPut, slotted, withRows, Opened, opened-due, put-long, put-area, put-again, put-part, area-slotted, held-slotted, own-put, rows-none}

@@ -440,16 +440,7 @@ fn add_rows_with(
     ensures { λ r. ⌜ now (workspace .exit) ≡ withRows v n (now (workspace .entry)) (entriesIn (now (variables .entry)) (now (befores .entry)) (now (afters .entry))) ⌝ }
 {
     slots::indices(layout::slots(workspace, v, n), n, full);
-    add_rows_later(
-        workspace,
-        v,
-        n,
-        full,
-        pending,
-        variables,
-        befores,
-        afters,
-    );
+    add_rows_later(workspace, v, n, full, pending, variables, befores, afters);
     settle_rows(workspace, v, n, full, pending);
 }
 

@@ -4,7 +4,6 @@ use mathlib.Core.Path.{_≡_, refl, sym, ap, _∙_}
 use mathlib.Core.Bool.{false}
 use mathlib.Core.List.{List, _++_, foldl, foldl-append}
 use lib.ListN.{length, take, drop, replicate}
-use Rattle.meaning.specs.Sets.{listed}
 use Rattle.meaning.specs.Task.{Task, State}
 use Rattle.meaning.specs.Workspace.{has, slotsAt, wordsDue}
 use Rattle.meaning.specs.Answer.{done}

@@ -4,7 +4,7 @@ use mathlib.Core.Path.{_≡_, sym, _∙_}
 use mathlib.Core.Bool.{false}
 use mathlib.Core.List.{List}
 use lib.ListN.{length, replicate, length-replicate}
-use Rattle.meaning.specs.Workspace.{has, wordsFor}
+use Rattle.meaning.specs.Workspace.{wordsFor}
 use Rattle.words.specs.Part.{has-none}
 use Rattle.slots.specs.Waiting.{Indexes}
 use Rattle.condition.specs.Slotted.{heldSlots}

@@ -198,16 +198,7 @@ fn add_forgetting(
     let variables = [i];
     let befores = [x];
     let afters = [numbering::size(sizes, i) - 1];
-    condition::add_rows_later(
-        room,
-        v,
-        n,
-        full,
-        pending,
-        &variables,
-        &befores,
-        &afters,
-    );
+    condition::add_rows_later(room, v, n, full, pending, &variables, &befores, &afters);
 }
 
 // Inserts the rows of the forgetting operators that are kept, by the sizes, pairs and goal of the built task; the last slots stay pending.

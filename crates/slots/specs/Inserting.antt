@@ -8,7 +8,7 @@ use native.Mathlib.Omega.{arith}
 use lib.Dec.{eqb, ltb}
 use lib.ListN.{length}
 use borrow.Author.Tests.{ltb-true, ltb-false, lt-ltb, le-ltb, ne-eqb, eqb-true, eqb-false}
-use Rattle.meaning.specs.Sets.{_⊕_, Set}
+use Rattle.meaning.specs.Sets.{Set}
 use Rattle.meaning.specs.Limits.{wordBits}
 use Rattle.meaning.specs.Slot.{LeastMember}
 use Rattle.meaning.specs.Workspace.{has, wordsFor}
@@ -149,7 +149,6 @@ module _ (n : ℕ) (full pending area row left : List ℕ) (waiting : Waiting n 
       full-are = λ i. ap (λ a. a i) (now-with full full' (waiting .full-long) full-is) ∙ index i ∙ ap (λ S. S i i) (sym slots-now);
       part = rw (now-with pending pending' (waiting .pending-long) pending-is, slots-now, ← left-is) (put-part (waiting .part) (has row) p l lowest);
     }
-
       where
         index : (i : ℕ) → with (has full) p i ≡ putLater (has pending) (slotsIn n area) p (has left) i i
         index = rw (← left-is) (put-index (waiting .part) (has row) p l lowest (has full) (waiting .full-are))

@@ -1,20 +1,19 @@
 -- The slots of an area settled, one after another.
 use Prim.Native.Nat.{ℕ, zero, suc, _+_, _*_, _<_, _≤_}
 use mathlib.Core.Path.{_≡_, refl, ap, ap₂, sym, _∙_, fun-ext}
-use mathlib.Core.Bool.{true, false, _&&_, cond, and-false}
+use mathlib.Core.Bool.{true, false, _&&_, cond}
 use mathlib.Core.List.{List}
 use native.Mathlib.Omega.{arith}
 use lib.Dec.{eqb, ltb}
 use lib.ListN.{length}
 use borrow.Author.Tests.{ltb-true, ltb-false, lt-ltb, le-ltb, eq-eqb, ne-eqb, eqb-true, eqb-false}
 use Rattle.meaning.specs.Sets.{_⊕_, Set, Slots}
-use Rattle.meaning.specs.Limits.{wordBits}
 use Rattle.meaning.specs.Workspace.{has, wordsFor}
 use Rattle.theory.specs.Truth.{on, off, test, less, same, more, order, clash}
 use Rattle.theory.specs.Search.{and-right}
 use Rattle.theory.specs.Words.{Words}
 use Rattle.theory.specs.Contents.{slotWords}
-use Rattle.theory.specs.Postponed.{settled, settled-reduced, settled-pending, settled-added, settled-index, added, added-skip, part-low, part-full}
+use Rattle.theory.specs.Postponed.{settled-reduced, settled-pending, settled-added, settled-index, added, added-skip, part-low, part-full}
 use Rattle.words.specs.Next.{Next}
 use Rattle.slots.specs.Area.{slotAt, slotsIn, slotPut, slot-has, slot-set, slot-in, put-same, put-other, area-is, LedArea, led-area}
 use Rattle.slots.specs.Waiting.{Indexes, indexes-cover, Waiting, settledIn}

@@ -2,7 +2,7 @@
 use Prim.Native.Nat.{ℕ, zero, suc, _<_}
 use mathlib.Core.Path.{_≡_, refl, sym, _∙_}
 use mathlib.Core.Logic.{_≢_, _↔_}
-use mathlib.Core.Bool.{true, false, _&&_, and-false}
+use mathlib.Core.Bool.{true, false, and-false}
 use native.Mathlib.Omega.{arith}
 use Rattle.meaning.specs.Sets.{_⊕_, Set, Slots}
 use Rattle.meaning.specs.Slot.{Reduced, Stored}
@@ -95,8 +95,10 @@ module _ {n : ℕ} {A B : Slots} (T : Two n A B) where
   -- The weights that meet all slots evenly stay.
   pub settle-stored : (w : Set) → Stored n (settle n A B) w ↔ (Stored n A w × Stored n B w)
   unfolding settle
-  settle-stored w = (λ k. let b = dot-stored n B w (pend k) in (dot-stored n A w (λ i l. sym (even b i l) ∙ stored-dot n (settle n A B) w k i l), b),
-      λ k. dot-stored n (settle n A B) w (λ i l. even (k .1) i l ∙ stored-dot n A w (k .0) i l))
+  settle-stored w = (
+    λ k. let b = dot-stored n B w (pend k) in (dot-stored n A w (λ i l. sym (even b i l) ∙ stored-dot n (settle n A B) w k i l), b),
+    λ k. dot-stored n (settle n A B) w (λ i l. even (k .1) i l ∙ stored-dot n A w (k .0) i l),
+  )
     where
       even : Stored n B w → (i : ℕ) → i < n → dot n w (settle n A B i) ≡ dot n w (A i)
       even b i l = dot-xor n w (red B n (A i)) (B i) ∙ rw (stored-dot n B w b i l, red-dot n B w b n (A i) (omega arith)) (xor-false (dot n w (A i)))

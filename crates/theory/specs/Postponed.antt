@@ -180,10 +180,15 @@ module _ {n : ℕ} {P : Set} {S : Slots} (h : Part n P S) (r : Set) where
     not-pending = elim (test (P p)) [ on e ↦ absurd (clash (h .filled p e) (free-slot p)) | off e ↦ e ]
 
     fresh : Fresh n (only P S) p (rest n S r)
-    fresh = record { inside = l; lowest = first; bounded = left-bounded; avoids = λ j e. elim (test (P j)) [
-      | on t ↦ left-avoids j (sym (only-on P S j j t) ∙ e)
-      | off t ↦ absurd (clash e (only-off P S j j t))
-    ] }
+    fresh = record {
+      inside = l;
+      lowest = first;
+      bounded = left-bounded;
+      avoids = λ j e. elim (test (P j)) [
+        | on t ↦ left-avoids j (sym (only-on P S j j t) ∙ e)
+        | off t ↦ absurd (clash e (only-off P S j j t))
+      ];
+    }
 
     away : (j : ℕ) → settledIn P S j j ≡ true → rest n S r j ≡ false
     away j e = elim (test (P j)) [ on t ↦ absurd (clash e (settled-on P S j j t)) | off t ↦ left-avoids j (sym (settled-off P S j j t) ∙ e) ]

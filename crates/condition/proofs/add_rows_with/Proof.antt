@@ -5,7 +5,7 @@ use native.Mathlib.Omega.{arith}
 use lib.ListN.{length}
 use Rattle.meaning.specs.Workspace.{wordsFor, slotsAt}
 use Rattle.theory.specs.Slices.{entriesIn}
-use Rattle.layout.specs.Parts.{Due, length-part}
+use Rattle.layout.specs.Parts.{length-part}
 use Rattle.slots.specs.Area.{slotsIn}
 use Rattle.slots.specs.Waiting.{Indexes, indexes-collected}
 use Rattle.condition.specs.Slotted.{heldSlots, withRows, opened-due}

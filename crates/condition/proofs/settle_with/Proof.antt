@@ -1,6 +1,6 @@
 -- `settle_with`: only the slot area is lent for writing.
 use Prim.Native.Nat.{_≤_}
-use mathlib.Core.Path.{_≡_, ap, sym, subst, _∙_}
+use mathlib.Core.Path.{ap, sym, subst, _∙_}
 use native.Mathlib.Omega.{arith}
 use lib.ListN.{length}
 use Rattle.layout.specs.Places.{places-are}
@@ -50,7 +50,7 @@ same-length-3 c = search needs
 returns : tie.Need-returns
 returns c = let f = c .before .before .before .before .before .before .before .before .before .before in let s = start f in let a = s .args in let k = c .before .before .before .before .before .before .settle in (
   settled-written (a .v) (a .n) (a .pending .now) (a .workspace .now) (k .last .0) _ (area-written (a .v) (a .n) _ (f .places-for .ensures) (a .workspace .now) (k .last .0)) (k .ensures .0
-  ∙ ap (λ area. slotWords (a .n) (settledIn (a .n) (a .pending .now) area)) (lent-slots (a .v) (a .n) _ (f .places-for .ensures) (a .workspace .now))),
+      ∙ ap (λ area. slotWords (a .n) (settledIn (a .n) (a .pending .now) area)) (lent-slots (a .v) (a .n) _ (f .places-for .ensures) (a .workspace .now))),
   k .ensures .1,
 )
 

@@ -1,8 +1,8 @@
 -- `add_operator`: what was read is the operator in the three slices, and the workspace is ready for its rows.
 use Prim.Native.Nat.{_≤_}
-use mathlib.Core.Path.{_≡_, ap, sym, _∙_}
+use mathlib.Core.Path.{_≡_, sym, _∙_}
 use native.Mathlib.Omega.{arith}
-use lib.ListN.{length, length-take}
+use lib.ListN.{length-take}
 use lib.Seq.{length-take-le}
 use Rattle.meaning.specs.Limits.{mostVariables}
 use Rattle.layout.specs.Parts.{sizesPart}

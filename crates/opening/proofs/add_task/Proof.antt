@@ -1,5 +1,5 @@
 -- `add_task`: nothing is pending at first (`blank-as`), nor in the end.
-use mathlib.Core.Path.{_≡_, ap, sym, subst, _∙_}
+use mathlib.Core.Path.{ap, sym, subst, _∙_}
 use Rattle.opening.specs.Adding.{Workable, addedFrom}
 use Rattle.opening.specs.Later.{blank-kept, blank-as}
 use borrow.Author.Needs.{needs}

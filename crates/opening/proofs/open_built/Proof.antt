@@ -7,7 +7,7 @@ use Rattle.meaning.specs.Workspace.{slotsAt, wordsDue}
 use Rattle.layout.specs.Parts.{headed-sizes, room-zeros}
 use Rattle.layout.specs.Places.{places-are}
 use Rattle.task.specs.Answer.{known-room}
-use Rattle.opening.specs.Begin.{begun-sized, begun-blank, opens-small}
+use Rattle.opening.specs.Begin.{begun-blank, opens-small}
 use Rattle.opening.specs.Built.{built-ready, built-opened}
 use borrow.Author.Needs.{needs}
 use Rattle.opening.proofs.open_built.Statement.{statement}

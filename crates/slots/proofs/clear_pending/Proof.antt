@@ -1,10 +1,10 @@
 -- `slots::clear_pending`: between two turns the area is a `Clearing`.
-use Prim.Native.Nat.{ℕ, _+_, _-_, _*_, _≤_}
-use mathlib.Core.Path.{_≡_, refl, ap, sym, _∙_, subst}
+use Prim.Native.Nat.{_+_, _-_, _*_, _≤_}
+use mathlib.Core.Path.{ap, _∙_}
 use native.Mathlib.Omega.{arith}
 use lib.ListN.{length}
-use Rattle.slots.specs.Area.{slotAt, slot-in, part-is, length-slot, length-put}
-use Rattle.slots.specs.Change.{cleared, length-cleared}
+use Rattle.slots.specs.Area.{slot-in, part-is, length-slot}
+use Rattle.slots.specs.Change.{cleared}
 use Rattle.slots.specs.Inserting.{Clearing, clearing-first, clearing-next, clearing-done}
 use Rattle.slots.proofs.clear_pending.Statement.{statement}
 use Rattle.slots.proofs.clear_pending.Tie as tie
@@ -55,7 +55,7 @@ clear-index-requires c κs = let s = c .before .before .before .before .before .
       ap length (part-is w i (c .before .before .loop .area)) ∙ length-slot w i (c .before .before .loop .area) (place (c .before)),
       s .pre .1,
       s .pre .2,
-  )
+    )
 
 add-next-member : tie.Need-add-next-member Inv-loop μ-loop
 add-next-member c = omega arith

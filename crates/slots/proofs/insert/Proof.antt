@@ -1,7 +1,7 @@
 -- `slots::insert`: what is left is put at its least member (`inserted`), or nothing is left (`inserted-none`).
 use native.Mathlib.Omega.{arith}
-use mathlib.Core.Path.{_≡_, sym, _∙_, subst}
-use Prim.Native.Nat.{_+_, _*_, _≤_, _<_}
+use mathlib.Core.Path.{_≡_, sym, _∙_}
+use Prim.Native.Nat.{_*_, _<_}
 use lib.ListN.{length}
 use Rattle.meaning.specs.Workspace.{wordsFor}
 use Rattle.slots.specs.Area.{slot-room}

@@ -1,6 +1,6 @@
 -- `slots::settle`: between two turns the slots below i are settled (`Settling`).
 use Prim.Native.Nat.{_-_}
-use mathlib.Core.Path.{_≡_, ap, sym, _∙_}
+use mathlib.Core.Path.{ap, sym, _∙_}
 use native.Mathlib.Omega.{arith}
 use lib.ListN.{replicate}
 use Rattle.slots.specs.Settling.{Settling, settling-first, settling-led, settling-indexes, settling-next, settling-done}

@@ -1,9 +1,6 @@
 -- `slots::settle_slot`: slot i stays, or the sum is written in its place; the slot itself has the indices while its copy changes.
-use mathlib.Core.Path.{_≡_, ap, sym, _∙_, subst}
-use mathlib.Core.Bool.{false}
+use mathlib.Core.Path.{_≡_, ap, sym, _∙_}
 use native.Mathlib.Omega.{arith}
-use Prim.Native.Nat.{ℕ, _<_}
-use lib.ListN.{length}
 use borrow.Author.Tests.{not-true}
 use Rattle.meaning.specs.Workspace.{has, wordsFor}
 use Rattle.slots.specs.Area.{slotAt, slot-room}

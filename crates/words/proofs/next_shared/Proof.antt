@@ -3,7 +3,6 @@ use Prim.Native.Nat.{_-_, _*_, _/_, _≤_}
 use mathlib.Core.Bool.{_&&_}
 use native.Mathlib.Omega.{arith}
 use lib.ListN.{length}
-use lib.Count.{trailing-le}
 use Rattle.meaning.specs.Workspace.{has}
 use Rattle.words.specs.Next.{Clear, next-none}
 use Rattle.words.specs.Share.{shared-rest, shared-clear, shared-word, shared-more}
@@ -35,7 +34,7 @@ shr-rest : tie.Need-shr-rest Inv-loop μ-loop
 shr-rest c = omega arith
 
 returns-2 : tie.Need-returns-2 Inv-loop μ-loop
-returns-2 c = 
+returns-2 c =
     let s = c .before .before .before .before in
     let start = s .args .start in
     shared-rest _ _ (s .pre .0) start (omega arith) (c .before .before .shared-slice-known .given (start / 64) .fits) (c .before .shared-slice-known2 .given (start / 64) .fits) (c .if2 .taken)
@@ -68,7 +67,7 @@ mul-result : tie.Need-mul-result Inv-loop μ-loop
 mul-result c = omega arith
 
 returns-3 : tie.Need-returns-3 Inv-loop μ-loop
-returns-3 c = 
+returns-3 c =
     let inv = c .before .before .before .before .loop .inv in
     let i = c .before .before .before .before .loop .i in
     shared-word _ _ (c .before .before .before .before .before .before .before .before .before .pre .0) _ i (inv .1) (omega arith) (inv .2) (c .before .before .shared-slice-known3 .given i .fits) (c .before .shared-slice-known4 .given i .fits) (c .if3 .taken)

@@ -30,6 +30,10 @@ read c = c .before .before
 few : (c : tie.After-step) → read c .read-operator .result .operator .count ≤ mostVariables
 few c = step-few _ _ _ (start (read c) .pre .1) _ _ _ (lent (read c)) _ (read c .read-operator .ensures) _ (c .step .given .1) (room (read c))
 
+-- The turn in which its arrays were taken.
+abbrev went : tie.After-add-rows-later-arg3 → tie.After-step
+went c = c .before .before .before .before .before .before .before
+
 sizes-requires : tie.Need-sizes-requires
 sizes-requires c κs = search needs
 
@@ -40,25 +44,25 @@ enum-known-step : tie.Need-enum-known-step
 enum-known-step c = search needs
 
 array-share-prefix-variables : tie.Need-array-share-prefix-variables
-array-share-prefix-variables c = let s = c .before .before .before .before .before .before .before in omega (arith, few s, room (read s) .variables)
+array-share-prefix-variables c = let s = went c in omega (arith, few s, room (read s) .variables)
 
 slice-aggregate-add-rows-later : tie.Need-slice-aggregate-add-rows-later
-slice-aggregate-add-rows-later c = let s = c .before .before .before .before .before .before .before .before in sym (length-take-le _ _ (omega (arith, few s, room (read s) .variables)))
+slice-aggregate-add-rows-later c = let s = went (c .before) in sym (length-take-le _ _ (omega (arith, few s, room (read s) .variables)))
 
 array-share-prefix-befores : tie.Need-array-share-prefix-befores
-array-share-prefix-befores c = let s = c .before .before .before .before .before .before .before .before in omega (arith, few s, room (read s) .befores)
+array-share-prefix-befores c = let s = went (c .before) in omega (arith, few s, room (read s) .befores)
 
 slice-aggregate-add-rows-later-2 : tie.Need-slice-aggregate-add-rows-later-2
-slice-aggregate-add-rows-later-2 c = let s = c .before .before .before .before .before .before .before .before .before in sym (length-take-le _ _ (omega (arith, few s, room (read s) .befores)))
+slice-aggregate-add-rows-later-2 c = let s = went (c .before .before) in sym (length-take-le _ _ (omega (arith, few s, room (read s) .befores)))
 
 array-share-prefix-afters : tie.Need-array-share-prefix-afters
-array-share-prefix-afters c = let s = c .before .before .before .before .before .before .before .before .before in omega (arith, few s, room (read s) .afters)
+array-share-prefix-afters c = let s = went (c .before .before) in omega (arith, few s, room (read s) .afters)
 
 slice-aggregate-add-rows-later-3 : tie.Need-slice-aggregate-add-rows-later-3
-slice-aggregate-add-rows-later-3 c = let s = c .before .before .before .before .before .before .before .before .before .before in sym (length-take-le _ _ (omega (arith, few s, room (read s) .afters)))
+slice-aggregate-add-rows-later-3 c = let s = went (c .before .before .before) in sym (length-take-le _ _ (omega (arith, few s, room (read s) .afters)))
 
 add-rows-later-requires : tie.Need-add-rows-later-requires
-add-rows-later-requires c κs = let s = c .before .before .before .before .before .before .before .before .before .before in let b = start (read s) in
+add-rows-later-requires c κs = let s = went (c .before .before .before) in let b = start (read s) in
     (b .pre .0, settled-rowed (b .pre .0) (step-opened _ _ _ (b .pre .1) _ _ _ (lent (read s)) _ (read s .read-operator .ensures) _ (s .step .given .1) (room (read s))))
 
 enum-known-step-2 : tie.Need-enum-known-step-2
@@ -74,7 +78,7 @@ same-length-3 : tie.Need-same-length-3
 same-length-3 c = search needs
 
 returns : tie.Need-returns
-returns c = let s = c .before .before .before .before .before .before .before .before .before .before .before .before .before .before .before .before .before in let k = c .before .before .before .before .before .before .add-rows-later .ensures in (
+returns c = let s = went (c .before .before .before .before .before .before .before .before .before .before) in let k = c .before .before .before .before .before .before .add-rows-later .ensures in (
   step-place _ _ _ (start (read s) .pre .1) _ _ _ (lent (read s)) _ (read s .read-operator .ensures) _ (s .step .given .1) (room (read s)),
   (k .0, step-rows _ _ _ (start (read s) .pre .1) _ _ _ (lent (read s)) _ (read s .read-operator .ensures) _ (s .step .given .1) (room (read s)) _ (k .1)),
 )

@@ -1,6 +1,7 @@
 -- `slots::settle_slot`: slot i stays, or the sum is written in its place; the slot itself has the indices while its copy changes.
 use mathlib.Core.Path.{_≡_, ap, sym, _∙_}
 use native.Mathlib.Omega.{arith}
+use lib.ListN.{length}
 use borrow.Author.Tests.{not-true}
 use Rattle.meaning.specs.Workspace.{has, wordsFor}
 use Rattle.slots.specs.Area.{slotAt, slot-room}
@@ -16,6 +17,17 @@ start c = c .before .before .before .before .before .before .before .before .bef
 -- The slot that is lent.
 slot : (c : tie.After-slot-of) → let s = start c .args in c .slot-of .result .now ≡ slotAt (wordsFor (s .n)) (s .area .now) (s .i)
 slot c = let s = start c in c .slot-of .ensures .0 ∙ ap (λ w. slotAt w (s .args .area .now) (s .args .i)) (s .pre .4)
+
+-- Where the slot is lent, and where it is copied, once the sum is made.
+abbrev lent : tie.After-add-slots → tie.After-slot-of
+lent c = c .before .before .before .before .before .before .before .before
+
+abbrev copied : tie.After-add-slots → tie.After-copy
+copied c = c .before .before .before .before
+
+-- The sum has as many words as a slot.
+sum-long : (c : tie.After-add-slots) → length (c .add-slots .last .1 .1 .1 .1 .1 .0) ≡ wordsFor (start (lent c) .args .n)
+sum-long c = omega (arith, c .add-slots .kept, copied c .copy .kept, start (lent c) .pre .4)
 
 has-requires : tie.Need-has-requires
 has-requires c κs = search needs
@@ -55,7 +67,7 @@ add-slots-requires c κs = let k = c .before .before .before .before .before .be
 )
 
 write-slot-requires : tie.Need-write-slot-requires
-write-slot-requires c κs = let s = c .before .before .before .before .before .before .before .before .before .before .before .before .before .before .before .before .before .before .before .before .before .before in slot-room (s .args .n) _ (s .args .i) (s .args .area .now) (omega (arith, c .before .before .before .before .add-slots .kept, c .before .before .before .before .before .before .before .before .copy .kept, s .pre .4)) (s .pre .0 .long) (s .pre .5)
+write-slot-requires c κs = let k = c .before .before .before .before in let s = start (lent k) in slot-room (s .args .n) _ (s .args .i) (s .args .area .now) (sum-long k) (s .pre .0 .long) (s .pre .5)
 
 same-length-2 : tie.Need-same-length-2
 same-length-2 c = search needs
@@ -64,9 +76,9 @@ same-length-3 : tie.Need-same-length-3
 same-length-3 c = search needs
 
 returns-4 : tie.Need-returns-4
-returns-4 c = let k = c .before .before .before .before .before .before .before .before .before .before .before .before .before .before .before in let s = start k in
-    written-back _ _ _ _ (s .pre .5) _ (slot k) _ (c .before .before .before .before .before .before .before .add-slots .last .1 .1 .1 .1 .1 .0) _ (s .pre .0 .long) (sym (c .before .before .before .before .before .before .before .before .before .before .before .before .before .before .before .before .before .before .before .before .has .ensures) ∙ c .before .before .before .before .before .before .before .before .before .before .before .before .before .before .before .before .before .before .before .if1 .left) (c .before .before .before .before .before .before .before .before .before .before .before .copy .ensures) (c .before .before .before .before .before .before .before .add-slots .ensures)
-    (omega (arith, c .before .before .before .before .before .before .before .add-slots .kept, c .before .before .before .before .before .before .before .before .before .before .before .copy .kept, s .pre .4)) (c .before .before .write-slot .ensures)
+returns-4 c = let k = c .before .before .before .before .before .before .before in let l = lent k in let s = start l in
+    written-back _ _ _ _ (s .pre .5) _ (slot l) _ (k .add-slots .last .1 .1 .1 .1 .1 .0) _ (s .pre .0 .long) (sym (l .before .before .before .before .before .has .ensures) ∙ l .before .before .before .before .if1 .left) (copied k .copy .ensures)
+    (k .add-slots .ensures) (sum-long k) (c .before .before .write-slot .ensures)
 
 pub settle-slot-spec : {M : Type 1} → statement M
 settle-slot-spec =

@@ -15,15 +15,13 @@ Inv-loop area₀ p pending row w i₀ area i = Clearing p pending row area₀ i 
 abbrev μ-loop : tie.MeasureT-loop
 μ-loop area₀ p pending row w i₀ area i = p - i
 
+-- What the call began with, seen from a turn.
+abbrev start : tie.In-loop Inv-loop μ-loop → tie.Start Inv-loop μ-loop
+start c = c .before .before .before .before .before .before
+
 -- The slot of a turn is in the area.
-place : (c : tie.In-loop Inv-loop μ-loop) → c .before .loop .i * length (c .before .before .before .before .before .before .args .row .now) + length (c .before .before .before .before .before .before .args .row .now) ≤
-    length (c .before .loop .area)
-place c = let s = c .before .before .before .before .before .before in omega (
-  arith,
-  slot-in (length (s .args .row .now)) (c .before .loop .i) (s .args .p) (c .loop-test .taken),
-  c .before .loop .inv .long,
-  s .pre,
-)
+place : (c : tie.In-loop Inv-loop μ-loop) → let w = length (start c .args .row .now) in c .before .loop .i * w + w ≤ length (c .before .loop .area)
+place c = let s = start c in omega (arith, slot-in (length (s .args .row .now)) (c .before .loop .i) (s .args .p) (c .loop-test .taken), c .before .loop .inv .long, s .pre)
 
 next-member-requires : tie.Need-next-member-requires Inv-loop μ-loop
 next-member-requires c κs = omega (arith, c .before .before .before .pre)
@@ -50,27 +48,22 @@ part-clear-index-end : tie.Need-part-clear-index-end Inv-loop μ-loop
 part-clear-index-end c = omega (arith, place c)
 
 clear-index-requires : tie.Need-clear-index-requires Inv-loop μ-loop
-clear-index-requires c κs = let s = c .before .before .before .before .before .before .before in let w = length (s .args .row .now) in
-    let i = c .before .before .loop .i in (
-      ap length (part-is w i (c .before .before .loop .area)) ∙ length-slot w i (c .before .before .loop .area) (place (c .before)),
-      s .pre .1,
-      s .pre .2,
-    )
+clear-index-requires c κs = let t = c .before in let s = start t in let w = length (s .args .row .now) in
+    (ap length (part-is w (t .before .loop .i) (t .before .loop .area)) ∙ length-slot w (t .before .loop .i) (t .before .loop .area) (place t), s .pre .1, s .pre .2)
 
 add-next-member : tie.Need-add-next-member Inv-loop μ-loop
 add-next-member c = omega arith
 
 next-member-requires-2 : tie.Need-next-member-requires-2 Inv-loop μ-loop
-next-member-requires-2 c κs = omega (arith, c .before .before .before .before .before .before .before .before .before .before .pre, c .before .before .before .before .loop-test .taken)
+next-member-requires-2 c κs = let t = c .before .before .before .before in omega (arith, start t .pre, t .loop-test .taken)
 
 loop-less : tie.Need-loop-less Inv-loop μ-loop
 loop-less c = omega (arith, c .next-member2 .ensures .above)
 
 loop-again : tie.Need-loop-again Inv-loop μ-loop
-loop-again c = let s = c .before .before .before .before .before .before .before .before .before .before .before in let w = length (s .args .row .now) in let i = c .before .before .before .before .before .before .loop .i in let area = c .before .before .before .before .before .before .loop .area in
-    let words = c .before .before .before .clear-index .last .0 in
-    clearing-next (s .args .p) _ (s .args .row .now) (s .args .area .now) i (c .next-member2 .result) area words (place (c .before .before .before .before .before)) (c .before .before .before .before .before .loop-test .taken) (s .pre .1) (s .pre .3) (c .next-member2 .ensures)
-    (c .before .before .before .clear-index .ensures ∙ ap (cleared (s .args .p) (s .args .row .now)) (part-is w i area)) (c .before .before .before .before .before .before .loop .inv)
+loop-again c = let t = c .before .before .before .before .before in let s = start t in let l = t .before .loop in let k = c .before .before .before .clear-index in
+    clearing-next (s .args .p) _ (s .args .row .now) (s .args .area .now) (l .i) (c .next-member2 .result) (l .area) (k .last .0) (place t) (t .loop-test .taken) (s .pre .1) (s .pre .3) (c .next-member2 .ensures)
+    (k .ensures ∙ ap (cleared (s .args .p) (s .args .row .now)) (part-is (length (s .args .row .now)) (l .i) (l .area))) (l .inv)
 
 same-length : tie.Need-same-length Inv-loop μ-loop
 same-length c = c .before .loop .inv .long

@@ -54,7 +54,7 @@ length-part w i area l = ap length (part-is w i area) ∙ length-slot w i area l
 pub slot-room : (n w i : ℕ) (area : List ℕ) → w ≡ wordsFor n → length area ≡ n * wordsFor n → i < n → i * w + w ≤ length area
 slot-room n w i area q e l = rw q (omega (arith, slot-in (wordsFor n) i n l))
 
-words-slot : (w i : ℕ) (area : List ℕ) → Words area → Words (slotAt w area i)
+pub words-slot : (w i : ℕ) (area : List ℕ) → Words area → Words (slotAt w area i)
 words-slot w i area h = words-take w (drop (i * w) area) (words-drop (i * w) area h)
 
 pub slot-has : (n i : ℕ) (area : List ℕ) (f : ℕ) → i < n → slotsIn n area i f ≡ has (slotAt (wordsFor n) area i) f

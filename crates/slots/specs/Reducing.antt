@@ -1,7 +1,7 @@
 -- Slots added to a row turn by turn: by the indices that it has when their turns come, or by indices that are fixed beforehand.
 use Prim.Native.Nat.{ℕ, suc, _+_, _*_, _<_, _≤_, min}
 use mathlib.Core.Path.{_≡_, refl, ap, ap₂, sym, _∙_, fun-ext}
-use mathlib.Core.Bool.{Bool, true, false, _&&_, and-false}
+use mathlib.Core.Bool.{true, false, _&&_, and-true, and-false}
 use mathlib.Core.List.{List}
 use native.Mathlib.Omega.{arith}
 use lib.Dec.{ltb}
@@ -14,7 +14,7 @@ use Rattle.meaning.specs.Workspace.{has, packed, wordsFor}
 use Rattle.theory.specs.Truth.{on, off, test, clash}
 use Rattle.theory.specs.Search.{and-left}
 use Rattle.theory.specs.Reduce.{red, red-within}
-use Rattle.theory.specs.Postponed.{red-skip, added, added-skip, added-turn, red-added}
+use Rattle.theory.specs.Postponed.{red-skip, added, added-skip, added-turn}
 use Rattle.theory.specs.Words.{Words, packed-has, packed-cong}
 use Rattle.words.specs.Change.{summed, length-summed, has-summed}
 use Rattle.words.specs.Next.{Next}
@@ -64,6 +64,10 @@ module _ (n : ℕ) (S : Slots) (full : Set) (covers : (i f : ℕ) → S i f ≡ 
   pub turn-done : (words : ℕ) (row : List ℕ) (p : ℕ) → n ≤ p → Turn n S full d words p row → (f : ℕ) → has row f ≡ red S n d f
   turn-done words row p l t f = let z : min p n ≡ n = omega arith in t .upto f ∙ ap (λ k. red S k d f) z
 
+-- The next member, where every number may be an index.
+pub next-every : (a : Set) (n start p : ℕ) → Next a n start p → Next (λ f. a f && true) n start p
+next-every a n start p h = rw (fun-ext (λ f. and-true (a f))) h
+
 -- ---- by indices that are fixed beforehand
 
 -- A row between two turns: to a set d the slots below p are added whose indices are in a set, and p is the next index there.
@@ -101,15 +105,6 @@ module _ (n : ℕ) (S : Slots) (own : Set) (d : Set) (words : ℕ) where
 
   pub adding-done : (row : List ℕ) (p : ℕ) → n ≤ p → Adding n S own d words p row → (f : ℕ) → has row f ≡ added S own n d f
   adding-done row p l t f = let z : min p n ≡ n = omega arith in t .upto f ∙ ap (λ k. added S own k d f) z
-
--- A row to which the slots of its own members are added is reduced.
-pub own-reduced : {n : ℕ} {S : Slots} → Reduced n S → (own row row' : List ℕ) → own ≡ row → ((f : ℕ) → has row' f ≡ added S (λ i. has own i && has own i) n (has row) f)
-    → (f : ℕ) → has row' f ≡ red S n (has row) f
-own-reduced {n} {S} R own row row' e h f = h f ∙ ap (λ a. added S a n (has row) f) (fun-ext (λ i. twice (has own i) ∙ ap (λ l. has l i) e)) ∙ sym (red-added R n (has row) f)
-  where
-    twice : (a : Bool) → (a && a) ≡ a
-    twice true = refl
-    twice false = refl
 
 -- ---- what is left in words
 

@@ -52,13 +52,15 @@ fn add_from(sum: &mut [u64], set: &[u64], p: usize)
     words::add(&mut sum[k..], &set[k..]);
 }
 
-// Adds slot p to a row.
+// Adds slot p to a row, where it is not empty.
 fn add_slot(area: &[u64], n: usize, p: usize, row: &mut [u64])
     requires { ⌜ LedArea n (now area) × (p < n) × (length (now row) ≡ wordsFor n) ⌝ }
     ensures { λ r. ⌜ now (row .exit) ≡ summed (now (row .entry)) (slotAt (wordsFor n) (now (area .entry)) p) ⌝ }
 {
-    let w = row.len();
-    add_from(row, slot_of(area, w, p), p);
+    let slot = slot_of(area, row.len(), p);
+    if words::has(slot, p) {
+        add_from(row, slot, p);
+    }
 }
 
 // Adds to a row each slot whose index two sets share, from `start` on; below that the first has no member.
@@ -74,24 +76,17 @@ fn add_slots(area: &[u64], n: usize, own: &[u64], chosen: &[u64], start: usize, 
     }
 }
 
-// Reduces a row with room for a copy of it: only its own members can be indices of slots that are added.
-fn reduce_members(area: &[u64], n: usize, row: &mut [u64], own: &mut [u64])
-    requires { ⌜ Reduced n (slotsIn n (now area)) × (length (now area) ≡ n * wordsFor n) × (length (now row) ≡ wordsFor n) × (length (now own) ≡ wordsFor n) × (n ≤ mostFeatures) ⌝ }
-    ensures { λ r. ⌜ ((f : ℕ) → has (now (row .exit)) f ≡ red (slotsIn n (now (area .entry))) n (has (now (row .entry))) f) ⌝ }
-{
-    words::copy(own, row);
-    add_slots(area, n, own, own, 0, row);
-}
-
-// Adds to a row each slot whose index it has.
+// Adds to a row each slot whose index it has. A slot brings in no other slot's index, so the row can be walked while it changes.
 pub fn reduce(area: &[u64], n: usize, row: &mut [u64])
     requires { ⌜ Reduced n (slotsIn n (now area)) × (length (now area) ≡ n * wordsFor n) × (length (now row) ≡ wordsFor n) × (n ≤ mostFeatures)
         × ((f : ℕ) → n ≤ f → has (now row) f ≡ false) ⌝ }
     ensures { λ r. ⌜ now (row .exit) ≡ packed n (red (slotsIn n (now (area .entry))) n (has (now (row .entry)))) ⌝ }
 {
-    let w = row.len();
-    let mut own = [0u64; MOST_WORDS];
-    reduce_members(area, n, row, &mut own[..w]);
+    let mut p = words::next_member(row, 0);
+    while p < n {
+        add_slot(area, n, p, row);
+        p = words::next_member(row, p + 1);
+    }
 }
 
 // Adds to a row each slot whose index it has by then, where a set has the indices of the slots that are not empty. A settled slot may bring in the index of a pending one above it.

@@ -21,11 +21,11 @@ pub const PROGRESS: Choice = Choice {
 
 /// For the help of each command that takes the option.
 pub const ABOUT: &str = "\
-A bay of sixteen slots takes about 3 seconds and a workspace of 14,992,917 words,
+A bay of sixteen slots takes about a second and a workspace of 14,992,917 words,
 which is 120 MB. While a task as large is worked on, one line on standard error
-tells which step is taken and for how many seconds, if that is a terminal (auto).
-With --progress always the steps are told elsewhere too, in a line each; with
-never, nowhere.";
+tells which step is taken and, after a second, for how long, if that is a
+terminal (auto). With --progress always the steps are told elsewhere too, in a
+line each; with never, nowhere.";
 
 /// What is wrong with the option's value, if anything is.
 pub fn misfit(arguments: &Arguments) -> Option<&'static str> {

@@ -11,7 +11,8 @@ use std::sync::mpsc::{channel, RecvTimeoutError};
 use std::thread::{self, Builder};
 use std::time::{Duration, Instant};
 
-/// Opening a workspace of so many words, 34 MB, takes about half a second; less is not worth a word.
+/// Opening a workspace of so many words, 34 MB, takes about a fifth of a second for a bay, and can take
+/// seconds for another task; less is not worth a word.
 const LARGE_WORDS: usize = 1 << 22;
 const SECOND: Duration = Duration::from_secs(1);
 

@@ -5,7 +5,7 @@ use mathlib.Core.Bool.{true, false, _&&_, and-true, and-false}
 use mathlib.Core.List.{List}
 use native.Mathlib.Omega.{arith}
 use lib.Dec.{ltb}
-use lib.ListN.{length}
+use lib.ListN.{length, replicate, length-replicate}
 use borrow.Author.Tests.{ltb-true, ltb-false}
 use Rattle.meaning.specs.Sets.{_⊕_, Set, Slots}
 use Rattle.meaning.specs.Limits.{wordBits}
@@ -17,6 +17,7 @@ use Rattle.theory.specs.Reduce.{red, red-within}
 use Rattle.theory.specs.Postponed.{red-skip, added, added-skip, added-turn}
 use Rattle.theory.specs.Words.{Words, packed-has, packed-cong}
 use Rattle.words.specs.Change.{summed, length-summed, has-summed}
+use Rattle.words.specs.Part.{has-none, words-none}
 use Rattle.words.specs.Next.{Next}
 
 -- ---- by the indices that the row has by then
@@ -118,3 +119,8 @@ red-past {n} {S} R d past f l = elim (test (red S n d f)) [ on t ↦ absurd (ome
 -- Words that hold a set with nothing at n or beyond are the words of that set.
 pub words-of : (n : ℕ) (a : Set) (l : List ℕ) → length l ≡ wordsFor n → Words l → ((f : ℕ) → n ≤ f → a f ≡ false) → ((f : ℕ) → has l f ≡ a f) → l ≡ packed n a
 words-of n a l e w past each = sym (packed-has n l e w (λ f k. each f ∙ past f k)) ∙ packed-cong n _ _ (λ f k. each f)
+
+-- Words that hold nothing are zeros.
+pub zeros-of : (n : ℕ) (l : List ℕ) → length l ≡ wordsFor n → Words l → ((f : ℕ) → has l f ≡ false) → l ≡ replicate (wordsFor n) 0
+zeros-of n l e w none = words-of n (λ f. false) l e w (λ f k. refl) none
+    ∙ sym (words-of n (λ f. false) (replicate (wordsFor n) 0) (length-replicate (wordsFor n) 0) (words-none (wordsFor n)) (λ f k. refl) (has-none (wordsFor n)))

@@ -13,7 +13,7 @@ use Rattle.theory.specs.Truth.{on, off, test, less, same, more, order, clash}
 use Rattle.theory.specs.Search.{and-right}
 use Rattle.theory.specs.Words.{Words}
 use Rattle.theory.specs.Contents.{slotWords}
-use Rattle.theory.specs.Postponed.{settled-reduced, settled-pending, settled-added, settled-index, added, added-skip, part-low, part-full}
+use Rattle.theory.specs.Postponed.{settled-reduced, settled-pending, settled-none, settled-added, settled-index, added, added-skip, part-low, part-full}
 use Rattle.words.specs.Next.{Next}
 use Rattle.slots.specs.Area.{slotAt, slotsIn, slotPut, slot-has, slot-set, slot-in, put-same, put-other, area-is, LedArea, led-area}
 use Rattle.slots.specs.Waiting.{Indexes, indexes-cover, Waiting, settledIn}
@@ -146,3 +146,8 @@ module _ (n : ℕ) (full pending area : List ℕ) (waiting : Waiting n full pend
 
     pub settling-done : n ≤ i → area' ≡ slotWords n (settledIn n pending area)
     settling-done l = area-is n area' (t .long ∙ waiting .long) (t .words) (settled-reduced (waiting .part)) (λ j f k. t .each j f k ∙ rw (lt-ltb j i (omega arith)))
+
+  -- Nothing is pending: the area has the words already.
+  pub settled-already : Words area → ((f : ℕ) → has pending f ≡ false) → area ≡ slotWords n (settledIn n pending area)
+  settled-already w none = area-is n area (waiting .long) w (settled-reduced (waiting .part))
+      (λ i f l. sym (slot-has n i area f l) ∙ ap (λ S. S i f) (sym (settled-none n (has pending) (slotsIn n area) none)))

@@ -174,17 +174,28 @@ fn settle_slot(area: &mut [u64], n: usize, full: &[u64], pending: &[u64], i: usi
     write_slot(area, i, row);
 }
 
-// Settles every slot, with room for a row; nothing is pending then.
-pub fn settle(area: &mut [u64], n: usize, full: &[u64], pending: &mut [u64], row: &mut [u64])
+// Settles every slot, with room for a row.
+fn settle_slots(area: &mut [u64], n: usize, full: &[u64], pending: &[u64], row: &mut [u64])
     requires { ⌜ Waiting n (now full) (now pending) (now area) × (length (now row) ≡ wordsFor n) ⌝ }
-    ensures words { λ r. ⌜ now (area .exit) ≡ slotWords n (settledIn n (now (pending .entry)) (now (area .entry))) ⌝ }
-    ensures none { λ r. ⌜ now (pending .exit) ≡ replicate (wordsFor n) 0 ⌝ }
+    ensures { λ r. ⌜ now (area .exit) ≡ slotWords n (settledIn n (now (pending .entry)) (now (area .entry))) ⌝ }
 {
     let mut i = 0;
     while i < n {
         settle_slot(area, n, full, pending, i, row);
         i += 1;
     }
+}
+
+// Settles the slots, with room for a row; nothing is pending then. Where nothing was, no slot is looked at.
+pub fn settle(area: &mut [u64], n: usize, full: &[u64], pending: &mut [u64], row: &mut [u64])
+    requires { ⌜ Waiting n (now full) (now pending) (now area) × (length (now row) ≡ wordsFor n) ⌝ }
+    ensures words { λ r. ⌜ now (area .exit) ≡ slotWords n (settledIn n (now (pending .entry)) (now (area .entry))) ⌝ }
+    ensures none { λ r. ⌜ now (pending .exit) ≡ replicate (wordsFor n) 0 ⌝ }
+{
+    if words::is_empty(pending) {
+        return;
+    }
+    settle_slots(area, n, full, pending, row);
     words::clear(pending);
 }
 

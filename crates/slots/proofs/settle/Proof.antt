@@ -1,70 +1,50 @@
--- `slots::settle`: between two turns the slots below i are settled (`Settling`).
-use Prim.Native.Nat.{_-_}
-use mathlib.Core.Path.{ap, sym, _∙_}
-use native.Mathlib.Omega.{arith}
+-- `slots::settle`: where nothing is pending the area has the words already, and so has the set.
+use mathlib.Core.Path.{ap, _∙_}
 use lib.ListN.{replicate}
-use Rattle.slots.specs.Settling.{Settling, settling-first, settling-led, settling-indexes, settling-next, settling-done}
+use Rattle.slots.specs.Reducing.{zeros-of}
+use Rattle.slots.specs.Settling.{settled-already}
+use borrow.Author.Needs.{needs}
 use Rattle.slots.proofs.settle.Statement.{statement}
 use Rattle.slots.proofs.settle.Tie as tie
 
-abbrev Inv-loop : tie.InvT-loop
-Inv-loop area₀ n full pending row₀ i₀ area row i = Settling n pending area₀ i area row
+is-empty-requires : tie.Need-is-empty-requires
+is-empty-requires c κs = search needs
 
-abbrev μ-loop : tie.MeasureT-loop
-μ-loop area₀ n full pending row₀ i₀ area row i = n - i
+same-length : tie.Need-same-length
+same-length c = search needs
 
-loop-holds : tie.Need-loop-holds Inv-loop μ-loop
-loop-holds c = let s = c .before .before .before .before in settling-first _ _ _ _ (s .pre .0) _ (s .pre .1) (λ i h. c .before .before .before .slice-known .given i .fits)
+returns : tie.Need-returns
+returns c = let s = c .before .before .before .before .before .before .before in let h = s .pre .0 in let none = c .before .is-empty .ensures .yes (c .if1 .taken) in
+    (settled-already _ _ _ _ h (λ i l. c .before .before .before .before .before .before .slice-known .given i .fits) none, zeros-of _ _ (h .pending-long) (λ i l. c .before .before .before .before .slice-known2 .given i .fits) none)
 
-settle-slot-requires : tie.Need-settle-slot-requires Inv-loop μ-loop
-settle-slot-requires c κs = let s = c .before .before .before .before .before .before .before .before .before in let h = s .pre .0 in let t = c .before .before .before .before .loop .inv in (
-  settling-led _ _ _ _ h _ _ _ t,
-  settling-indexes _ _ _ _ h _ _ _ t,
-  h .full-long,
-  h .pending-long,
-  t .room,
-  c .before .before .before .loop-test .taken,
-)
+settle-slots-requires : tie.Need-settle-slots-requires
+settle-slots-requires c κs = search needs
 
-add-i : tie.Need-add-i Inv-loop μ-loop
-add-i c = omega arith
+clear-requires : tie.Need-clear-requires
+clear-requires c κs = search needs
 
-loop-less : tie.Need-loop-less Inv-loop μ-loop
-loop-less c = omega arith
+same-length-2 : tie.Need-same-length-2
+same-length-2 c = search needs
 
-loop-again : tie.Need-loop-again Inv-loop μ-loop
-loop-again c = let s = c .before .before .before .before .before .before .before .before .before .before .before .before .before .before in let t = c .before .before .before .before .before .before .before .before .before .loop in let k = c .before .before .before .before .settle-slot in
-    settling-next _ _ _ _ (s .pre .0) (t .i) (t .area) (t .row) (t .inv) (k .last .0) (k .last .1 .1 .1 .1 .1 .0) (c .before .before .before .before .before .before .before .before .loop-test .taken) (omega (arith, k .kept)) (omega (arith, k .kept))
-    (λ i h. c .before .before .slice-known4 .given i .fits) (k .ensures)
+same-length-3 : tie.Need-same-length-3
+same-length-3 c = search needs
 
-clear-requires : tie.Need-clear-requires Inv-loop μ-loop
-clear-requires c κs = omega arith
+same-length-4 : tie.Need-same-length-4
+same-length-4 c = search needs
 
-same-length : tie.Need-same-length Inv-loop μ-loop
-same-length c = omega (arith, c .before .before .before .before .before .loop .inv .long)
-
-same-length-2 : tie.Need-same-length-2 Inv-loop μ-loop
-same-length-2 c = omega arith
-
-same-length-3 : tie.Need-same-length-3 Inv-loop μ-loop
-same-length-3 c = c .before .before .before .before .before .loop .inv .room ∙ sym (c .before .before .before .before .before .before .before .before .before .before .pre .1)
-
-returns : tie.Need-returns Inv-loop μ-loop
-returns c = let s = c .before .before .before .before .before .before .before .before .before .before in (settling-done _ _ _ _ (s .pre .0) (c .before .before .before .before .before .loop .i) (c .before .before .before .before .before .loop .area) _ (c .before .before .before .before .before .loop .inv) (c .before .before .before .before .loop-test .left), c .before .before .clear .ensures ∙ ap (λ k. replicate k 0) (s .pre .0 .pending-long))
+returns-2 : tie.Need-returns-2
+returns-2 c = (c .before .before .before .before .before .before .before .before .settle-slots .ensures, c .before .before .clear .ensures ∙ ap (λ k. replicate k 0) (c .before .before .before .before .before .before .before .before .before .before .before .before .before .before .before .before .before .before .before .pre .0 .pending-long))
 
 pub settle-spec : {M : Type 1} → statement M
 settle-spec =
     tie.close
     (tie.spec
-    Inv-loop
-    μ-loop
-    loop-holds
-    settle-slot-requires
-    add-i
-    loop-less
-    loop-again
-    clear-requires
+    is-empty-requires
     same-length
+    returns
+    settle-slots-requires
+    clear-requires
     same-length-2
     same-length-3
-    returns)
+    same-length-4
+    returns-2)

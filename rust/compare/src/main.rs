@@ -9,6 +9,7 @@ mod fake;
 mod groups;
 mod lent;
 mod library;
+mod pending;
 mod run;
 mod tally;
 

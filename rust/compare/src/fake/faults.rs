@@ -437,11 +437,27 @@ pub enum Fault {
     EditAsBefore,
     /// The finder's answer doesn't reach the words that weren't there before.
     AnswerAsBefore,
+    /// After an opening a slot keeps the index of one that was pending.
+    IndexKept,
+    /// The same, where there are enough features that slots stay pending.
+    IndexKeptAmongMany,
+    /// The same after an added operator.
+    IndexKeptByEdit,
+    /// An opening with many operators leaves a slot empty.
+    SlotLeftOut,
+    /// An opening doesn't settle the slots that are pending at its end.
+    LastSettlingLeftOut,
+    /// An opening of a partial file doesn't settle the slots that are pending at its end.
+    LastPartialSettlingLeftOut,
+    /// An opening of a partial file settles no slots of the forgetting operators.
+    ForgettingUnsettled,
+    /// An added operator's new slots aren't settled.
+    EditUnsettled,
 }
 
 use Fault::*;
 
-const FAULTS: [Fault; 214] = [
+const FAULTS: [Fault; 222] = [
     AcceptsAlike,
     CountsLiveOperators,
     LastOperator,
@@ -656,6 +672,14 @@ const FAULTS: [Fault; 214] = [
     OpenedSlotsAsBefore,
     EditAsBefore,
     AnswerAsBefore,
+    IndexKept,
+    IndexKeptAmongMany,
+    IndexKeptByEdit,
+    SlotLeftOut,
+    LastSettlingLeftOut,
+    LastPartialSettlingLeftOut,
+    ForgettingUnsettled,
+    EditUnsettled,
 ];
 
 /// The faults that show only behind as many operators as a number counts, or among as many features

@@ -3,6 +3,7 @@
 use super::faults::{planted, planted_fault, Fault::*};
 use super::forms::misread;
 use super::limits::{read_both, reader, Files};
+use super::settling::spoil_opening;
 use reference::calls::{broken, denied, done, refused};
 use reference::feature_set::FeatureSet;
 use reference::features::{Atom, Feature};
@@ -223,7 +224,7 @@ pub fn open(task: &[u8], room: &mut [u64]) -> u64 {
         UnreducedSlots => unreduce(&mut workspace.slots),
         OpenedPairsAsBefore => cut(&mut workspace.pairs),
         OpenedSlotsAsBefore => workspace.slots.iter_mut().for_each(cut),
-        _ => {}
+        _ => spoil_opening(&task, &mut workspace.slots),
     }
     let words = workspace.words();
     room[..words.len()].copy_from_slice(&words);

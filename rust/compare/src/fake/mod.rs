@@ -8,6 +8,7 @@ mod limits;
 mod mending;
 mod partials;
 mod places;
+mod settling;
 mod words;
 mod written;
 

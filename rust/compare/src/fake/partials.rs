@@ -3,6 +3,7 @@
 use super::faults::{planted, planted_fault, Fault::*};
 use super::files::numbers_of;
 use super::limits::{reader, Files};
+use super::settling::spoil_partial_opening;
 use super::written::written_file;
 use reference::calls::{broken, denied, done, refused};
 use reference::features::{count_features, Atom};
@@ -191,9 +192,16 @@ fn delivered<Item: Copy + Default>(due: Result<Vec<Item>, Refusal>, room: &mut [
     }
 }
 
+/// The words of a built task.
+fn opened_words(task: Task) -> Vec<u64> {
+    let mut workspace = Workspace::of(&task);
+    spoil_partial_opening(&task, &mut workspace.slots);
+    workspace.words()
+}
+
 pub fn open_partial(partial: &[u8], room: &mut [u64]) -> u64 {
     let task = faulty_built(partial, LeftOut::ByLetter);
-    delivered(task.map(|task| Workspace::of(&task).words()), room)
+    delivered(task.map(opened_words), room)
 }
 
 /// The built file; a count that isn't judged goes as far as it can be written.

@@ -1,6 +1,7 @@
 //! Calls on a workspace with faults.
 
 use super::faults::{planted, planted_fault, Fault::*};
+use super::settling::spoil_edit;
 use super::NO_ROOM;
 use reference::calls::{self, denied, done, refused};
 use reference::feature_set::{words_for, FeatureSet};
@@ -147,6 +148,9 @@ pub fn add_operator(workspace: &mut [u64], record: &Record) -> u64 {
     }
     let before = workspace.to_vec();
     let result = calls::add_operator(workspace, record);
+    if result == done(0) {
+        spoil_edit(workspace, &before);
+    }
     if planted(EditAsBefore) {
         keep_later_slots(workspace, &before);
     }

@@ -89,7 +89,7 @@ fn find(both: &mut Both, generator: &mut Generator, edited: &Edited) {
 }
 
 /// Some operators again, and all in another order.
-fn reordered(generator: &mut Generator, task: &Task) -> Task {
+pub(super) fn reordered(generator: &mut Generator, task: &Task) -> Task {
     let mut task = task.clone();
     for operator in task.operators.clone() {
         if generator.once_in(3) {

@@ -10,6 +10,7 @@ mod mended;
 mod partials;
 mod places;
 mod sets;
+mod settled;
 mod silenced;
 mod sixteen;
 mod wider;
@@ -29,7 +30,7 @@ pub struct Group {
 }
 
 /// The counts make an optimised run take about two minutes.
-pub const GROUPS: [Group; 71] = [
+pub const GROUPS: [Group; 72] = [
     Group {
         name: "weights",
         cases: 40_000,
@@ -384,6 +385,11 @@ pub const GROUPS: [Group; 71] = [
         name: "four-by-four",
         cases: 1,
         run: sixteen::four_by_four,
+    },
+    Group {
+        name: "settled",
+        cases: 5_000,
+        run: settled::opened,
     },
 ];
 

@@ -20,12 +20,12 @@
  * Nothing is kept between calls and nothing is allocated. The most stack that a call can take, in bytes, whatever its input, as bench/stack reads it from
  * the compiled archive (measured, not proved; what memcpy and memset of the C library take comes on top):
  *
- *   line             80344      build_partial, build_partial_lean   20992      add_operator       16600      replace_start  4544
- *   check_line       33048      mend, dropped                       20736      silence            15568      replace_goal   4496
- *   display_partial  24976      pair_fault                          19296      find                8736      display_bay     864
- *   open_partial     24064      display                             19136      build               5440      weight_file      64
- *   check            23144      open                                19096
- *   check_partial    23048
+ *   line             84840      check_partial                       23048      add_operator       18840      replace_start  4544
+ *   check_line       33048      build_partial, build_partial_lean   20992      silence            15568      replace_goal   4496
+ *   open_partial     29232      mend, dropped                       20736      find                8736      display_bay     864
+ *   display_partial  24976      pair_fault                          19296      build               5440      weight_file      64
+ *   open             23592      display                             19136
+ *   check            23144
  *
  * Each call answers one number, case * 2^32 + value; take it apart by florumeja_case and florumeja_value:
  *

@@ -30,7 +30,7 @@ pub record Kept (v n : ℕ) (full pending ws : List ℕ) : Type 0 where
   pub due : wordsDue v n ≤ length ws
   pub waiting : Waiting n full pending (slotsPart v n ws)
 
--- It is ready for the rows of an operator in three slices.
+-- A workspace that is ready for the rows of an operator in three slices.
 pub record Rowed (v n : ℕ) (ws variables befores afters : List ℕ) : Type 0 where
   pub counted : n ≡ features (sizesPart v ws)
   pub ready : Ready (sizesPart v ws) (pairsPart v n ws) variables befores afters
@@ -49,7 +49,7 @@ module _ {v n : ℕ} {full pending ws : List ℕ} (kept : Kept v n full pending 
   abbrev slots : Slots
   slots = settledIn n pending (slotsPart v n ws)
 
-  pub settled-long : length (settledAs v n pending ws) ≡ length ws
+  settled-long : length (settledAs v n pending ws) ≡ length ws
   unfolding settledAs
   settled-long = put-long v n ws (kept .due) (slotWords n slots) (length-slots n slots)
 

@@ -24,6 +24,7 @@ indexes-collected n w full area e h i = h i ∙ rw e
 pub indexes-cover : (n : ℕ) (full area : List ℕ) → LedArea n area → Indexes (slotsIn n area) full → (i f : ℕ) → slotsIn n area i f ≡ true → has full i ≡ true
 indexes-cover n full area led full-are i f e = full-are i ∙ led-full n area led i f e
 
+-- An area of n slots of which some are pending, with the indices of those that are not empty and of the pending ones.
 pub record Waiting (n : ℕ) (full pending area : List ℕ) : Type 0 where
   pub few : n ≤ mostFeatures
   pub long : length area ≡ n * wordsFor n

@@ -15,7 +15,7 @@ use Rattle.meaning.specs.Workspace.{has}
 use Rattle.theory.specs.Truth.{on, off, test, clash, xor-false}
 use Rattle.theory.specs.Words.{Words, bits-same, has-at}
 use Rattle.words.specs.Bits.{bit-none}
-use Rattle.words.specs.Change.{summed, toggled, length-summed, has-summed, has-toggled}
+use Rattle.words.specs.Change.{joined, summed, toggled, length-summed, has-summed, has-toggled}
 
 -- A set is empty or has p as least member.
 pub record Led (p : ℕ) (a : Set) : Type 0 where
@@ -43,7 +43,7 @@ word-none m i w h = elim (test (ltb i (length m))) [
 ]
 
 summed-after : (k : ℕ) (l m : List ℕ) → length l ≡ length m → ((i : ℕ) → i < k → getD m i 0 ≡ 0) → take k l ++ summed (drop k l) (drop k m) ≡ summed l m
-unfolding summed
+unfolding joined
 summed-after zero l m e h = refl
 summed-after (suc k) [] m e h = refl
 summed-after (suc k) (x ∷ l) [] e h = absurd (omega arith)
@@ -62,7 +62,7 @@ added-from k l m w e h = rw (
 
 -- Words that hold nothing change nothing.
 pub added-none : (l m : List ℕ) → Words m → length l ≡ length m → ((f : ℕ) → has m f ≡ false) → l ≡ summed l m
-unfolding summed
+unfolding joined
 added-none l m w e h = sym (append-nil l)
     ∙ ap₂ _++_ (sym (take-all (length l) l (omega arith))) (none (drop (length l) l) (drop-of-length-le l {i = length l} (omega arith)))
     ∙ summed-after (length l) l m e (λ i j. word-none m i w (λ b t. h (i * wordBits + b)))

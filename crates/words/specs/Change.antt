@@ -1,6 +1,6 @@
 -- What toggling a feature and adding words do to a list of words, and what the list holds afterwards.
 use Prim.Native.Nat.{ℕ, zero, suc, _*_, _/_, _%_, _^_, _<_}
-use mathlib.Core.Path.{_≡_, refl, ap, _∙_}
+use mathlib.Core.Path.{_≡_, refl, ap, sym, _∙_}
 use mathlib.Core.Logic.{_≢_}
 use mathlib.Core.Bool.{true, false, _||_}
 use mathlib.Core.List.{List, [], _∷_}
@@ -22,11 +22,15 @@ use Rattle.words.specs.Bits.{bit-xor, bit-power}
 unfoldable pub toggled : List ℕ → ℕ → List ℕ
 toggled l f = set l (f / wordBits) (bitXor (getD l (f / wordBits) 0) (2 ^ (f % wordBits)))
 
--- Each word of a list joined with the word at its place in another, by exclusive or.
-unfoldable pub summed : List ℕ → List ℕ → List ℕ
-summed [] m = []
-summed (x ∷ l) [] = x ∷ l
-summed (x ∷ l) (y ∷ m) = bitXor x y ∷ summed l m
+-- Each word of a list joined with the word at its place in another.
+unfoldable pub joined : (ℕ → ℕ → ℕ) → List ℕ → List ℕ → List ℕ
+joined op [] m = []
+joined op (x ∷ l) [] = x ∷ l
+joined op (x ∷ l) (y ∷ m) = op x y ∷ joined op l m
+
+-- By exclusive or: the sum of two sets.
+abbrev pub summed : List ℕ → List ℕ → List ℕ
+summed l m = joined bitXor l m
 
 -- ---- one feature toggled
 
@@ -87,21 +91,27 @@ included-now l f now e h t = record {
   each = λ g. ap (λ m. has m g) t ∙ has-toggled l f g h ∙ elim (test (eqb g f)) [ on q ↦ rw (q, eqb-true g f q, e) refl | off q ↦ rw q refl ];
 }
 
--- ---- words added
+-- ---- words joined
+
+pub length-joined : (op : ℕ → ℕ → ℕ) (l m : List ℕ) → length (joined op l m) ≡ length l
+unfolding joined
+length-joined op [] m = refl
+length-joined op (x ∷ l) [] = refl
+length-joined op (x ∷ l) (y ∷ m) = ap suc (length-joined op l m)
+
+pub getD-joined : (op : ℕ → ℕ → ℕ) → op 0 0 ≡ 0 → (l m : List ℕ) (i : ℕ) → length l ≡ length m → getD (joined op l m) i 0 ≡ op (getD l i 0) (getD m i 0)
+unfolding joined
+getD-joined op none [] [] i e = sym none
+getD-joined op none [] (y ∷ m) i e = absurd (omega arith)
+getD-joined op none (x ∷ l) [] i e = absurd (omega arith)
+getD-joined op none (x ∷ l) (y ∷ m) zero e = refl
+getD-joined op none (x ∷ l) (y ∷ m) (suc i) e = getD-joined op none l m i (omega arith)
 
 pub length-summed : (l m : List ℕ) → length (summed l m) ≡ length l
-unfolding summed
-length-summed [] m = refl
-length-summed (x ∷ l) [] = refl
-length-summed (x ∷ l) (y ∷ m) = ap suc (length-summed l m)
+length-summed = length-joined bitXor
 
 pub getD-summed : (l m : List ℕ) (i : ℕ) → length l ≡ length m → getD (summed l m) i 0 ≡ bitXor (getD l i 0) (getD m i 0)
-unfolding summed
-getD-summed [] [] i e = refl
-getD-summed [] (y ∷ m) i e = absurd (omega arith)
-getD-summed (x ∷ l) [] i e = absurd (omega arith)
-getD-summed (x ∷ l) (y ∷ m) zero e = refl
-getD-summed (x ∷ l) (y ∷ m) (suc i) e = getD-summed l m i (omega arith)
+getD-summed = getD-joined bitXor refl
 
 pub has-summed : (l m : List ℕ) (g : ℕ) → length l ≡ length m → has (summed l m) g ≡ has l g ⊕ has m g
 unfolding has

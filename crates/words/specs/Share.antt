@@ -1,9 +1,9 @@
 -- What two lists of words have in common, word by word, and the next number that both have.
-use Prim.Native.Nat.{ℕ, zero, suc, _+_, _*_, _/_, _%_, _^_, _<_, _≤_}
-use mathlib.Core.Path.{_≡_, refl, ap, fun-ext}
+use Prim.Native.Nat.{ℕ, _+_, _*_, _/_, _%_, _^_, _<_, _≤_}
+use mathlib.Core.Path.{_≡_, refl, fun-ext}
 use mathlib.Core.Logic.{_≢_}
 use mathlib.Core.Bool.{_&&_}
-use mathlib.Core.List.{List, [], _∷_}
+use mathlib.Core.List.{List}
 use native.Mathlib.Omega.{arith}
 use lib.ListN.{length, getD}
 use lib.Bits.{bitAnd, and-lt}
@@ -12,29 +12,19 @@ use Rattle.meaning.specs.Sets.{Set}
 use Rattle.meaning.specs.Limits.{wordBits}
 use Rattle.meaning.specs.Workspace.{has}
 use Rattle.words.specs.Bits.{bit-and}
+use Rattle.words.specs.Change.{joined, length-joined, getD-joined}
 use Rattle.words.specs.Next.{Clear, Next, next-rest, clear-rest, next-word, clear-word}
 
--- Each word of a list joined with the word at its place in another, by and.
-unfoldable pub both : List ℕ → List ℕ → List ℕ
-both [] m = []
-both (x ∷ l) [] = x ∷ l
-both (x ∷ l) (y ∷ m) = bitAnd x y ∷ both l m
+abbrev both : List ℕ → List ℕ → List ℕ
+both l m = joined bitAnd l m
 
-pub length-both : (l m : List ℕ) → length (both l m) ≡ length l
-unfolding both
-length-both [] m = refl
-length-both (x ∷ l) [] = refl
-length-both (x ∷ l) (y ∷ m) = ap suc (length-both l m)
+length-both : (l m : List ℕ) → length (both l m) ≡ length l
+length-both = length-joined bitAnd
 
-pub getD-both : (l m : List ℕ) (i : ℕ) → length l ≡ length m → getD (both l m) i 0 ≡ bitAnd (getD l i 0) (getD m i 0)
-unfolding both
-getD-both [] [] i e = refl
-getD-both [] (y ∷ m) i e = absurd (omega arith)
-getD-both (x ∷ l) [] i e = absurd (omega arith)
-getD-both (x ∷ l) (y ∷ m) zero e = refl
-getD-both (x ∷ l) (y ∷ m) (suc i) e = getD-both l m i (omega arith)
+getD-both : (l m : List ℕ) (i : ℕ) → length l ≡ length m → getD (both l m) i 0 ≡ bitAnd (getD l i 0) (getD m i 0)
+getD-both = getD-joined bitAnd refl
 
-pub has-both : (l m : List ℕ) (f : ℕ) → length l ≡ length m → has (both l m) f ≡ (has l f && has m f)
+has-both : (l m : List ℕ) (f : ℕ) → length l ≡ length m → has (both l m) f ≡ (has l f && has m f)
 unfolding has
 has-both l m f e = rw (getD-both l m (f / wordBits) e) (bit-and (getD l (f / wordBits) 0) (getD m (f / wordBits) 0) (f % wordBits))
 

@@ -9,7 +9,7 @@ array-borrow-prefix-row : tie.Need-array-borrow-prefix-row
 array-borrow-prefix-row c = search needs
 
 slice-aggregate-settle-with : tie.Need-slice-aggregate-settle-with
-slice-aggregate-settle-with c = let s = c .before .before .before .before .before .before in simp length-take (omega (arith, s .pre .0 .waiting .pending-long, s .pre .0 .waiting .few))
+slice-aggregate-settle-with c = let h = c .before .before .before .before .before .before .pre .0 .waiting in simp length-take (omega (arith, h .pending-long, h .few))
 
 settle-with-requires : tie.Need-settle-with-requires
 settle-with-requires c κs = let s = c .before .before .before .before .before .before in let h = s .pre .0 .waiting in (s .pre .0, s .pre .1, simp length-take (omega (arith, h .pending-long, h .few)))

@@ -31,7 +31,7 @@ same-length : tie.Need-same-length
 same-length c = search needs
 
 returns : tie.Need-returns
-returns c = ap (slotPut (length (c .before .before .before .before .before .before .args .row .now)) (c .before .before .before .before .before .before .args .area .now) (c .before .before .before .before .before .before .args .i)) (c .before .before .copy .ensures)
+returns c = let s = c .before .before .before .before .before .before .args in ap (slotPut (length (s .row .now)) (s .area .now) (s .i)) (c .before .before .copy .ensures)
 
 pub write-slot-spec : {M : Type 1} → statement M
 write-slot-spec =

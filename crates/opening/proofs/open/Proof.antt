@@ -1,5 +1,5 @@
 -- `open`: each answer of the judge by its law; the workspace that is begun holds the task's content with empty slots.
-use Prim.Native.Nat.{ℕ}
+use Prim.Native.Nat.{ℕ, _≤_}
 use mathlib.Core.Path.{_≡_, sym}
 use mathlib.Core.List.{List}
 use native.Mathlib.Omega.{arith}
@@ -34,6 +34,13 @@ due p = places-are _ _ _ (p .places-for .ensures) .4
 slots : (p : tie.After-places-for) → p .places-for .result .slots ≡ slotsAt (task p .variables .given .0 .0) (task p .variables .given .0 .1 .0)
 slots p = places-are _ _ _ (p .places-for .ensures) .3
 
+-- Once the words of a set are counted: the places that were worked out before, and that there are few enough.
+abbrev placed : tie.After-words-for → tie.After-places-for
+placed w = w .before .before .before .before .before .before .before .before
+
+few : (w : tie.After-words-for) → task (placed w) .variables .given .0 .1 .0 ≤ mostFeatures
+few w = known-room (known (task (placed w)) .accepted) .features
+
 slice-aggregate-judge : tie.Need-slice-aggregate-judge
 slice-aggregate-judge c = search needs
 
@@ -65,20 +72,20 @@ words-for-requires : tie.Need-words-for-requires
 words-for-requires c κs = known-room (known (c .before .before .before .before .before .before .before .before .before) .accepted) .features
 
 array-borrow-prefix-full : tie.Need-array-borrow-prefix-full
-array-borrow-prefix-full c = omega (arith, c .before .words-for .ensures, known-room (known (c .before .before .before .before .before .before .before .before .before .before .before) .accepted) .features)
+array-borrow-prefix-full c = let w = c .before in omega (arith, w .words-for .ensures, few w)
 
 slice-aggregate-add-task : tie.Need-slice-aggregate-add-task
-slice-aggregate-add-task c = simp length-take (omega (arith, c .before .before .words-for .ensures, known-room (known (c .before .before .before .before .before .before .before .before .before .before .before .before) .accepted) .features))
+slice-aggregate-add-task c = let w = c .before .before in simp length-take (omega (arith, w .words-for .ensures, few w))
 
 array-borrow-prefix-pending : tie.Need-array-borrow-prefix-pending
-array-borrow-prefix-pending c = omega (arith, c .before .before .words-for .ensures, known-room (known (c .before .before .before .before .before .before .before .before .before .before .before .before) .accepted) .features)
+array-borrow-prefix-pending c = let w = c .before .before in omega (arith, w .words-for .ensures, few w)
 
 slice-aggregate-add-task-2 : tie.Need-slice-aggregate-add-task-2
-slice-aggregate-add-task-2 c = simp length-take (omega (arith, c .before .before .before .words-for .ensures, known-room (known (c .before .before .before .before .before .before .before .before .before .before .before .before .before) .accepted) .features))
+slice-aggregate-add-task-2 c = let w = c .before .before .before in simp length-take (omega (arith, w .words-for .ensures, few w))
 
 add-task-requires : tie.Need-add-task-requires
-add-task-requires c κs = let p = c .before .before .before .before .before .before .before .before .before .before .before in let accepted = known (task p) .accepted in let begun = c .before .before .before .before .before .before .begin .ensures in
-    let none = room-zeros _ _ (known-room accepted .features) (c .before .before .before .words-for .ensures) in record {
+add-task-requires c κs = let w = c .before .before .before in let p = placed w in let accepted = known (task p) .accepted in let begun = w .before .before .before .begin .ensures in
+    let none = room-zeros _ _ (few w) (w .words-for .ensures) in record {
       workable = begun-sized _ _ _ (lent p) _ _ accepted _ _ _ (due p) (slots p) begun .workable;
       empty = begun-blank _ _ _ (lent p) _ _ accepted _ _ _ (due p) (slots p) begun;
       full-none = none;
@@ -95,8 +102,8 @@ same-length : tie.Need-same-length
 same-length c = search needs
 
 returns-2 : tie.Need-returns-2
-returns-2 c = let p = c .before .before .before .before .before .before .before .before .before .before .before .before .before .before .before .before in let accepted = known (task p) .accepted in let begun = c .before .before .before .before .before .before .before .before .before .before .before .begin .ensures in
-    opens-done _ _ _ (lent p) _ _ accepted _ _ (due p) (c .before .before .before .before .before .before .before .before .before .before .before .before .before .before .if1 .left)
+returns-2 c = let w = c .before .before .before .before .before .before .before .before in let p = placed w in let accepted = known (task p) .accepted in let begun = w .before .before .before .begin .ensures in
+    opens-done _ _ _ (lent p) _ _ accepted _ _ (due p) (w .before .before .before .before .before .before .if1 .left)
     (begun-rows _ _ _ (lent p) _ _ accepted _ _ _ (due p) (slots p) begun _
     (begun-added _ _ _ (lent p) _ _ accepted _ _ _ (due p) (slots p) begun _ _ _ _ _ (known (task p) .operators) _ (c .before .before .before .before .add-task .ensures)))
 

@@ -23,6 +23,10 @@ due p = places-are _ _ _ (p .places-for .ensures) .4
 slots : (p : tie.After-places-for) → p .places-for .result .slots ≡ slotsAt (start p .args .v) (start p .args .n)
 slots p = places-are _ _ _ (p .places-for .ensures) .3
 
+-- Once the words of a set are counted: the places that were worked out before.
+abbrev placed : tie.After-words-for → tie.After-places-for
+placed w = w .before .before .before .before .before .before .before
+
 places-for-requires : tie.Need-places-for-requires
 places-for-requires c κs = search needs
 
@@ -45,25 +49,25 @@ array-borrow-prefix-full : tie.Need-array-borrow-prefix-full
 array-borrow-prefix-full c = search needs
 
 slice-aggregate-add-built : tie.Need-slice-aggregate-add-built
-slice-aggregate-add-built c = simp length-take (omega (arith, c .before .before .words-for .ensures, known-room (c .before .before .before .before .before .before .before .before .before .before .before .before .before .pre .2 .accepted) .features))
+slice-aggregate-add-built c = simp length-take (omega (arith, c .before .before .words-for .ensures, known-room (start (placed (c .before .before)) .pre .2 .accepted) .features))
 
 array-borrow-prefix-pending : tie.Need-array-borrow-prefix-pending
 array-borrow-prefix-pending c = search needs
 
 slice-aggregate-add-built-2 : tie.Need-slice-aggregate-add-built-2
-slice-aggregate-add-built-2 c = simp length-take (omega (arith, c .before .before .before .words-for .ensures, known-room (c .before .before .before .before .before .before .before .before .before .before .before .before .before .before .pre .2 .accepted) .features))
+slice-aggregate-add-built-2 c = simp length-take (omega (arith, c .before .before .before .words-for .ensures, known-room (start (placed (c .before .before .before)) .pre .2 .accepted) .features))
 
 sizes-requires : tie.Need-sizes-requires
-sizes-requires c κs = headed-sizes (known-room (c .before .before .before .before .before .before .before .before .before .before .before .before .before .before .pre .2 .accepted))
+sizes-requires c κs = headed-sizes (known-room (start (placed (c .before .before .before)) .pre .2 .accepted))
 
 pairs-requires : tie.Need-pairs-requires
-pairs-requires c κs = known-room (c .before .before .before .before .before .before .before .before .before .before .before .before .before .before .before .pre .2 .accepted)
+pairs-requires c κs = known-room (start (placed (c .before .before .before .before)) .pre .2 .accepted)
 
 goal-requires : tie.Need-goal-requires
-goal-requires c κs = known-room (c .before .before .before .before .before .before .before .before .before .before .before .before .before .before .before .before .pre .2 .accepted)
+goal-requires c κs = known-room (start (placed (c .before .before .before .before .before)) .pre .2 .accepted)
 
 add-built-requires : tie.Need-add-built-requires
-add-built-requires c κs = let p = c .before .before .before .before .before .before .before .before .before .before .before .before .before in let s = start p in let accepted = s .pre .2 .accepted in let begun = c .before .before .before .before .before .before .before .before .before .begin .ensures in
+add-built-requires c κs = let p = placed (c .before .before .before .before .before .before) in let s = start p in let accepted = s .pre .2 .accepted in let begun = c .before .before .before .before .before .before .before .before .before .begin .ensures in
     let none = room-zeros _ _ (known-room accepted .features) (c .before .before .before .before .before .before .words-for .ensures) in
     let (sized, listed, state) = built-ready _ _ _ (s .args .room .now) _ _ _ _ _ (s .pre .2) _ _ _ (due p) (slots p) begun _ _ _ (c .before .before .sizes .ensures) (c .before .pairs .ensures) (c .goal .ensures) in (
       record {
@@ -81,7 +85,7 @@ same-length : tie.Need-same-length
 same-length c = search needs
 
 returns-2 : tie.Need-returns-2
-returns-2 c = let p = c .before .before .before .before .before .before .before .before .before .before .before .before .before .before .before .before .before .before in let s = start p in
+returns-2 c = let p = placed (c .before .before .before .before .before .before .before .before .before .before .before) in let s = start p in
     built-opened _ _ _ (s .args .room .now) _ _ _ _ _ (s .pre .2) _ _ _ (due p) (slots p) (c .before .before .before .before .before .before .before .before .before .before .before .before .before .before .begin .ensures) _ _ _ (c .before .before .before .before .before .before .before .sizes .ensures) (c .before .before .before .before .before .before .pairs .ensures) (c .before .before .before .before .before .goal .ensures) (c .before .before .before .before .before .before .before .before .before .before .before .before .before .before .before .before .before .if1 .left) _
     (c .before .before .before .before .add-built .ensures)
 

@@ -19,6 +19,10 @@ Inv-loop area n full row₀ p₀ row p = Turn n (slotsIn n area) (has full) (has
 abbrev μ-loop : tie.MeasureT-loop
 μ-loop area n full row₀ p₀ row p = n - p
 
+-- What the call began with, where the loop stands.
+abbrev start : tie.At-loop Inv-loop μ-loop → tie.Start Inv-loop μ-loop
+start l = l .before .before .before .before .before .before
+
 -- The set has the index of every slot that has a member.
 covers : (s : tie.Start Inv-loop μ-loop) → let a = s .args in (i f : ℕ) → slotsIn (a .n) (a .area .now) i f ≡ true → has (a .full .now) i ≡ true
 covers s = indexes-cover _ _ _ (s .pre .0) (s .pre .1)
@@ -30,13 +34,13 @@ loop-holds : tie.Need-loop-holds Inv-loop μ-loop
 loop-holds c = let s = c .before .before .before .before .before in turn-first _ _ _ (covers s) _ _ _ refl (c .next-shared .ensures)
 
 add-slot-requires : tie.Need-add-slot-requires Inv-loop μ-loop
-add-slot-requires c κs = let s = c .before .before .before .before .before .before .before .before in (s .pre .0, c .before .loop-test .taken, c .before .before .loop .inv .long ∙ s .pre .3)
+add-slot-requires c κs = let s = start (c .before .before) in (s .pre .0, c .before .loop-test .taken, c .before .before .loop .inv .long ∙ s .pre .3)
 
 add-next-shared : tie.Need-add-next-shared Inv-loop μ-loop
 add-next-shared c = omega (arith, c .before .before .before .before .before .loop-test .taken)
 
 next-shared-requires-2 : tie.Need-next-shared-requires-2 Inv-loop μ-loop
-next-shared-requires-2 c κs = let s = c .before .before .before .before .before .before .before .before .before .before .before .before in let k = c .before .before .before .add-slot .kept in let t = c .before .before .before .before .before .before .loop .inv .long in (
+next-shared-requires-2 c κs = let s = start (c .before .before .before .before .before .before) in let k = c .before .before .before .add-slot .kept in let t = c .before .before .before .before .before .before .loop .inv .long in (
   omega (arith, s .pre .2, s .pre .3, k, t),
   omega (arith, s .pre .3, k, t, c .before .before .before .before .before .loop-test .taken),
   omega (arith, s .pre .0 .few, s .pre .3, k, t),
@@ -46,7 +50,7 @@ loop-less : tie.Need-loop-less Inv-loop μ-loop
 loop-less c = omega (arith, c .next-shared2 .ensures .above)
 
 loop-again : tie.Need-loop-again Inv-loop μ-loop
-loop-again c = let s = c .before .before .before .before .before .before .before .before .before .before .before .before .before in let t = c .before .before .before .before .before .before .before in let below = c .before .before .before .before .before .before .loop-test .taken in let n = s .args .n in let area = s .args .area .now in
+loop-again c = let s = start (c .before .before .before .before .before .before .before) in let t = c .before .before .before .before .before .before .before in let below = c .before .before .before .before .before .before .loop-test .taken in let n = s .args .n in let area = s .args .area .now in
     let row = c .before .before .before .before .add-slot .last .1 .1 .1 .0 in
     let e : length row ≡ length (s .args .row .now) = omega (arith, c .before .before .before .before .add-slot .kept, t .loop .inv .long) in
     turn-next _ _ _ (covers s) _ _ (t .loop .row) row _ (t .loop .p) (c .next-shared2 .result) below (omega (arith, s .pre .3))
@@ -57,7 +61,7 @@ same-length : tie.Need-same-length Inv-loop μ-loop
 same-length c = c .before .loop .inv .long
 
 returns : tie.Need-returns Inv-loop μ-loop
-returns c = let s = c .before .before .before .before .before .before .before in turn-done _ _ _ (covers s) _ _ _ _ (c .loop-test .left) (c .before .loop .inv)
+returns c = let s = start (c .before) in turn-done _ _ _ (covers s) _ _ _ _ (c .loop-test .left) (c .before .loop .inv)
 
 pub reduce-upward-spec : {M : Type 1} → statement M
 reduce-upward-spec =

@@ -7,7 +7,7 @@ _florumeja_files() {
 
 _florumeja() {
     local word=${COMP_WORDS[COMP_CWORD]} before=${COMP_WORDS[COMP_CWORD - 1]}
-    local commands='ask report find check build silence mend open' options
+    local commands='ask report find check build silence mend convert open' options
     COMPREPLY=()
 
     # The script of a checkout installs as well.
@@ -27,7 +27,7 @@ _florumeja() {
         mapfile -t COMPREPLY < <(compgen -W 'auto always never' -- "$word")
         return
         ;;
-    -o | --output | --weights | --task)
+    -o | --output | --weights | --task | --to)
         _florumeja_files "$word"
         return
         ;;
@@ -39,9 +39,10 @@ _florumeja() {
     report) options='--output --progress --json --help' ;;
     find | open) options='--output --partial --lean --progress --json --help' ;;
     build) options='--output --partial --lean --json --help' ;;
-    check) options='--partial --lean --json --help' ;;
+    check) options='--new --partial --lean --json --help' ;;
     silence) options='--marks --output --json --help' ;;
     mend) options='--bay --output --json --help' ;;
+    convert) options='--output --weights --to --old --new --json --help' ;;
     install)
         _florumeja_files "$word"
         return

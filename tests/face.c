@@ -408,7 +408,7 @@ static const uint8_t freed[] = {2, 2, 2, 0, 0, 0, 1, 1, 6, 1, 2, 0, 0, 1, 1, 0, 
 
 static void mends(void) {
     static const uint8_t mended_d[] = {2, 2, 2, 0, 0, 1, 0, 0, 1, 1, 0, 0, 1, 7}, mended_h[] = {2, 2, 2, 1, 1, 0, 0, 0, 0, 7};
-    const uint8_t sevens[] = {7, 7, 7, 7, 7, 7, 7, 7}, zero[] = {0}, sized[] = {1, 65}, twice[] = {2, 2, 2, 0, 0, 0, 1, 2, 5, 5, 0}, low[] = {2, 2, 2, 0, 0, 0, 1, 1, 3, 0};
+    const uint8_t sevens[] = {7, 7, 7, 7, 7, 7, 7, 7}, zero[] = {0, 0}, sized[] = {1, 65}, twice[] = {2, 2, 2, 0, 0, 0, 1, 2, 5, 5, 0}, low[] = {2, 2, 2, 0, 0, 0, 1, 1, 3, 0};
     uint8_t room[32];
     memset(room, 7, sizeof room);
     expect(refused(florumeja_mend(task_g, sizeof task_g, room, 12), FLORUMEJA_SMALL) && SAME(room, sevens), "12 bytes are too few for the mended G");
@@ -428,7 +428,7 @@ static void mends(void) {
     expect(refused(florumeja_mend(low, sizeof low, room, sizeof room), FLORUMEJA_RANGE), "an atom in the pair list: refused 3");
     expect(refused(florumeja_mend(twice, sizeof twice, room, 0), FLORUMEJA_UNORDERED), "a pair twice: refused 4 before 8");
     expect(refused(florumeja_mend(mended_d, sizeof mended_d, room, sizeof room), FLORUMEJA_LEFT_OVER) && SAME(room, sevens), "a byte left over: refused 5");
-    expect(refused(florumeja_mend(zero, sizeof zero, room, 0), FLORUMEJA_LIMIT), "no variable and no room: refused 2 before 8");
+    expect(refused(florumeja_mend(zero, sizeof zero, room, 0), FLORUMEJA_LIMIT), "no variable in a new file and no room: refused 2 before 8");
 }
 
 static void drops(void) {
@@ -511,6 +511,10 @@ struct shown {
 /* Case A's task, from 00 to 01: places 0 to 2 are v and sizes, 3 and 4 the start, 5 and 6 the goal, 7 the pairs' count, 8 the operators'. */
 #define TASK_A BYTES("\x02\x02\x02\x00\x00\x00\x01\x00\x00")
 
+/* The same as a new file, and what stands there before the pairs' count, at place 8. */
+#define NEW_FRONT "\x00\x02\x02\x02\x00\x00\x00\x01"
+#define NEW_TASK_A BYTES(NEW_FRONT "\x00\x00")
+
 static const struct shown shown_tasks[] = {
     {"nothing at fault", TASK_A, BYTES("\x01\x02"), 0, FLORUMEJA_IN_TASK, 0, 0},
     {"weights that are rejected", TASK_A, BYTES("\x01\x00"), 0, FLORUMEJA_IN_TASK, 0, 0},
@@ -523,7 +527,9 @@ static const struct shown shown_tasks[] = {
     {"1: sizes 64 and 63 are taken", BYTES("\x02\x40\x3f"), UNWEIGHED, FLORUMEJA_ENDS, FLORUMEJA_IN_TASK, 3, 0},
     {"1: N is 32,768 and taken", BYTES("\x05\x36\x39\x39\x3a\x3b"), UNWEIGHED, FLORUMEJA_ENDS, FLORUMEJA_IN_TASK, 6, 0},
     {"1: the file ends inside a start value", BYTES("\x02\x02\x02\x80"), UNWEIGHED, FLORUMEJA_ENDS, FLORUMEJA_IN_TASK, 3, 1},
-    {"2: no variable", BYTES("\x00"), UNWEIGHED, FLORUMEJA_LIMIT, FLORUMEJA_IN_TASK, 0, 1},
+    {"1: a new file ends behind its 0", BYTES("\x00"), UNWEIGHED, FLORUMEJA_ENDS, FLORUMEJA_IN_TASK, 1, 0},
+    {"2: no variable", BYTES("\x00\x00"), UNWEIGHED, FLORUMEJA_LIMIT, FLORUMEJA_IN_TASK, 1, 1},
+    {"2: 65 variables of a new file", BYTES("\x00\x41\x02"), UNWEIGHED, FLORUMEJA_LIMIT, FLORUMEJA_IN_TASK, 1, 1},
     {"2: 128 variables, in two bytes", BYTES("\x80\x01\x02"), UNWEIGHED, FLORUMEJA_LIMIT, FLORUMEJA_IN_TASK, 0, 2},
     {"2: a size of 65", BYTES("\x01\x41"), UNWEIGHED, FLORUMEJA_LIMIT, FLORUMEJA_IN_TASK, 1, 1},
     {"2: 16,384 variables, in three bytes", BYTES("\x80\x80\x01"), UNWEIGHED, FLORUMEJA_LIMIT, FLORUMEJA_IN_TASK, 0, 3},
@@ -564,6 +570,37 @@ static const struct shown shown_tasks[] = {
     {"12 in the weights, in the third byte", TASK_A, BYTES("\x01\x82\x80\x00"), FLORUMEJA_PADDED, FLORUMEJA_IN_WEIGHTS, 1, 3},
     {"13 in the weights", TASK_A, BYTES("\x82\x82\x82"), FLORUMEJA_ENDLESS, FLORUMEJA_IN_WEIGHTS, 0, 3},
     {"faults in both: the task's", BYTES("\x02\x00"), BYTES("\x80\x80\x80"), FLORUMEJA_LIMIT, FLORUMEJA_IN_TASK, 1, 1},
+    {"nothing at fault in a new task", NEW_TASK_A, BYTES("\x01\x02"), 0, FLORUMEJA_IN_TASK, 0, 0},
+    {"1: the first pair and a gap of one are taken", BYTES(NEW_FRONT "\x03\x05\x00"), UNWEIGHED, FLORUMEJA_ENDS, FLORUMEJA_IN_TASK, 11, 0},
+    {"1: a gap to the last feature is taken", BYTES(NEW_FRONT "\x02\x05\x01"), UNWEIGHED, FLORUMEJA_ENDS, FLORUMEJA_IN_TASK, 11, 0},
+    {"3: a gap past the last feature", BYTES(NEW_FRONT "\x02\x05\x02\x00"), UNWEIGHED, FLORUMEJA_RANGE, FLORUMEJA_IN_TASK, 10, 1},
+    {"3: the least gap behind the last feature", BYTES(NEW_FRONT "\x02\x07\x00\x00"), UNWEIGHED, FLORUMEJA_RANGE, FLORUMEJA_IN_TASK, 10, 1},
+    {"3: the first pair of a new file is an atom", BYTES(NEW_FRONT "\x01\x03"), UNWEIGHED, FLORUMEJA_RANGE, FLORUMEJA_IN_TASK, 9, 1},
+    {"3: a gap of 2,097,152", BYTES(NEW_FRONT "\x02\x05\xff\xff\x7f"), UNWEIGHED, FLORUMEJA_RANGE, FLORUMEJA_IN_TASK, 10, 3},
+    {"12: a gap in two bytes where one is enough", BYTES(NEW_FRONT "\x02\x05\x80\x00"), UNWEIGHED, FLORUMEJA_PADDED, FLORUMEJA_IN_TASK, 10, 2},
+    {"4: entries of a new file", BYTES(NEW_FRONT "\x00\x01\x02\x00\x00\x01\x00"), UNWEIGHED, FLORUMEJA_UNORDERED, FLORUMEJA_IN_TASK, 14, 1},
+    {"5: a byte of a new file left over", BYTES(NEW_FRONT "\x00\x00\x00"), UNWEIGHED, FLORUMEJA_LEFT_OVER, FLORUMEJA_IN_TASK, 0, 0},
+    {"12: the 0 of a new file in two bytes", BYTES("\x80\x00\x02"), UNWEIGHED, FLORUMEJA_PADDED, FLORUMEJA_IN_TASK, 0, 2},
+    {"3 in the weights of a new task", NEW_TASK_A, BYTES("\x01\x08"), FLORUMEJA_RANGE, FLORUMEJA_IN_WEIGHTS, 1, 1},
+    {"5: new weights where old ones are due list nothing, and all else is left over", TASK_A, BYTES("\x00\x01\x02"), FLORUMEJA_LEFT_OVER, FLORUMEJA_IN_TASK, 0, 0},
+};
+
+/* The same with weights that are a new file: 0, the count, the first feature and then each gap less one. */
+static const struct shown shown_new[] = {
+    {"nothing at fault in new weights", TASK_A, BYTES("\x00\x01\x02"), 0, FLORUMEJA_IN_TASK, 0, 0},
+    {"new weights of a new task", NEW_TASK_A, BYTES("\x00\x02\x01\x05"), 0, FLORUMEJA_IN_TASK, 0, 0},
+    {"1: no new weights", TASK_A, BYTES(""), FLORUMEJA_ENDS, FLORUMEJA_IN_WEIGHTS, 0, 0},
+    {"1: new weights end behind their 0", TASK_A, BYTES("\x00"), FLORUMEJA_ENDS, FLORUMEJA_IN_WEIGHTS, 1, 0},
+    {"1: a gap is missing", TASK_A, BYTES("\x00\x02\x01"), FLORUMEJA_ENDS, FLORUMEJA_IN_WEIGHTS, 3, 0},
+    {"3: an old weight file where a new one is due", TASK_A, BYTES("\x01\x02"), FLORUMEJA_RANGE, FLORUMEJA_IN_WEIGHTS, 0, 1},
+    {"3: new weights that begin with 128", TASK_A, BYTES("\x80\x01\x00"), FLORUMEJA_RANGE, FLORUMEJA_IN_WEIGHTS, 0, 2},
+    {"3: feature 8 of 8 in new weights", TASK_A, BYTES("\x00\x01\x08"), FLORUMEJA_RANGE, FLORUMEJA_IN_WEIGHTS, 2, 1},
+    {"3: a gap from 1 to feature 8 of 8", TASK_A, BYTES("\x00\x02\x01\x06"), FLORUMEJA_RANGE, FLORUMEJA_IN_WEIGHTS, 3, 1},
+    {"3: a gap behind the last weight", TASK_A, BYTES("\x00\x02\x07\x00"), FLORUMEJA_RANGE, FLORUMEJA_IN_WEIGHTS, 3, 1},
+    {"5: a byte of new weights left over", TASK_A, BYTES("\x00\x01\x02\x00"), FLORUMEJA_LEFT_OVER, FLORUMEJA_IN_TASK, 0, 0},
+    {"12: the 0 of new weights in two bytes", TASK_A, BYTES("\x80\x00\x00"), FLORUMEJA_PADDED, FLORUMEJA_IN_WEIGHTS, 0, 2},
+    {"13: a count of new weights that does not end", TASK_A, BYTES("\x00\x82\x82\x82"), FLORUMEJA_ENDLESS, FLORUMEJA_IN_WEIGHTS, 1, 3},
+    {"faults in the task and in new weights: the task's", BYTES("\x00\x02\x00"), BYTES("\x01"), FLORUMEJA_LIMIT, FLORUMEJA_IN_TASK, 2, 1},
 };
 
 /* Marks stand behind the sizes, and a goal value for the named variables only. With two values each, places 3 and 4 are the marks, 5 and 6 the start, 7 the one goal
@@ -631,13 +668,14 @@ static const struct shown shown_bays[] = {
     {"13: columns that do not end", BYTES("\x01\x82\x80\x80\x01"), BYTES(""), FLORUMEJA_ENDLESS, FLORUMEJA_IN_TASK, 1, 3},
 };
 
-enum kind { TASKS, PARTIALS, BAYS };
+enum kind { TASKS, NEW_WEIGHTS, PARTIALS, BAYS };
 
 /* What a call answers that judges the files. */
 static uint64_t judged(enum kind kind, const uint8_t *first, size_t first_length, const uint8_t *weights, size_t weights_length) {
     static uint8_t room[FLORUMEJA_BAY_BYTES];
     switch (kind) {
     case TASKS: return florumeja_check(first, first_length, weights, weights_length);
+    case NEW_WEIGHTS: return florumeja_check_new(first, first_length, weights, weights_length);
     case PARTIALS: return florumeja_check_partial(first, first_length, weights, weights_length);
     default: return florumeja_build(first, first_length, room, sizeof room);
     }
@@ -646,6 +684,7 @@ static uint64_t judged(enum kind kind, const uint8_t *first, size_t first_length
 static uint64_t displayed(enum kind kind, const uint8_t *first, size_t first_length, const uint8_t *weights, size_t weights_length, uint64_t *room, size_t words) {
     switch (kind) {
     case TASKS: return florumeja_display(first, first_length, weights, weights_length, room, words);
+    case NEW_WEIGHTS: return florumeja_display_new(first, first_length, weights, weights_length, room, words);
     case PARTIALS: return florumeja_display_partial(first, first_length, weights, weights_length, room, words);
     default: return florumeja_display_bay(first, first_length, room, words);
     }
@@ -680,6 +719,7 @@ static void displays_of(enum kind kind, const struct shown *files, size_t count)
 
 static void displays(void) {
     displays_of(TASKS, shown_tasks, COUNT(shown_tasks));
+    displays_of(NEW_WEIGHTS, shown_new, COUNT(shown_new));
     displays_of(PARTIALS, shown_partials, COUNT(shown_partials));
     displays_of(BAYS, shown_bays, COUNT(shown_bays));
 }
@@ -843,6 +883,147 @@ static void fifteen(void) {
     free(words);
 }
 
+/* L's pairs 4 and 5 are 4 and a gap of one, which is written as 0. Sizes 54, 57, 57, 58 and 59 have the pairs 16,384 and 32,767, between which 16,382 features stand. */
+static const uint8_t new_b[] = {0, 2, 2, 2, 0, 0, 0, 1, 0, 4, 2, 0, 0, 1, 1, 0, 1, 2, 0, 0, 1, 1, 1, 0, 2, 0, 1, 0, 1, 1, 0, 2, 0, 1, 0, 1, 0, 1};
+static const uint8_t new_g[] = {0, 2, 2, 2, 0, 0, 1, 0, 1, 7, 1, 1, 0, 0, 1};
+static const uint8_t new_h[] = {0, 2, 2, 2, 1, 1, 0, 0, 1, 7, 0};
+static const uint8_t new_l[] = {0, 2, 2, 2, 1, 0, 0, 0, 2, 4, 0, 1, 1, 0, 0, 1};
+static const uint8_t old_far[] = {FULL_SIZES, 0, 0, 0, 0, 0, 1, 0, 0, 0, 0, 2, 0x80, 0x80, 1, 0xff, 0xff, 1, 0};
+static const uint8_t new_far[] = {0, FULL_SIZES, 0, 0, 0, 0, 0, 1, 0, 0, 0, 0, 2, 0x80, 0x80, 1, 0xfe, 0x7f, 0};
+
+/* Old to new and back, and new to old and back, into rooms that have not a byte too many; one byte less is refused 8. */
+static void converts(const char *what, const uint8_t *old_file, size_t old_length, const uint8_t *new_file, size_t new_length) {
+    uint8_t room[64];
+    memset(room, 7, sizeof room);
+    expect_of(refused(florumeja_to_new(old_file, old_length, room, new_length - 1), FLORUMEJA_SMALL) && room[0] == 7, what, ", a byte too few for the new file");
+    expect_of(is(florumeja_to_new(old_file, old_length, room, new_length), FLORUMEJA_DONE, (uint32_t)new_length) && memcmp(room, new_file, new_length) == 0 && room[new_length] == 7,
+              what, " as a new file");
+    memset(room, 7, sizeof room);
+    expect_of(refused(florumeja_to_old(new_file, new_length, room, old_length - 1), FLORUMEJA_SMALL) && room[0] == 7, what, ", a byte too few for the old file");
+    expect_of(is(florumeja_to_old(new_file, new_length, room, old_length), FLORUMEJA_DONE, (uint32_t)old_length) && memcmp(room, old_file, old_length) == 0 && room[old_length] == 7,
+              what, " as an old file");
+    expect_of(new_length <= old_length + FLORUMEJA_NEW_MORE && old_length <= new_length + FLORUMEJA_OLD_MORE, what, ", no longer than is said");
+    expect_of(refused(florumeja_to_new(new_file, new_length, room, 0), FLORUMEJA_LIMIT), what, ", a new file where an old one is due: refused 2");
+    expect_of(refused(florumeja_to_old(old_file, old_length, room, 0), FLORUMEJA_RANGE), what, ", an old file where a new one is due: refused 3");
+}
+
+/* A badly formed first number is that, whichever kind is due; and all of a task is judged before the room. */
+static void conversions(void) {
+    static const uint8_t padded[] = {0x80, 0}, endless[] = {0x80, 0x80, 0x80}, none[] = {0, 0}, twice[] = {2, 2, 2, 0, 0, 0, 1, 2, 5, 5, 0}, past[] = {0, 2, 2, 2, 0, 0, 0, 1, 2, 5, 2, 0};
+    const uint8_t sevens[] = {7, 7, 7, 7};
+    uint8_t room[4];
+    converts("B", task_b, sizeof task_b, new_b, sizeof new_b);
+    converts("L", task_l, sizeof task_l, new_l, sizeof new_l);
+    converts("pairs of three bytes", old_far, sizeof old_far, new_far, sizeof new_far);
+    memset(room, 7, sizeof room);
+    expect(refused(florumeja_to_new(task_l, 0, room, 4), FLORUMEJA_ENDS) && refused(florumeja_to_old(new_l, 0, room, 4), FLORUMEJA_ENDS), "no file to convert: refused 1");
+    expect(refused(florumeja_to_old(new_l, 1, room, 4), FLORUMEJA_ENDS), "a new file of its 0 alone: refused 1");
+    expect(refused(florumeja_to_new(padded, 2, room, 4), FLORUMEJA_PADDED) && refused(florumeja_to_old(padded, 2, room, 4), FLORUMEJA_PADDED), "0 in two bytes: refused 12");
+    expect(refused(florumeja_to_new(endless, 3, room, 4), FLORUMEJA_ENDLESS) && refused(florumeja_to_old(endless, 3, room, 4), FLORUMEJA_ENDLESS), "a first number without end: refused 13");
+    expect(refused(florumeja_to_old(none, 2, room, 0), FLORUMEJA_LIMIT), "a new file without a variable: refused 2");
+    expect(refused(florumeja_to_old(past, sizeof past, room, 0), FLORUMEJA_RANGE), "a gap past the last feature: refused 3");
+    expect(refused(florumeja_to_new(twice, sizeof twice, room, 0), FLORUMEJA_UNORDERED), "a pair twice in an old file: refused 4");
+    expect(refused(florumeja_to_new(task_l, sizeof task_l - 1, room, 0), FLORUMEJA_ENDS) && refused(florumeja_to_old(new_l, sizeof new_l - 1, room, 0), FLORUMEJA_ENDS), "a byte short: refused 1");
+    expect(refused(florumeja_to_new(task_h, sizeof task_h, room, 0), FLORUMEJA_HELD) && refused(florumeja_to_old(new_h, sizeof new_h, room, 0), FLORUMEJA_HELD), "H: refused 6 before 8");
+    expect(refused(florumeja_to_new(task_g, sizeof task_g, room, 0), FLORUMEJA_UNCLOSED) && refused(florumeja_to_old(new_g, sizeof new_g, room, 0), FLORUMEJA_UNCLOSED), "G: refused 7 before 8");
+    expect(SAME(room, sevens), "a file that is refused leaves the room");
+}
+
+/* {0,2} is 0 and a gap of two, which is written as 1. Both kinds of B have the same weights. */
+static void weight_conversions(void) {
+    static const uint8_t old_both[] = {2, 0, 2}, new_both[] = {0, 2, 0, 1}, old_none[] = {0}, new_none[] = {0, 0}, fall[] = {2, 2, 0}, past[] = {0, 2, 0, 7};
+    const uint8_t sevens[] = {7, 7, 7, 7, 7};
+    const uint8_t *tasks[] = {task_b, new_b};
+    const size_t lengths[] = {sizeof task_b, sizeof new_b};
+    uint8_t room[5];
+    size_t i;
+    for (i = 0; i < COUNT(tasks); i++) {
+        const char *kind = i == 0 ? ", beside an old task" : ", beside a new task";
+        memset(room, 7, sizeof room);
+        expect_of(refused(florumeja_weights_to_new(tasks[i], lengths[i], old_both, 3, room, 3), FLORUMEJA_SMALL), "3 bytes are too few for new weights", kind);
+        expect_of(refused(florumeja_weights_to_old(tasks[i], lengths[i], new_both, 4, room, 2), FLORUMEJA_SMALL), "2 bytes are too few for old weights", kind);
+        expect_of(refused(florumeja_weights_to_old(tasks[i], lengths[i], old_both, 3, room, 0), FLORUMEJA_RANGE), "old weights where new ones are due: refused 3", kind);
+        expect_of(refused(florumeja_weights_to_new(tasks[i], lengths[i], new_both, 4, room, 0), FLORUMEJA_LEFT_OVER), "new weights where old ones are due: refused 5", kind);
+        expect_of(refused(florumeja_weights_to_new(tasks[i], lengths[i], fall, 3, room, 0), FLORUMEJA_UNORDERED), "weights that fall: refused 4", kind);
+        expect_of(refused(florumeja_weights_to_old(tasks[i], lengths[i], past, 4, room, 0), FLORUMEJA_RANGE) && SAME(room, sevens), "a gap past the last weight: refused 3", kind);
+        expect_of(is(florumeja_weights_to_new(tasks[i], lengths[i], old_both, 3, room, 4), FLORUMEJA_DONE, 4) && SAME(room, new_both) && room[4] == 7, "{0,2} as new weights", kind);
+        memset(room, 7, sizeof room);
+        expect_of(is(florumeja_weights_to_old(tasks[i], lengths[i], new_both, 4, room, 5), FLORUMEJA_DONE, 3) && SAME(room, old_both) && room[3] == 7, "{0,2} as old weights", kind);
+        expect_of(is(florumeja_weights_to_new(tasks[i], lengths[i], old_none, 1, room, 5), FLORUMEJA_DONE, 2) && SAME(room, new_none), "no weights as new ones", kind);
+        expect_of(is(florumeja_weights_to_old(tasks[i], lengths[i], new_none, 2, room, 5), FLORUMEJA_DONE, 1) && SAME(room, old_none), "no weights as old ones", kind);
+    }
+    expect(refused(florumeja_weights_to_new(task_g, sizeof task_g, fall, 3, room, 0), FLORUMEJA_UNCLOSED), "the task is judged before old weights: refused 7");
+    expect(refused(florumeja_weights_to_old(new_h, sizeof new_h, old_both, 3, room, 0), FLORUMEJA_HELD), "the task is judged before new weights: refused 6");
+}
+
+/* All of 32,768 features: in the old file as many bytes as any, in the new one a byte for each. */
+static void longest_weights(void) {
+    static const uint8_t task[] = {FULL_SIZES, 0, 0, 0, 0, 0, 1, 0, 0, 0, 0, 0, 0};
+    static uint64_t full[512];
+    static uint8_t old_file[FLORUMEJA_WEIGHT_BYTES], new_file[FLORUMEJA_NEW_WEIGHT_BYTES], back[FLORUMEJA_NEW_WEIGHT_BYTES + FLORUMEJA_OLD_MORE];
+    size_t i, others = 0;
+    memset(full, 255, sizeof full);
+    expect(is(florumeja_weight_file(full, 512, old_file, sizeof old_file), FLORUMEJA_DONE, sizeof old_file), "an old file of 32,768 weights");
+    expect(refused(florumeja_weights_to_new(task, sizeof task, old_file, sizeof old_file, new_file, sizeof new_file - 1), FLORUMEJA_SMALL), "a byte too few for 32,768 gaps");
+    expect(is(florumeja_weights_to_new(task, sizeof task, old_file, sizeof old_file, new_file, sizeof new_file), FLORUMEJA_DONE, sizeof new_file), "a new file of 32,768 weights");
+    for (i = 4; i < sizeof new_file; i++) others += new_file[i] != 0;
+    expect(memcmp(new_file, "\x00\x80\x80\x02", 4) == 0 && others == 0, "which is 0, the count and zeros");
+    expect(is(florumeja_weights_to_old(task, sizeof task, new_file, sizeof new_file, back, sizeof back), FLORUMEJA_DONE, sizeof old_file) && SAME(back, old_file), "and leads back");
+    expect(sizeof back == sizeof old_file, "as much longer as is said");
+}
+
+/* {0,2} separates B, {0} leaves its ends alike and {2} breaks at operator 0. The orders are those of partial_checks. */
+static void new_checks(void) {
+    static const uint8_t held[] = {2, 2, 2, 0, 1, 1, 0, 1, 1, 7, 0}, empty[] = {0};
+    const uint8_t both[] = {0, 2, 0, 1}, first[] = {0, 1, 0}, third[] = {0, 1, 2}, past[] = {0, 2, 0, 7}, old[] = {2, 0, 2}, one[] = {0, 1, 1}, three[] = {0, 1, 3}, built_past[] = {0, 1, 15};
+    expect(is(florumeja_check_new(task_b, sizeof task_b, both, sizeof both), FLORUMEJA_DONE, 0), "B with new {0,2} is accepted");
+    expect(is(florumeja_check_new(new_b, sizeof new_b, both, sizeof both), FLORUMEJA_DONE, 0), "and so is the new B");
+    expect(is(florumeja_check(new_b, sizeof new_b, old, sizeof old), FLORUMEJA_DONE, 0), "the new B with old {0,2} too");
+    expect(is(florumeja_check_new(task_b, sizeof task_b, first, sizeof first), FLORUMEJA_ENDS_ALIKE, 0), "J with new weights: ends alike");
+    expect(is(florumeja_check_new(new_b, sizeof new_b, third, sizeof third), FLORUMEJA_OPERATOR, 0), "K with new weights: operator 0");
+    expect(refused(florumeja_check_new(task_b, sizeof task_b, past, sizeof past), FLORUMEJA_RANGE), "a gap to feature 8 of 8: refused 3");
+    expect(refused(florumeja_check_new(task_b, sizeof task_b, old, sizeof old), FLORUMEJA_RANGE), "old weights for check_new: refused 3");
+    expect(refused(florumeja_check(task_b, sizeof task_b, both, sizeof both), FLORUMEJA_LEFT_OVER), "new weights for check: refused 5");
+    expect(refused(florumeja_check_new(new_g, sizeof new_g, old, sizeof old), FLORUMEJA_UNCLOSED), "the new G: refused 7 before its weights");
+    expect(is(florumeja_check_partial_new(held, sizeof held, one, sizeof one), FLORUMEJA_DONE, 0), "an order with new weights is accepted");
+    expect(is(florumeja_check_partial_new(partial, sizeof partial, one, sizeof one), FLORUMEJA_ENDS_ALIKE, 0), "an order with new weights: ends alike");
+    expect(is(florumeja_check_partial_new(partial, sizeof partial, three, sizeof three), FLORUMEJA_OPERATOR, 1), "an order with new weights: operator 1");
+    expect(refused(florumeja_check_partial_new(partial, sizeof partial, built_past, sizeof built_past), FLORUMEJA_RANGE), "new feature 15 of 15: refused 3");
+    expect(refused(florumeja_check_partial_new(partial, sizeof partial, old, sizeof old), FLORUMEJA_RANGE), "old weights for an order: refused 3");
+    expect(refused(florumeja_check_partial_new(empty, sizeof empty, one, sizeof one), FLORUMEJA_LIMIT), "an order has one kind, and 0 is no count of variables: refused 2");
+}
+
+/* The calls that read a task, on both kinds of L, G and H. The new chain is 5 and a gap of two, and the new `holding` 4 and gaps of two and one. */
+static void either_kind(void) {
+    static const uint8_t new_chain[] = {0, 2, 2, 2, 0, 0, 0, 1, 2, 5, 1, 2, 1, 0, 1, 0, 2, 0, 1, 1, 1, 0, 1};
+    static const uint8_t new_unpaired[] = {0, 2, 2, 2, 0, 0, 0, 1, 0, 2, 1, 0, 1, 0, 2, 0, 1, 1, 1, 0, 1, 7};
+    static const uint8_t new_holding[] = {0, 2, 2, 2, 0, 0, 0, 1, 3, 4, 1, 0, 1, 2, 0, 0, 1, 1, 0, 1};
+    static const uint8_t new_freed[] = {0, 2, 2, 2, 0, 0, 0, 1, 1, 6, 1, 2, 0, 0, 1, 1, 0, 1, 7};
+    const uint8_t marks[] = {0, 1}, first[] = {1, 0}, seventh[] = {1, 7}, both[] = {2, 5, 7};
+    uint64_t words[16], other_words[16], pair[] = {9, 9};
+    const uint64_t held_h[] = {7, 9}, unclosed_g[] = {7, 0};
+    uint8_t room[32], other[32];
+    expect(is(florumeja_open(task_l, sizeof task_l, words, 16), FLORUMEJA_DONE, 16) && is(florumeja_open(new_l, sizeof new_l, other_words, 16), FLORUMEJA_DONE, 16)
+               && SAME(words, other_words), "both kinds of L are opened as the same workspace");
+    expect(is(florumeja_line(new_l, sizeof new_l, room, sizeof room), FLORUMEJA_DONE, 14) && memcmp(room, "separated 1 0\n", 14) == 0, "the new L's line");
+    expect(is(florumeja_line(new_g, sizeof new_g, room, sizeof room), FLORUMEJA_DONE, 10) && memcmp(room, "refused 7\n", 10) == 0, "the new G's line");
+    expect(is(florumeja_check_line(new_l, sizeof new_l, first, sizeof first, room, sizeof room), FLORUMEJA_DONE, 9) && memcmp(room, "accepted\n", 9) == 0, "the new L's line for a checker");
+    memset(room, 7, sizeof room);
+    memset(other, 7, sizeof other);
+    expect(is(florumeja_silence(task_l, sizeof task_l, marks, 2, room, sizeof room), FLORUMEJA_DONE, 16) && is(florumeja_silence(new_l, sizeof new_l, marks, 2, other, sizeof other), FLORUMEJA_DONE, 16)
+               && SAME(room, other), "both kinds of L have the same partial file");
+    memset(room, 7, sizeof room);
+    expect(is(florumeja_mend(new_l, sizeof new_l, room, sizeof new_l), FLORUMEJA_DONE, 16) && SAME(room, new_l), "the new L comes back");
+    memset(room, 7, sizeof room);
+    expect(is(florumeja_mend(new_chain, sizeof new_chain, room, sizeof room), FLORUMEJA_DONE, 21) && SAME(room, new_unpaired), "the new chain mended is a new file");
+    memset(room, 7, sizeof room);
+    expect(is(florumeja_mend(new_holding, sizeof new_holding, room, sizeof room), FLORUMEJA_DONE, 18) && SAME(room, new_freed), "a pair behind a dropped one is written anew");
+    expect(is(florumeja_dropped(new_g, sizeof new_g, room, 2), FLORUMEJA_DONE, 2) && SAME(room, seventh), "the new G drops 7");
+    expect(is(florumeja_dropped(new_chain, sizeof new_chain, room, 3), FLORUMEJA_DONE, 3) && SAME(room, both), "5 and 7 of the new chain, as they are");
+    expect(is(florumeja_pair_fault(new_h, sizeof new_h, pair, 2), FLORUMEJA_HELD_PAIR, 0) && SAME(pair, held_h), "the new H: the start holds 7");
+    expect(is(florumeja_pair_fault(new_g, sizeof new_g, pair, 2), FLORUMEJA_UNCLOSED_PAIR, 0) && SAME(pair, unclosed_g), "the new G: 7 and operator 0");
+}
+
 int main(void) {
     check_calls();
     check_lines();
@@ -868,6 +1049,11 @@ int main(void) {
     longest_operators();
     farthest_place();
     fifteen();
+    conversions();
+    weight_conversions();
+    longest_weights();
+    new_checks();
+    either_kind();
     printf("%d passed, %d failed\n", passed, failed);
     return failed != 0;
 }

@@ -1,7 +1,8 @@
 //! For tests/tool: a library whose finder finds what its own checker rejects, and whose calls on pair
-//! lists and on places do not fit together. The tool must not say IMPOSSIBLE over it, nor that a list is
-//! mended, nor show bytes that are not at fault.
+//! lists, on places and on the two kinds of files do not fit together. The tool must not say IMPOSSIBLE
+//! over it, nor that a list is mended or a file converted, nor show bytes that are not at fault.
 
+mod lying_kinds;
 mod lying_pairs;
 mod lying_places;
 

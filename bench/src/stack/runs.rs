@@ -24,9 +24,12 @@ faces! {
     florumeja_build_partial_lean
     florumeja_check
     florumeja_check_line
+    florumeja_check_new
     florumeja_check_partial
+    florumeja_check_partial_new
     florumeja_display
     florumeja_display_bay
+    florumeja_display_new
     florumeja_display_partial
     florumeja_dropped
     florumeja_find
@@ -38,7 +41,11 @@ faces! {
     florumeja_replace_goal
     florumeja_replace_start
     florumeja_silence
+    florumeja_to_new
+    florumeja_to_old
     florumeja_weight_file
+    florumeja_weights_to_new
+    florumeja_weights_to_old
 }
 
 /// Room in words and in bytes that is never too small for the inputs here, and for what is found.
@@ -48,6 +55,9 @@ const FOUND: usize = 512;
 
 /// Weights that are refused whatever the task is: one feature, 2,097,151.
 const PAST_ALL: [u8; 4] = [1, 0xff, 0xff, 0x7f];
+
+/// The same as a new file.
+const NEW_PAST_ALL: [u8; 5] = [0, 1, 0xff, 0xff, 0x7f];
 
 /// A bay file that is refused for the number that is read deepest: the third byte of its rows says that more follows.
 const ENDLESS: [u8; 3] = [0x80, 0x80, 0x80];
@@ -59,6 +69,7 @@ pub fn deepest() -> HashMap<&'static str, usize> {
     for case in tasks::cases() {
         eprintln!("{} ..", case.name);
         runs.task(&case.file);
+        runs.new_task(&case.file);
     }
     runs.deepest
 }
@@ -78,6 +89,18 @@ fn first_value(order: &[u8]) -> Vec<u8> {
         [variables, rest @ ..] => vec![1, rest[2 * usize::from(*variables)]],
         [] => vec![0],
     }
+}
+
+/// The same as a new file: a list of one feature has no gap.
+fn first_value_anew(order: &[u8]) -> Vec<u8> {
+    [vec![0], first_value(order)].concat()
+}
+
+/// Marks that leave the first two variables of an old task file silent.
+fn marks_of(file: &[u8]) -> Vec<u8> {
+    let mut marks = vec![1u8; usize::from(file[0])];
+    marks[..2].fill(0);
+    marks
 }
 
 #[derive(Default)]
@@ -130,10 +153,35 @@ impl Runs {
         self.written("florumeja_mend", &[part(file)]);
         self.written("florumeja_dropped", &[part(file)]);
         self.words("florumeja_pair_fault", &[part(file)], 2);
-        let mut marks = vec![1u8; usize::from(file[0])];
-        marks[..2].fill(0);
+        let marks = marks_of(file);
         let order = self.written("florumeja_silence", &[part(file), part(&marks)]);
         self.order(&order);
+    }
+
+    /// The same task as a new file, and the calls that read new files or write them.
+    fn new_task(&mut self, file: &[u8]) {
+        let new = self.written("florumeja_to_new", &[part(file)]);
+        self.written("florumeja_to_old", &[part(&new)]);
+        let weights = self.workspace("florumeja_open", &new);
+        let both = [part(&new), part(&weights)];
+        let new_weights = self.written("florumeja_weights_to_new", &both);
+        let both = [part(&new), part(&new_weights)];
+        self.written("florumeja_weights_to_old", &both);
+        self.run("florumeja_check_new", &both.concat());
+        self.words(
+            "florumeja_display_new",
+            &[part(&new), part(&NEW_PAST_ALL)],
+            2,
+        );
+        self.run("florumeja_check", &[part(&new), part(&weights)].concat());
+        self.written("florumeja_check_line", &[part(&new), part(&PAST_ALL)]);
+        self.words("florumeja_display", &[part(&new), part(&PAST_ALL)], 2);
+        self.written("florumeja_line", &[part(&new)]);
+        self.written("florumeja_mend", &[part(&new)]);
+        self.written("florumeja_dropped", &[part(&new)]);
+        self.words("florumeja_pair_fault", &[part(&new)], 2);
+        let marks = marks_of(file);
+        self.written("florumeja_silence", &[part(&new), part(&marks)]);
     }
 
     /// An order; a task near the limits has none, and then this is an empty file.
@@ -144,6 +192,11 @@ impl Runs {
         let weights = first_value(file);
         self.run(
             "florumeja_check_partial",
+            &[part(file), part(&weights)].concat(),
+        );
+        let weights = first_value_anew(file);
+        self.run(
+            "florumeja_check_partial_new",
             &[part(file), part(&weights)].concat(),
         );
         self.words(

@@ -1,6 +1,6 @@
 -- The checker's answer in the words of the meaning, and that the verdict it comes to is the meaning's.
 use Prim.Native.Nat.{ℕ, _+_, _*_, _<_, _≤_}
-use mathlib.Core.Path.{_≡_, refl, sym, ap, _∙_, fun-ext}
+use mathlib.Core.Path.{_≡_, refl, sym, ap, _∙_}
 use mathlib.Core.Bool.{Bool, true, false, cond}
 use mathlib.Core.List.{List, [], _++_, List·Memᴰ as In}
 use native.Mathlib.Omega.{arith}
@@ -10,26 +10,26 @@ use borrow.Author.Tests.{lt-ltb, le-ltb, ltb-true, ltb-false}
 use Rattle.meaning.specs.Limits.{wordBits}
 use Rattle.meaning.specs.Sets.{_⊕_, Set, odd, shared, listed}
 use Rattle.meaning.specs.Task as task
-use Rattle.meaning.specs.Task.{Task}
+use Rattle.meaning.specs.Task.{Task, Run}
 use Rattle.meaning.specs.Feature.{features, parity}
 use Rattle.meaning.specs.Pair.{idle}
 use Rattle.meaning.specs.Weight.{Allows}
 use Rattle.meaning.specs.Number.{got}
-use Rattle.meaning.specs.File.{operatorsOf, judgedWeights, Acceptable}
+use Rattle.meaning.specs.File.{Kind, operatorsOf, judgedWeightsAs, Acceptable}
 use Rattle.meaning.specs.Workspace.{has, packed}
 use Rattle.meaning.specs.Answer as meaning
 use Rattle.meaning.specs.Answer.{Answer, done, refused, accepted, endsAlike, breaks, Judges}
 use Rattle.theory.specs.Truth.{on, off, test, clash, xor-false-same, xor-true-differ}
-use Rattle.theory.specs.Search.{listed-in}
 use Rattle.theory.specs.Flat.{getD-in, in-getD}
-use Rattle.theory.specs.Run.{run-in}
-use Rattle.theory.specs.Words.{length-packed, has-packed, packed-holds}
+use Rattle.theory.specs.Run.{run-outside}
+use Rattle.theory.specs.Words.{length-packed, has-packed}
+use Rattle.words.specs.Members.{run-has}
 use Rattle.theory.specs.Parity.{dot-cong, odd-shared}
 use Rattle.theory.specs.Finder.{difference, parity-difference}
 use Rattle.words.specs.Parity.{shared-words}
 use Rattle.theory.specs.Tells.{Tells, tells-no}
 use Rattle.theory.specs.Rows.{allowed, tells-allows}
-use Rattle.theory.specs.Accepted.{weights-accepted}
+use Rattle.theory.specs.Accepted.{weights-accepted-as}
 use Rattle.reader.specs.Answer.{featureWords}
 use Rattle.forgetting.specs.Kept.{keptIn}
 use Rattle.condition.specs.Walk.{RowFor}
@@ -150,12 +150,12 @@ module _ (sizes start goal weights row : List ℕ) (h : RowFor (features sizes) 
 
 -- ---- weights that were read
 
-module _ (n : ℕ) (bytes ws : List ℕ) (end : ℕ) (read : judgedWeights n bytes ≡ got ws end) where
-  past : (f : ℕ) → n ≤ f → listed ws f ≡ false
-  past f l = elim (test (listed ws f)) [ on e ↦ absurd (omega (arith, run-in 0 n ws f (weights-accepted bytes n ws end read) (listed-in ws f e))) | off e ↦ e ]
+module _ (kind : Kind) (n : ℕ) (bytes ws : List ℕ) (end : ℕ) (read : judgedWeightsAs kind n bytes ≡ got ws end) where
+  run : Run 0 ws n
+  run = weights-accepted-as bytes kind n ws end read
 
   pub weights-has : has (featureWords n ws) ≡ listed ws
-  weights-has = fun-ext (λ f. packed-holds n (listed ws) f (past f))
+  weights-has = run-has 0 n ws run
 
   pub weights-for : RowFor n (featureWords n ws)
-  weights-for = record { long = length-packed n (listed ws); past = λ f l. packed-holds n (listed ws) f (past f) ∙ past f l }
+  weights-for = record { long = length-packed n (listed ws); past = λ f l. ap (λ s. s f) weights-has ∙ run-outside 0 n ws f run (λ j k. omega arith) }

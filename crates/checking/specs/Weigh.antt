@@ -10,7 +10,7 @@ use Rattle.meaning.specs.Sets.{listed}
 use Rattle.meaning.specs.Task.{Operator, Task, State}
 use Rattle.meaning.specs.Feature.{features}
 use Rattle.meaning.specs.Number.{Read, Reason, refusal, got, fault}
-use Rattle.meaning.specs.File.{operatorsOf, judgedTask, judgedWeights}
+use Rattle.meaning.specs.File.{Kind, operatorsOf, judgedTask, judgedWeightsAs}
 use Rattle.meaning.specs.Workspace.{has}
 use Rattle.meaning.specs.Partial.{judgedPartial}
 use Rattle.meaning.specs.Answer as meaning
@@ -27,30 +27,31 @@ use Rattle.checking.specs.declared.Verdict.{Verdict}
 use Rattle.checking.specs.Answer.{verdictOf, following, verdictFrom, verdict-judges, weights-has, weights-for}
 
 -- A task that is refused is answered so.
-pub task-refused : (judging : Read Task) (weights : List ℕ) (reason : Reason) (place : ℕ) → judging ≡ fault reason place → (k : ℕ) → k ≡ refusal reason → ChecksAs judging weights (refused k)
-task-refused judging weights reason place e k q = rw e (ap refused q)
+pub task-refused : (kind : Kind) (judging : Read Task) (weights : List ℕ) (reason : Reason) (place : ℕ) → judging ≡ fault reason place → (k : ℕ) → k ≡ refusal reason
+    → ChecksAs kind judging weights (refused k)
+task-refused kind judging weights reason place e k q = rw e (ap refused q)
 
-module _ (judging : Read Task) (old header : List ℕ) (v n : ℕ) (known : KnownAs judging old header v n) (weights : List ℕ) where
+module _ (kind : Kind) (judging : Read Task) (old header : List ℕ) (v n : ℕ) (known : KnownAs judging old header v n) (weights : List ℕ) where
   -- Weights that are refused are answered so.
-  pub weights-refused : (reason : Reason) (place : ℕ) → judgedWeights n weights ≡ fault reason place → (k : ℕ) → k ≡ refusal reason → ChecksAs judging weights (refused k)
-  weights-refused reason place e k q = rw (known .judged, ap (λ m. judgedWeights m weights) (sym (known .total)) ∙ e) (ap refused q)
+  pub weights-refused : (reason : Reason) (place : ℕ) → judgedWeightsAs kind n weights ≡ fault reason place → (k : ℕ) → k ≡ refusal reason → ChecksAs kind judging weights (refused k)
+  weights-refused reason place e k q = rw (known .judged, ap (λ m. judgedWeightsAs kind m weights) (sym (known .total)) ∙ e) (ap refused q)
 
   -- The weights that were read.
-  module _ (ws left : List ℕ) (last : ℕ) (read : judgedWeights n weights ≡ got ws last) (held : left ≡ featureWords n ws) where
+  module _ (ws left : List ℕ) (last : ℕ) (read : judgedWeightsAs kind n weights ≡ got ws last) (held : left ≡ featureWords n ws) where
     -- A verdict on them is the answer.
-    pub read-checks : (answer : Answer meaning.Verdict) → (verdict : meaning.Verdict) × (answer ≡ done verdict) × Judges (known .task) (listed ws) verdict → ChecksAs judging weights answer
-    read-checks answer judged = rw (known .judged, ap (λ k. judgedWeights k weights) (sym (known .total)) ∙ read) judged
+    pub read-checks : (answer : Answer meaning.Verdict) → (verdict : meaning.Verdict) × (answer ≡ done verdict) × Judges (known .task) (listed ws) verdict → ChecksAs kind judging weights answer
+    read-checks answer judged = rw (known .judged, ap (λ k. judgedWeightsAs kind k weights) (sym (known .total)) ∙ read) judged
 
     -- The task's parts, as they are lent.
     module _ (sizes start goal pairs : List ℕ) (sizes-are : sizes ≡ sizesPart v header) (start-is : start ≡ startPart v header) (goal-is : goal ≡ goalPart v header)
         (pairs-are : pairs ≡ pairsPart v n header) where
       pub lent-ready : Listed sizes pairs × State sizes start × State sizes goal × RowFor (features sizes) left
       lent-ready = let ready = known-ready known in rw (sizes-are, start-is, goal-is, pairs-are, held)
-          (ready .0, ready .1, ready .2, rw (known-parts known .0, ← (known .total)) (weights-for n weights ws last read))
+          (ready .0, ready .1, ready .2, rw (known-parts known .0, ← (known .total)) (weights-for kind n weights ws last read))
 
       pub lent-parts : (sizes ≡ known .task .sizes) × (start ≡ known .task .start) × (goal ≡ known .task .goal) × (has pairs ≡ listed (known .task .pairs)) × (has left ≡ listed ws)
       lent-parts = let parts = known-parts known in
-          (sizes-are ∙ parts .0, start-is ∙ parts .1, goal-is ∙ parts .2, ap has pairs-are ∙ parts .3, ap has held ∙ weights-has n weights ws last read)
+          (sizes-are ∙ parts .0, start-is ∙ parts .1, goal-is ∙ parts .2, ap has pairs-are ∙ parts .3, ap has held ∙ weights-has kind n weights ws last read)
 
 -- ---- the operators
 
@@ -83,19 +84,19 @@ module _ (judging : Read Task) (bytes old header : List ℕ) (v n count at : ℕ
   with-few = omega (arith, known .many, known .accepted .writable .countable, ap length (known .all) ∙ length-append (known .operators) _)
 
   -- What the code comes to is the checker's answer.
-  module _ (weights : List ℕ) (ws left : List ℕ) (last : ℕ) (read : judgedWeights n weights ≡ got ws last) (held : left ≡ featureWords n ws)
+  module _ (kind : Kind) (weights : List ℕ) (ws left : List ℕ) (last : ℕ) (read : judgedWeightsAs kind n weights ≡ got ws last) (held : left ≡ featureWords n ws)
       (sizes start goal pairs : List ℕ) (sizes-are : sizes ≡ sizesPart v header) (start-is : start ≡ startPart v header) (goal-is : goal ≡ goalPart v header)
       (pairs-are : pairs ≡ pairsPart v n header) where
-    pub lent-checks : (r : Verdict) → r ≡ verdictFrom sizes start goal (has pairs) (has left) count bytes at (following sizes (has pairs) goal forgets) → ChecksAs judging weights (verdictOf r)
+    pub lent-checks : (r : Verdict) → r ≡ verdictFrom sizes start goal (has pairs) (has left) count bytes at (following sizes (has pairs) goal forgets) → ChecksAs kind judging weights (verdictOf r)
     lent-checks r e =
         let T = known .accepted .task in
         let os = known .operators in
         let follow = following (T .sizes) (listed (T .pairs)) (T .goal) forgets in
         let (sizes-same, start-same, goal-same, pairs-same, weights-same)
-        = lent-parts judging old header v n (known .accepted) weights ws left last read held sizes start goal pairs sizes-are start-is goal-is pairs-are in
+        = lent-parts kind judging old header v n (known .accepted) weights ws left last read held sizes start goal pairs sizes-are start-is goal-is pairs-are in
         let same : r ≡ verdictFrom (T .sizes) (T .start) (T .goal) (listed (T .pairs)) (listed ws) (length os) bytes at follow
         = e ∙ rw (sizes-same, start-same, goal-same, pairs-same, weights-same, known .many) refl in
         let operators : operatorsOf (T .sizes) (length os) bytes at ≡ got os (known .next)
         = ap (λ k. operatorsOf (T .sizes) k bytes at) (sym (known .many)) ∙ known .read in
         let (verdict, told, judges) = verdict-judges T (listed ws) (known .accepted .writable .acceptable) os follow (known .all) bytes at (known .next) operators in
-        read-checks judging old header v n (known .accepted) weights ws left last read held (verdictOf r) (verdict, ap verdictOf same ∙ told, judges)
+        read-checks kind judging old header v n (known .accepted) weights ws left last read held (verdictOf r) (verdict, ap verdictOf same ∙ told, judges)

@@ -9,10 +9,10 @@ ghost use Rattle.meaning.specs.Sets.{_⊕_};
 ghost use Rattle.meaning.specs.Task.{State, Task};
 ghost use Rattle.meaning.specs.Feature.{features, parity};
 ghost use Rattle.meaning.specs.Number.{Read};
-ghost use Rattle.meaning.specs.File.{InLimits};
+ghost use Rattle.meaning.specs.File.{kindIf, judgedTask, InLimits};
 ghost use Rattle.meaning.specs.Workspace.{wordsFor, has};
-ghost use Rattle.meaning.specs.Partial.{ChecksPartial};
-ghost use Rattle.meaning.specs.Answer.{ChecksAs, Checks};
+ghost use Rattle.meaning.specs.Partial.{leftOut, judgedPartial, ChecksPartial, ChecksPartialNew};
+ghost use Rattle.meaning.specs.Answer.{ChecksAs, Checks, ChecksNew};
 ghost use Rattle.theory.specs.Rows.{allowed};
 ghost use Rattle.pairs.specs.Ready.{Listed};
 ghost use Rattle.forgetting.specs.Kept.{unknownOf, forgottenBy, keptIn};
@@ -159,10 +159,11 @@ fn judge_weights(
     Verdict::Accepted
 }
 
-// Reads the weights for an accepted task into words, by its header and its counts, and judges them.
+// Reads the weights of a kind for an accepted task into words, by its header and its counts, and judges them.
 fn weigh_within(
     bytes: &[u8],
     weights: &[u8],
+    gapped: bool,
     header: &[u64],
     v: usize,
     n: usize,
@@ -173,9 +174,9 @@ fn weigh_within(
 ) -> Verdict
     requires { ⌜ ((judging : Read Task) × (old : List ℕ) × KnownWith judging (now bytes) old (now header) v n count at forgets) × (now words ≡ replicate (wordsFor n) 0) ⌝ }
     ensures { λ r. ⌜ ((judging : Read Task) (old : List ℕ) → KnownWith judging (now (bytes .entry)) old (now (header .entry)) v n count at forgets
-        → ChecksAs judging (now (weights .entry)) (verdictOf r)) ⌝ }
+        → ChecksAs (kindIf gapped) judging (now (weights .entry)) (verdictOf r)) ⌝ }
 {
-    match reader::read_weights(weights, n, &mut *words) {
+    match reader::read_weights(weights, gapped, n, &mut *words) {
         Step::Next(_) => judge_weights(
             bytes,
             at,
@@ -195,6 +196,7 @@ fn weigh_within(
 fn weigh(
     bytes: &[u8],
     weights: &[u8],
+    gapped: bool,
     header: &[u64],
     v: usize,
     n: usize,
@@ -204,13 +206,14 @@ fn weigh(
 ) -> Verdict
     requires { ⌜ ((judging : Read Task) × (old : List ℕ) × KnownWith judging (now bytes) old (now header) v n count at forgets) ⌝ }
     ensures { λ r. ⌜ ((judging : Read Task) (old : List ℕ) → KnownWith judging (now (bytes .entry)) old (now (header .entry)) v n count at forgets
-        → ChecksAs judging (now (weights .entry)) (verdictOf r)) ⌝ }
+        → ChecksAs (kindIf gapped) judging (now (weights .entry)) (verdictOf r)) ⌝ }
 {
     let mut words = [0u64; MOST_WORDS];
     let w = layout::words_for(n);
     weigh_within(
         bytes,
         weights,
+        gapped,
         header,
         v,
         n,
@@ -221,9 +224,9 @@ fn weigh(
     )
 }
 
-// Checks weights against a task: the task is judged, then the weights are read, then they are judged.
-pub fn check(task: &[u8], weights: &[u8]) -> Verdict
-    ensures { λ r. ⌜ Checks (now (task .entry)) (now (weights .entry)) (verdictOf r) ⌝ }
+// Checks weights of a kind against a task: the task is judged, then the weights are read, then they are judged.
+fn check_as(task: &[u8], weights: &[u8], gapped: bool) -> Verdict
+    ensures { λ r. ⌜ ChecksAs (kindIf gapped) (judgedTask (now (task .entry))) (now (weights .entry)) (verdictOf r) ⌝ }
 {
     let mut header = [0u64; HEADER_WORDS];
     match task::judge(task, &mut header) {
@@ -235,6 +238,7 @@ pub fn check(task: &[u8], weights: &[u8]) -> Verdict
         } => weigh(
             task,
             weights,
+            gapped,
             &header,
             variables,
             features,
@@ -246,9 +250,23 @@ pub fn check(task: &[u8], weights: &[u8]) -> Verdict
     }
 }
 
-// Checks weights against the task that is built for a partial file: the file is judged, then the weights are read, then they are judged.
-pub fn check_partial(partial: &[u8], weights: &[u8]) -> Verdict
-    ensures { λ r. ⌜ ChecksPartial (now (partial .entry)) (now (weights .entry)) (verdictOf r) ⌝ }
+// Checks weights of the old kind against a task.
+pub fn check(task: &[u8], weights: &[u8]) -> Verdict
+    ensures { λ r. ⌜ Checks (now (task .entry)) (now (weights .entry)) (verdictOf r) ⌝ }
+{
+    check_as(task, weights, false)
+}
+
+// Checks weights of the new kind against a task.
+pub fn check_new(task: &[u8], weights: &[u8]) -> Verdict
+    ensures { λ r. ⌜ ChecksNew (now (task .entry)) (now (weights .entry)) (verdictOf r) ⌝ }
+{
+    check_as(task, weights, true)
+}
+
+// Checks weights of a kind against the task that is built for a partial file: the file is judged, then the weights are read, then they are judged.
+fn check_partial_as(partial: &[u8], weights: &[u8], gapped: bool) -> Verdict
+    ensures { λ r. ⌜ ChecksAs (kindIf gapped) (judgedPartial leftOut (now (partial .entry))) (now (weights .entry)) (verdictOf r) ⌝ }
 {
     let mut header = [0u64; HEADER_WORDS];
     match order::judge(partial, false, &mut header) {
@@ -261,6 +279,7 @@ pub fn check_partial(partial: &[u8], weights: &[u8]) -> Verdict
         } => weigh(
             partial,
             weights,
+            gapped,
             &header,
             variables,
             features,
@@ -270,4 +289,18 @@ pub fn check_partial(partial: &[u8], weights: &[u8]) -> Verdict
         ),
         order::Judged::Refused(reason, _) => Verdict::Refused(number::refusal(reason)),
     }
+}
+
+// Checks weights of the old kind against the task that is built for a partial file.
+pub fn check_partial(partial: &[u8], weights: &[u8]) -> Verdict
+    ensures { λ r. ⌜ ChecksPartial (now (partial .entry)) (now (weights .entry)) (verdictOf r) ⌝ }
+{
+    check_partial_as(partial, weights, false)
+}
+
+// Checks weights of the new kind against the task that is built for a partial file.
+pub fn check_partial_new(partial: &[u8], weights: &[u8]) -> Verdict
+    ensures { λ r. ⌜ ChecksPartialNew (now (partial .entry)) (now (weights .entry)) (verdictOf r) ⌝ }
+{
+    check_partial_as(partial, weights, true)
 }

@@ -10,7 +10,7 @@ use Rattle.meaning.specs.Limits.{wordBits}
 use Rattle.meaning.specs.Task.{Operator, Task, State}
 use Rattle.meaning.specs.Feature.{atoms, features}
 use Rattle.meaning.specs.Number.{Reason, fault, numberBytes}
-use Rattle.meaning.specs.File.{bytesOf, counted, operatorBytes, taskBytes}
+use Rattle.meaning.specs.File.{plain, bytesOf, counted, operatorBytes, taskBytes}
 use Rattle.meaning.specs.Workspace.{has}
 use Rattle.meaning.specs.Answer.{Outcome, refuses, delivered}
 use Rattle.meaning.specs.Partial.{Partial, forgettings, builtTask, judgedPartial, BuildsBy}
@@ -107,12 +107,12 @@ module _ (lean : Bool) (bytes words left : List ℕ) (v n count kept at : ℕ) (
           ∙ ap₂ (λ own more. numberBytes (count + kept) ++ (own ++ more))
           (sym (operators-copied bytes (T .sizes) count at (P .operators) (known .accepted .next) small (known .operators) (known .end))) (sym kept-bytes)
 
-      front-same : frontBytes (T .sizes) (T .start) (T .goal) (T .pairs) ≡ frontBytes sizes start goal (membersIn pairs)
+      front-same : frontBytes plain (T .sizes) (T .start) (T .goal) (T .pairs) ≡ frontBytes plain sizes start goal (membersIn pairs)
       front-same = rw (pairs-members, task-sizes, start-is ∙ known-parts (known .accepted) .1, task-goal) refl
 
       file-split : taskBytes T ≡ builtBytes count kept (drop at bytes) sizes start goal pairs lean
       unfolding builtBytes
-      file-split = task-front T ∙ ap₂ _++_ front-same operators-split
+      file-split = task-front plain T ∙ ap₂ _++_ front-same operators-split
 
       -- What the code comes to is the built task's file.
       pub built-so : (own room : List ℕ) (outcome : Outcome ℕ) → own ≡ drop at bytes → outcome ≡ delivered (builtBytes count kept own sizes start goal pairs lean) room

@@ -9,7 +9,7 @@ use Rattle.meaning.specs.Limits.{numberEnd}
 use Rattle.meaning.specs.Task.{Operator, State}
 use Rattle.meaning.specs.Sets.{table}
 use Rattle.meaning.specs.Number.{groupBytes, numberBytes}
-use Rattle.meaning.specs.File.{InLimits, bytesOf, entryBytes, counted, operatorBytes}
+use Rattle.meaning.specs.File.{plain, InLimits, bytesOf, entryBytes, counted, operatorBytes}
 use Rattle.meaning.specs.Answer.{operatorIn, delivered}
 use Rattle.meaning.specs.Workspace.{has}
 use Rattle.theory.specs.NumberBack.{number-bytes-length}
@@ -154,25 +154,25 @@ module _ (count : ℕ) (own sizes pairs goal : List ℕ) (lean : Bool) where
 module _ (count kept : ℕ) (own sizes start goal pairs : List ℕ) (lean : Bool) where
   -- The file of the built task.
   unfoldable pub builtBytes : List ℕ
-  builtBytes = frontBytes sizes start goal (membersIn pairs) ++ operatorsBytes (count + kept) own sizes pairs goal lean
+  builtBytes = frontBytes plain sizes start goal (membersIn pairs) ++ operatorsBytes (count + kept) own sizes pairs goal lean
 
   module _ (parts : BuiltParts count kept sizes start goal pairs lean) where
-    pub file-length : length builtBytes ≡ length (frontBytes sizes start goal (membersIn pairs)) + (length (numberBytes (count + kept)) + length own + 4 * kept)
+    pub file-length : length builtBytes ≡ length (frontBytes plain sizes start goal (membersIn pairs)) + (length (numberBytes (count + kept)) + length own + 4 * kept)
     unfolding builtBytes
     file-length = omega (
       arith,
-      length-append (frontBytes sizes start goal (membersIn pairs)) (operatorsBytes (count + kept) own sizes pairs goal lean),
+      length-append (frontBytes plain sizes start goal (membersIn pairs)) (operatorsBytes (count + kept) own sizes pairs goal lean),
       operators-length (count + kept) own sizes pairs goal lean,
       parts .width,
     )
 
     -- The whole is short but for the file's operators.
     pub file-few : length builtBytes ≤ 2 * fourLists + length own
-    file-few = omega (arith, file-length, front-few sizes start goal pairs (parts .front), number-bytes-length (count + kept) .1, parts .countable)
+    file-few = omega (arith, file-length, front-few plain sizes start goal pairs (parts .front), number-bytes-length (count + kept) .1, parts .countable)
 
     pub file-delivered : (room room₁ room₂ : List ℕ) (next end : ℕ) → length builtBytes ≤ length room
-        → next ≡ length (frontBytes sizes start goal (membersIn pairs)) → room₁ ≡ frontBytes sizes start goal (membersIn pairs) ++ drop next room
+        → next ≡ length (frontBytes plain sizes start goal (membersIn pairs)) → room₁ ≡ frontBytes plain sizes start goal (membersIn pairs) ++ drop next room
         → end ≡ next + length (operatorsBytes (count + kept) own sizes pairs goal lean) → room₂ ≡ take next room₁ ++ (operatorsBytes (count + kept) own sizes pairs goal lean ++ drop end room₁)
         → outcomeOf (Done end) room₂ ≡ delivered builtBytes room
     unfolding builtBytes
-    file-delivered room room₁ room₂ next end fit p₁ w₁ p₂ w₂ = parts-delivered builtBytes (frontBytes sizes start goal (membersIn pairs)) (operatorsBytes (count + kept) own sizes pairs goal lean) room room₁ room₂ next end refl fit p₁ w₁ p₂ w₂
+    file-delivered room room₁ room₂ next end fit p₁ w₁ p₂ w₂ = parts-delivered builtBytes (frontBytes plain sizes start goal (membersIn pairs)) (operatorsBytes (count + kept) own sizes pairs goal lean) room room₁ room₂ next end refl fit p₁ w₁ p₂ w₂

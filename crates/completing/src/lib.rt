@@ -82,13 +82,13 @@ fn write_built(
     ensures { λ r. ⌜ outcomeOf r (now (room .exit))
         ≡ delivered (builtBytes count kept (now (own .entry)) (now (sizes .entry)) (now (start .entry)) (now (goal .entry)) (now (pairs .entry)) lean) (now (room .entry)) ⌝ }
 {
-    let front = writer::front_width(sizes, start, goal, pairs);
+    let front = writer::front_width(false, sizes, start, goal, pairs);
     let each = writer::operator_width(&[0], &[0], &[1]);
     let operators = number::width(count + kept) + own.len() + each * kept;
     if room.len() < front + operators {
         return writer::refuse(Reason::Small);
     }
-    let next = writer::write_front(room, sizes, start, goal, pairs);
+    let next = writer::write_front(room, false, sizes, start, goal, pairs);
     Written::Done(write_operators(room, next, count + kept, own, sizes, pairs, goal, lean))
 }
 

@@ -2,25 +2,26 @@
 use Prim.Native.Nat.{ℕ}
 use mathlib.Core.Bool.{Bool}
 use mathlib.Core.List.{List}
-use Rattle.meaning.specs.File.{judgedTask}
-use Rattle.meaning.specs.Answer.{Checks, Opens, Finds, Edit, Edits}
+use Rattle.meaning.specs.File.{Kind, plain, gapped, judgedTask}
+use Rattle.meaning.specs.Answer.{Checks, ChecksNew, Opens, Finds, Edit, Edits}
 use Rattle.meaning.specs.Bay.{Builds}
-use Rattle.meaning.specs.Partial.{Partial, judgedPartial, leftOut, OpensPartial, ChecksPartial, BuildsBy, Silences}
+use Rattle.meaning.specs.Partial.{Partial, judgedPartial, leftOut, OpensPartial, ChecksPartial, ChecksPartialNew, BuildsBy, Silences}
 use Rattle.meaning.specs.Mend.{Mends, Drops, FaultsPairs}
-use Rattle.meaning.specs.Place.{shown, shownPartial, shownBay, displayed, Displays, DisplaysPartial, DisplaysBay}
-use Rattle.theory.specs.Determined.{AtMostOne, is-only, checks-only, opens-only, finds-only, edits-only, builds-only, builds-by-only, silences-only, mends-only, drops-only, faults-only}
+use Rattle.meaning.specs.Place.{shownAs, shown, shownPartial, shownBay, displayed, Displays, DisplaysNew, DisplaysPartial, DisplaysBay}
+use Rattle.meaning.specs.Convert.{Converts, ConvertsWeights}
+use Rattle.theory.specs.Determined.{AtMostOne, is-only, checks-only, opens-only, finds-only, edits-only, builds-only, builds-by-only, silences-only, mends-only, drops-only, faults-only, converts-only, converts-weights-only}
 use Rattle.line.specs.Answer.{Lines, lines-only}
 use Rattle.words.specs.Members.{membersIn}
 use Rattle.writer.specs.Weights.{weightsWritten, Writes}
 use Rattle.verdicts.specs.Answer.{VerdictLines, verdict-lines-only}
 use Rattle.codes.specs.Code.{verdictCode, lengthCode, findingCode, editCode, faultCode, holderCode, Coded, Left, Leaves}
 use Rattle.codes.specs.Back.{answerIn, read-allowed, outcomeIn, outcome-allowed, verdict-table, length-table, finding-table, edit-table, fault-table, holder-table, coded-only, leaves-only}
-use Rattle.florumeja.specs.Fits.{checks-fit, checks-partial-fit, opens-fit, opens-partial-fit, finds-fit, edits-fit, builds-fit, builds-partial-fit, silences-fit, mends-fit, drops-fit, faults-fit, lines-fit, Slices, verdict-lines-fit, displays-fit, writes-fit}
+use Rattle.florumeja.specs.Fits.{checks-fit, checks-partial-fit, opens-fit, opens-partial-fit, finds-fit, edits-fit, builds-fit, builds-partial-fit, silences-fit, mends-fit, drops-fit, faults-fit, converts-fit, converts-weights-fit, lines-fit, Slices, verdict-lines-fit, displays-fit, writes-fit}
 
 -- ---- the answer that is read in a call's number is the call's answer
 
 pub check-read : (task weights : List ℕ) (number : ℕ) → Coded verdictCode (Checks task weights) number → Checks task weights (answerIn verdict-table number)
-check-read task weights = read-allowed verdict-table (Checks task weights) (checks-fit task weights)
+check-read task weights = read-allowed verdict-table (Checks task weights) (checks-fit plain task weights)
 
 pub open-read : (task room : List ℕ) (left : Left) → Leaves lengthCode (Opens task room) left → Opens task room (outcomeIn length-table left)
 open-read task room = outcome-allowed length-table (Opens task room) (opens-fit task room)
@@ -35,7 +36,7 @@ pub build-read : (bay room : List ℕ) (left : Left) → Leaves lengthCode (Buil
 build-read bay room = outcome-allowed length-table (Builds bay room) (builds-fit bay room)
 
 pub check-partial-read : (file weights : List ℕ) (number : ℕ) → Coded verdictCode (ChecksPartial file weights) number → ChecksPartial file weights (answerIn verdict-table number)
-check-partial-read file weights = read-allowed verdict-table (ChecksPartial file weights) (checks-partial-fit file weights)
+check-partial-read file weights = read-allowed verdict-table (ChecksPartial file weights) (checks-partial-fit plain file weights)
 
 pub open-partial-read : (file room : List ℕ) (left : Left) → Leaves lengthCode (OpensPartial file room) left → OpensPartial file room (outcomeIn length-table left)
 open-partial-read file room = outcome-allowed length-table (OpensPartial file room) (opens-partial-fit file room)
@@ -79,10 +80,28 @@ display-partial-read partial weights room = outcome-allowed holder-table (Displa
 pub display-bay-read : (bay room : List ℕ) (left : Left) → Leaves holderCode (DisplaysBay bay room) left → DisplaysBay bay room (outcomeIn holder-table left)
 display-bay-read bay room = outcome-allowed holder-table (DisplaysBay bay room) (displays-fit (shownBay bay) room)
 
+-- The kind that is written.
+pub convert-read : (kind : Kind) (task room : List ℕ) (left : Left) → Leaves lengthCode (Converts kind task room) left → Converts kind task room (outcomeIn length-table left)
+convert-read kind task room = outcome-allowed length-table (Converts kind task room) (converts-fit kind task room)
+
+pub convert-weights-read : (kind : Kind) (task weights room : List ℕ) (left : Left) → Leaves lengthCode (ConvertsWeights kind task weights room) left
+    → ConvertsWeights kind task weights room (outcomeIn length-table left)
+convert-weights-read kind task weights room = outcome-allowed length-table (ConvertsWeights kind task weights room) (converts-weights-fit kind task weights room)
+
+pub check-new-read : (task weights : List ℕ) (number : ℕ) → Coded verdictCode (ChecksNew task weights) number → ChecksNew task weights (answerIn verdict-table number)
+check-new-read task weights = read-allowed verdict-table (ChecksNew task weights) (checks-fit gapped task weights)
+
+pub check-partial-new-read : (file weights : List ℕ) (number : ℕ) → Coded verdictCode (ChecksPartialNew file weights) number
+    → ChecksPartialNew file weights (answerIn verdict-table number)
+check-partial-new-read file weights = read-allowed verdict-table (ChecksPartialNew file weights) (checks-partial-fit gapped file weights)
+
+pub display-new-read : (task weights room : List ℕ) (left : Left) → Leaves holderCode (DisplaysNew task weights room) left → DisplaysNew task weights room (outcomeIn holder-table left)
+display-new-read task weights room = outcome-allowed holder-table (DisplaysNew task weights room) (displays-fit (shownAs gapped task weights) room)
+
 -- ---- each call leaves one number and one memory
 
 pub check-only : (task weights : List ℕ) → AtMostOne (Coded verdictCode (Checks task weights))
-check-only task weights = coded-only verdictCode (Checks task weights) (checks-only (judgedTask task) weights)
+check-only task weights = coded-only verdictCode (Checks task weights) (checks-only plain (judgedTask task) weights)
 
 pub open-only : (task room : List ℕ) → AtMostOne (Leaves lengthCode (Opens task room))
 open-only task room = leaves-only lengthCode (Opens task room) (opens-only (judgedTask task) room)
@@ -97,7 +116,7 @@ pub build-only : (bay room : List ℕ) → AtMostOne (Leaves lengthCode (Builds 
 build-only bay room = leaves-only lengthCode (Builds bay room) (builds-only bay room)
 
 pub check-partial-only : (file weights : List ℕ) → AtMostOne (Coded verdictCode (ChecksPartial file weights))
-check-partial-only file weights = coded-only verdictCode (ChecksPartial file weights) (checks-only (judgedPartial leftOut file) weights)
+check-partial-only file weights = coded-only verdictCode (ChecksPartial file weights) (checks-only plain (judgedPartial leftOut file) weights)
 
 pub open-partial-only : (file room : List ℕ) → AtMostOne (Leaves lengthCode (OpensPartial file room))
 open-partial-only file room = leaves-only lengthCode (OpensPartial file room) (opens-only (judgedPartial leftOut file) room)
@@ -134,3 +153,18 @@ display-partial-only partial weights room = leaves-only holderCode (DisplaysPart
 
 pub display-bay-only : (bay room : List ℕ) → AtMostOne (Leaves holderCode (DisplaysBay bay room))
 display-bay-only bay room = leaves-only holderCode (DisplaysBay bay room) (is-only (displayed (shownBay bay) room))
+
+pub convert-only : (kind : Kind) (task room : List ℕ) → AtMostOne (Leaves lengthCode (Converts kind task room))
+convert-only kind task room = leaves-only lengthCode (Converts kind task room) (converts-only kind task room)
+
+pub convert-weights-only : (kind : Kind) (task weights room : List ℕ) → AtMostOne (Leaves lengthCode (ConvertsWeights kind task weights room))
+convert-weights-only kind task weights room = leaves-only lengthCode (ConvertsWeights kind task weights room) (converts-weights-only kind task weights room)
+
+pub check-new-only : (task weights : List ℕ) → AtMostOne (Coded verdictCode (ChecksNew task weights))
+check-new-only task weights = coded-only verdictCode (ChecksNew task weights) (checks-only gapped (judgedTask task) weights)
+
+pub check-partial-new-only : (file weights : List ℕ) → AtMostOne (Coded verdictCode (ChecksPartialNew file weights))
+check-partial-new-only file weights = coded-only verdictCode (ChecksPartialNew file weights) (checks-only gapped (judgedPartial leftOut file) weights)
+
+pub display-new-only : (task weights room : List ℕ) → AtMostOne (Leaves holderCode (DisplaysNew task weights room))
+display-new-only task weights room = leaves-only holderCode (DisplaysNew task weights room) (is-only (displayed (shownAs gapped task weights) room))

@@ -12,17 +12,18 @@ use Rattle.meaning.specs.Limits.{mostFeatures, faultWords, placeWords}
 use Rattle.meaning.specs.Task.{Task}
 use Rattle.meaning.specs.Feature.{atoms, features}
 use Rattle.meaning.specs.Number.{Reason, Small, Malformed, refusal, Read, got}
-use Rattle.meaning.specs.File.{taskOf, judgedTask, taskBytes, weightBytes, InLimits, Writable}
+use Rattle.meaning.specs.File.{Kind, plain, other, kindOf, taskOf, judgedTask, judgedAs, judgedWeightsAs, weightBytes, weightBytesAs, taskBytesAs, InLimits, Writable}
 use Rattle.meaning.specs.Workspace.{packed, wordsFor, wordsDue, Content, wordsOf, WellFormed}
-use Rattle.meaning.specs.Answer.{Answer, done, refused, Outcome, refuses, writes, delivered, byRead, Verdict, accepted, endsAlike, breaks, ChecksAs, Checks, OpensAs, Opens}
+use Rattle.meaning.specs.Answer.{Answer, done, refused, Outcome, refuses, writes, delivered, byRead, Verdict, accepted, endsAlike, breaks, ChecksAs, OpensAs, Opens}
 use Rattle.meaning.specs.Answer.{Finding, none, separated, FindsIn, FindsBy, Finds, Edit, Judged, fine, faulty, editJudged, EditsIn, Edits}
 use Rattle.meaning.specs.Bay.{judgedBay, bayTask, Builds}
-use Rattle.meaning.specs.Partial.{Partial, judgedPartial, leftOut, partialBytes, OpensPartial, ChecksPartial, BuildsBy, silenced, marksJudged, silencesBy, Silences}
+use Rattle.meaning.specs.Partial.{Partial, judgedPartial, leftOut, partialBytes, OpensPartial, BuildsBy, silenced, marksJudged, silencesBy, Silences}
+use Rattle.meaning.specs.Convert.{Converts, ConvertsWeights}
 use Rattle.meaning.specs.Mend.{mended, PairFault, noFault, startHolds, operatorBreaks, FindsFault, FaultsPairs, Mends, Drops}
 use Rattle.meaning.specs.Place.{Holder, Part, ofTask, ofWeights, holderOf, partWords, displayed}
 use Rattle.meaning.specs.Line.{line, printedSpot, checkedSpot, verdictLine}
 use Rattle.theory.specs.Run.{run-length}
-use Rattle.theory.specs.Accepted.{accepted as task-accepted, read-known}
+use Rattle.theory.specs.Accepted.{accepted as task-accepted, accepted-as, read-known, weights-accepted-as}
 use Rattle.theory.specs.Mending.{mended-writable}
 use Rattle.theory.specs.BayTask.{bay-accepted}
 use Rattle.theory.specs.PartialFile.{accepted-partial}
@@ -36,7 +37,7 @@ use Rattle.verdicts.specs.Answer.{VerdictLines}
 use Rattle.verdicts.specs.Fits.{Short, checks-as-short, line-few}
 use Rattle.writer.specs.Weights.{weightsJudged, weightsWritten, Writes}
 use Rattle.writer.specs.Widths.{list-few}
-use Rattle.writer.specs.Longest.{task-few, partial-few}
+use Rattle.writer.specs.Longest.{weights-few, task-few, partial-few}
 use Rattle.writer.specs.Judging.{fine-few, weights-refused, weights-delivered}
 use Rattle.codes.specs.Code.{valueEnd, verdictCode, lengthCode, findingCode, editCode, faultCode, holderCode, Fits, FitsIn}
 
@@ -62,8 +63,8 @@ partial-means out file T next e = accepted-partial file out T next e .writable
 
 -- ---- the checker: a number that has few digits
 
-checks-as-fit : (judging : Read Task) → Means judging → (weights : List ℕ) (answer : Answer Verdict) → ChecksAs judging weights answer → Fits verdictCode answer
-checks-as-fit judging means weights answer checks = by answer (checks-as-short judging means weights answer checks)
+checks-as-fit : (kind : Kind) (judging : Read Task) → Means judging → (weights : List ℕ) (answer : Answer Verdict) → ChecksAs kind judging weights answer → Fits verdictCode answer
+checks-as-fit kind judging means weights answer checks = by answer (checks-as-short kind judging means weights answer checks)
   where
     by : (answer : Answer Verdict) → Short answer → Fits verdictCode answer
     by (done accepted) short = omega arith
@@ -71,11 +72,12 @@ checks-as-fit judging means weights answer checks = by answer (checks-as-short j
     by (done (breaks j)) short = omega arith
     by (refused number) short = omega arith
 
-pub checks-fit : (task weights : List ℕ) (answer : Answer Verdict) → Checks task weights answer → Fits verdictCode answer
-checks-fit task = checks-as-fit (judgedTask task) (task-means task)
+-- Whichever kind the weights are.
+pub checks-fit : (kind : Kind) (task weights : List ℕ) (answer : Answer Verdict) → ChecksAs kind (judgedTask task) weights answer → Fits verdictCode answer
+checks-fit kind task = checks-as-fit kind (judgedTask task) (task-means task)
 
-pub checks-partial-fit : (file weights : List ℕ) (answer : Answer Verdict) → ChecksPartial file weights answer → Fits verdictCode answer
-checks-partial-fit file = checks-as-fit (judgedPartial leftOut file) (partial-means leftOut file)
+pub checks-partial-fit : (kind : Kind) (file weights : List ℕ) (answer : Answer Verdict) → ChecksAs kind (judgedPartial leftOut file) weights answer → Fits verdictCode answer
+checks-partial-fit kind file = checks-as-fit kind (judgedPartial leftOut file) (partial-means leftOut file)
 
 -- ---- opening: the words due for a task within its limits
 
@@ -126,19 +128,19 @@ edits-fit workspace edit =
 delivered-fits : (file room : List ℕ) → length file < valueEnd → FitsIn lengthCode (delivered file room)
 delivered-fits file room h = elim (test (ltb (length room) (length file))) [ on s ↦ rw s (refusal-fits Small) | off s ↦ rw s h ]
 
--- A call that writes the task file of what was read.
-file-fits : {A : Type 0} (read : Read A) (task : A → Task) → ((a : A) (next : ℕ) → read ≡ got a next → Writable (task a)) → (room : List ℕ) (outcome : Outcome ℕ)
-    → byRead read (λ a. outcome ≡ delivered (taskBytes (task a)) room) (λ reason. outcome ≡ refuses reason room) → FitsIn lengthCode outcome
-file-fits read task writable room =
+-- A call that writes the task file of a kind of what was read.
+file-fits : {A : Type 0} (kind : Kind) (read : Read A) (task : A → Task) → ((a : A) (next : ℕ) → read ≡ got a next → Writable (task a)) → (room : List ℕ) (outcome : Outcome ℕ)
+    → byRead read (λ a. outcome ≡ delivered (taskBytesAs kind (task a)) room) (λ reason. outcome ≡ refuses reason room) → FitsIn lengthCode outcome
+file-fits kind read task writable room =
     read-good (FitsIn lengthCode) read _ (λ reason. refuses reason room)
-    (λ a next e. is-good (FitsIn lengthCode) _ (delivered-fits (taskBytes (task a)) room (omega (arith, task-few (task a) (writable a next e)))))
+    (λ a next e. is-good (FitsIn lengthCode) _ (delivered-fits (taskBytesAs kind (task a)) room (omega (arith, task-few kind (task a) (writable a next e)))))
     refusal-fits
 
 pub builds-fit : (bay room : List ℕ) (outcome : Outcome ℕ) → Builds bay room outcome → FitsIn lengthCode outcome
-builds-fit bay = file-fits (judgedBay bay) bayTask (λ b next e. bay-accepted bay b next e)
+builds-fit bay = file-fits plain (judgedBay bay) bayTask (λ b next e. bay-accepted bay b next e)
 
 pub builds-partial-fit : (out : Partial → ℕ → ℕ → Bool) (file room : List ℕ) (outcome : Outcome ℕ) → BuildsBy out file room outcome → FitsIn lengthCode outcome
-builds-partial-fit out file = file-fits (judgedPartial out file) (λ T. T) (partial-means out file)
+builds-partial-fit out file = file-fits plain (judgedPartial out file) (λ T. T) (partial-means out file)
 
 pub silences-fit : (task marks room : List ℕ) (outcome : Outcome ℕ) → Silences task marks room outcome → FitsIn lengthCode outcome
 unfolding silenced
@@ -157,7 +159,7 @@ pub mends-fit : (task room : List ℕ) (outcome : Outcome ℕ) → Mends task ro
 mends-fit task room =
     read-good (FitsIn lengthCode) (taskOf task 0) _ (λ reason. refuses reason room)
     (λ T next e o h. let writable = mended-writable T (read-known task T next e .1) (h .0) (h .1) in
-    is-good (FitsIn lengthCode) _ (delivered-fits (taskBytes (mended T (h .0))) room (omega (arith, task-few (mended T (h .0)) writable))) o (h .2))
+    is-good (FitsIn lengthCode) _ (delivered-fits (taskBytesAs (kindOf task 0) (mended T (h .0))) room (omega (arith, task-few (kindOf task 0) (mended T (h .0)) writable))) o (h .2))
     refusal-fits
 
 pub drops-fit : (task room : List ℕ) (outcome : Outcome ℕ) → Drops task room outcome → FitsIn lengthCode outcome
@@ -177,6 +179,21 @@ pub faults-fit : (task room : List ℕ) (outcome : Outcome PairFault) → Faults
 faults-fit task room =
     read-good (FitsIn faultCode) (taskOf task 0) _ (λ reason. refuses reason room)
     (λ T next e. if-good (FitsIn faultCode) (ltb (length room) faultWords) _ _ (is-good (FitsIn faultCode) (refuses Small room) (refusal-fits Small)) (fault-fits T room))
+    refusal-fits
+
+-- ---- converting: into either kind
+
+pub converts-fit : (kind : Kind) (task room : List ℕ) (outcome : Outcome ℕ) → Converts kind task room outcome → FitsIn lengthCode outcome
+converts-fit kind task = file-fits kind (judgedAs (other kind) task) (λ T. T) (λ T next e. accepted-as task (other kind) T next e .1)
+
+pub converts-weights-fit : (kind : Kind) (task weights room : List ℕ) (outcome : Outcome ℕ) → ConvertsWeights kind task weights room outcome → FitsIn lengthCode outcome
+converts-weights-fit kind task weights room =
+    let bad : Reason → Outcome ℕ = λ reason. refuses reason room in
+    read-good (FitsIn lengthCode) (judgedTask task) _ bad
+    (λ T next e. read-good (FitsIn lengthCode) (judgedWeightsAs (other kind) (features (T .sizes)) weights) _ bad
+    (λ ws end q. let n = features (T .sizes) in
+    is-good (FitsIn lengthCode) _ (delivered-fits (weightBytesAs kind ws) room (omega (arith, weights-few kind 0 n ws (task-means task T next e .acceptable .limits .total) (weights-accepted-as weights (other kind) n ws end q)))))
+    refusal-fits)
     refusal-fits
 
 -- ---- the lines: they are short

@@ -2,11 +2,12 @@
 ghost use mathlib.Core.Path.{_≡_};
 ghost use lib.ListN.{getD};
 ghost use Rattle.meaning.specs.Limits.{mostVariables};
-ghost use Rattle.meaning.specs.Answer.{Checks, Opens, Finds, Edits, addOperator, replaceStart, replaceGoal};
+ghost use Rattle.meaning.specs.Answer.{Checks, ChecksNew, Opens, Finds, Edits, addOperator, replaceStart, replaceGoal};
 ghost use Rattle.meaning.specs.Bay.{Builds};
-ghost use Rattle.meaning.specs.Partial.{OpensPartial, ChecksPartial, BuildsPartial, BuildsPartialLean, Silences};
+ghost use Rattle.meaning.specs.Partial.{OpensPartial, ChecksPartial, ChecksPartialNew, BuildsPartial, BuildsPartialLean, Silences};
 ghost use Rattle.meaning.specs.Mend.{Mends, Drops, FaultsPairs};
-ghost use Rattle.meaning.specs.Place.{Displays, DisplaysPartial, DisplaysBay};
+ghost use Rattle.meaning.specs.Place.{Displays, DisplaysNew, DisplaysPartial, DisplaysBay};
+ghost use Rattle.meaning.specs.Convert.{ConvertsToNew, ConvertsToOld, ConvertsWeightsToNew, ConvertsWeightsToOld};
 ghost use Rattle.line.specs.Answer.{Lines};
 ghost use Rattle.verdicts.specs.Answer.{VerdictLines};
 ghost use Rattle.words.specs.Members.{membersIn};
@@ -219,4 +220,60 @@ pub extern "C" fn florumeja_display_bay(bay: &[u8], room: &mut [u64]) -> u64
     ensures { λ r. ⌜ Leaves holderCode (DisplaysBay (now (bay .entry)) (now (room .entry))) (record { number = r; lent = now (room .exit) }) ⌝ }
 {
     codes::displayed_number(showing::display_bay(bay, room))
+}
+
+// The new file of an old task file.
+#[no_mangle]
+pub extern "C" fn florumeja_to_new(task: &[u8], room: &mut [u8]) -> u64
+    ensures { λ r. ⌜ Leaves lengthCode (ConvertsToNew (now (task .entry)) (now (room .entry))) (record { number = r; lent = now (room .exit) }) ⌝ }
+{
+    codes::written_number(converting::to_new(task, room))
+}
+
+// The old file of a new task file.
+#[no_mangle]
+pub extern "C" fn florumeja_to_old(task: &[u8], room: &mut [u8]) -> u64
+    ensures { λ r. ⌜ Leaves lengthCode (ConvertsToOld (now (task .entry)) (now (room .entry))) (record { number = r; lent = now (room .exit) }) ⌝ }
+{
+    codes::written_number(converting::to_old(task, room))
+}
+
+// The new file of an old weight file, beside its task.
+#[no_mangle]
+pub extern "C" fn florumeja_weights_to_new(task: &[u8], weights: &[u8], room: &mut [u8]) -> u64
+    ensures { λ r. ⌜ Leaves lengthCode (ConvertsWeightsToNew (now (task .entry)) (now (weights .entry)) (now (room .entry))) (record { number = r; lent = now (room .exit) }) ⌝ }
+{
+    codes::written_number(converting::weights_to_new(task, weights, room))
+}
+
+// The old file of a new weight file, beside its task.
+#[no_mangle]
+pub extern "C" fn florumeja_weights_to_old(task: &[u8], weights: &[u8], room: &mut [u8]) -> u64
+    ensures { λ r. ⌜ Leaves lengthCode (ConvertsWeightsToOld (now (task .entry)) (now (weights .entry)) (now (room .entry))) (record { number = r; lent = now (room .exit) }) ⌝ }
+{
+    codes::written_number(converting::weights_to_old(task, weights, room))
+}
+
+// Checks new weights against a task.
+#[no_mangle]
+pub extern "C" fn florumeja_check_new(task: &[u8], weights: &[u8]) -> u64
+    ensures { λ r. ⌜ Coded verdictCode (ChecksNew (now (task .entry)) (now (weights .entry))) r ⌝ }
+{
+    codes::verdict_number(checking::check_new(task, weights))
+}
+
+// Checks new weights against a partial task: against its built task.
+#[no_mangle]
+pub extern "C" fn florumeja_check_partial_new(partial: &[u8], weights: &[u8]) -> u64
+    ensures { λ r. ⌜ Coded verdictCode (ChecksPartialNew (now (partial .entry)) (now (weights .entry))) r ⌝ }
+{
+    codes::verdict_number(checking::check_partial_new(partial, weights))
+}
+
+// Where the bytes at fault of a task and new weights lie.
+#[no_mangle]
+pub extern "C" fn florumeja_display_new(task: &[u8], weights: &[u8], room: &mut [u64]) -> u64
+    ensures { λ r. ⌜ Leaves holderCode (DisplaysNew (now (task .entry)) (now (weights .entry)) (now (room .entry))) (record { number = r; lent = now (room .exit) }) ⌝ }
+{
+    codes::displayed_number(showing::display_new(task, weights, room))
 }

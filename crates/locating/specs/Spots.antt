@@ -4,7 +4,7 @@ use mathlib.Core.Path.{_≡_, ap, _∙_}
 use mathlib.Core.List.{List}
 use Rattle.meaning.specs.Task.{Task}
 use Rattle.meaning.specs.Number.{Reason, Read, got, fault}
-use Rattle.meaning.specs.File.{judgedWeights}
+use Rattle.meaning.specs.File.{Kind, judgedWeightsAs}
 use Rattle.meaning.specs.Place.{Spot, nowhere, inWeights, inTask, faultSpot, spotBy, spotBeside}
 use Rattle.task.specs.Answer.{KnownAs}
 
@@ -18,7 +18,7 @@ module _ {A : Type 0} (file : ℕ → Spot) (rest : A → Spot) (spot : Spot) wh
   next-spot read a next e q = rw e q
 
 -- An accepted task leaves the fault to the weights.
-pub weights-spot : {judging : Read Task} {words left : List ℕ} {v n : ℕ} → KnownAs judging words left v n → (weights : List ℕ) (spot : Spot)
-    → spot ≡ spotBy inWeights (judgedWeights n weights) (λ _. nowhere) → spot ≡ spotBeside judging weights
-weights-spot {judging = judging} known weights spot e =
-    next-spot inTask _ spot judging (known .task) (known .next) (known .judged) (e ∙ ap (λ k. spotBy inWeights (judgedWeights k weights) (λ _. nowhere)) (known .total))
+pub weights-spot : {judging : Read Task} {words left : List ℕ} {v n : ℕ} → KnownAs judging words left v n → (kind : Kind) (weights : List ℕ) (spot : Spot)
+    → spot ≡ spotBy inWeights (judgedWeightsAs kind n weights) (λ _. nowhere) → spot ≡ spotBeside kind judging weights
+weights-spot {judging = judging} known kind weights spot e =
+    next-spot inTask _ spot judging (known .task) (known .next) (known .judged) (e ∙ ap (λ k. spotBy inWeights (judgedWeightsAs kind k weights) (λ _. nowhere)) (known .total))

@@ -15,7 +15,7 @@ use Rattle.meaning.specs.Pair.{paired, possible, clashing, stuck, idle, clashin
 use Rattle.meaning.specs.Slot.{Reduced, SlotsOf, Stored}
 use Rattle.meaning.specs.Weight.{Considered, Keeps, Allows, Meets, Separates}
 use Rattle.meaning.specs.Number.{Reason, refusal, Read, got, fault, groups, number, numbersOn}
-use Rattle.meaning.specs.File.{item, judge, limited, rising, ended, itemsOf, sizeList, header, featuresOf, featureList, entriesOf, operatorOf, operatorsOf, taskOf, judgedTask, judgedWeights}
+use Rattle.meaning.specs.File.{item, judge, limited, rising, ended, itemsOf, kindOf, markOf, sizeList, header, featureOf, featuresOf, featureList, entriesOf, operatorOf, operatorsOf, bodyOf, partsOf, taskAs, taskOf, judgedTask, judgedWeightsAs, judgedWeights}
 use Rattle.meaning.specs.Answer.{Answer, done, refused, byRead, Verdict, accepted, endsAlike, breaks, Breaks, Judges, Checks}
 use Rattle.meaning.specs.Bay.{sidesOf, bayOf, occurrences, oneGap, equalLots, judgedLots, judgedBay, neighbours, slide, bayOperators, bayPairs, taskFor}
 use Rattle.meaning.specs.Line.{Found, nothing, separating, Seeks, Says}
@@ -290,7 +290,8 @@ unfolding says? checks? byRead? refused? done? judges? breaks? seeks? least? run
     slots? reduced? inPlace? stored? slotsIn everySet states
     count shared some every anyOf allOf twoOf flat listed wholeNumber names applies applied
     sumOf pairsOf atoms features single pairStart double both trueIn parity paired possible clashing stuck idle clashingAfter uncovered closed holds
-    groups number numbersOn item judge limited rising ended itemsOf sizeList header featuresOf featureList entriesOf operatorOf operatorsOf taskOf judgedTask judgedWeights
+    groups number numbersOn item judge limited rising ended itemsOf kindOf markOf sizeList header featureOf featuresOf featureList entriesOf operatorOf operatorsOf bodyOf partsOf taskAs taskOf
+    judgedTask judgedWeightsAs
 computing = tt
 
 -- And this, beside it, all that a bay file and the task of a bay are.

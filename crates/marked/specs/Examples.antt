@@ -1,4 +1,4 @@
--- The worked examples of document 01, each by computing: a sentence of the document and the fact that it states.
+-- The worked examples of document 01, each by computing: a sentence of the document and the fact that it states. And three of the marked cases in files of the new kind (document 02, ticket 7).
 use Prim.Native.Nat.{ℕ, _-_, _*_}
 use mathlib.Core.Path.{_≡_, refl}
 use mathlib.Core.Bool.{true, false}
@@ -12,18 +12,18 @@ use Rattle.meaning.specs.Feature.{features}
 use Rattle.meaning.specs.Slot.{SlotsOf}
 use Rattle.meaning.specs.Weight.{Meets}
 use Rattle.meaning.specs.Number.{Limit, Padded, Endless, got, fault, groups, number, groupBytes, numberBytes}
-use Rattle.meaning.specs.File.{header, judgedTask, bytesOf, counted, entryBytes, operatorBytes, weightBytes, taskBytes}
+use Rattle.meaning.specs.File.{header, judgedTask, bytesOf, counted, entryBytes, operatorBytes, weightBytes, listBytes, taskBytesAs, taskBytes}
 use Rattle.meaning.specs.Workspace.{wordsOf, packed, contentOf}
-use Rattle.meaning.specs.Answer.{done, refused, Opens}
+use Rattle.meaning.specs.Answer.{done, refused, endsAlike, breaks, ChecksNew, Opens}
 use Rattle.meaning.specs.Place.{nowhere}
 use Rattle.meaning.specs.Line.{separating, Says, Prints, digits, word, wordsIn, line}
 use Rattle.meaning.specs.Bay.{Bay, judgedBay, bayTask, Builds}
-use Rattle.marked.specs.Decide.{computing, bays, slotsIn, slots?, slots-of}
+use Rattle.marked.specs.Decide.{tells-says, tells-checks, computing, bays, slotsIn, slots?, slots-of}
 use Rattle.marked.specs.Table.{finds, fileB, marked, marked-right}
 
 -- To name one of these on an `unfolding` line opens what the bytes of a task, the words of a workspace, a bay are computed with.
 writing : Unit {0}
-unfolding taskBytes counted bytesOf weightBytes operatorBytes entryBytes numberBytes groupBytes
+unfolding taskBytesAs listBytes counted bytesOf weightBytes operatorBytes entryBytes numberBytes groupBytes
 writing = tt
 
 opening : Unit {0}
@@ -173,6 +173,25 @@ opens-B = (slotsIn rowsB, slots-B, refl)
 pub opens-further-B : Opens fileB (replicate 16 0 ++ (8 ∷ 9 ∷ [])) (record { answer = done 16; lent = wordsB ++ (8 ∷ 9 ∷ []) })
 unfolding opening
 opens-further-B = (slotsIn rowsB, slots-B, refl)
+
+-- ---- smaller files (document 02, ticket 7)
+
+-- Case L as a new file: the mark in front, and the pairs 4 and 5 as 4 and no gap. It is judged as the old one.
+abbrev newL : List ℕ
+newL = 0 ∷ 2 ∷ 2 ∷ 2 ∷ 1 ∷ 0 ∷ 0 ∷ 0 ∷ 2 ∷ 4 ∷ 0 ∷ 1 ∷ 1 ∷ 0 ∷ 0 ∷ 1 ∷ []
+
+pub says-new-L : Says newL (done (separating (0 ∷ [])))
+unfolding computing
+says-new-L = tells-says newL (done (separating (0 ∷ []))) .yes refl
+
+-- Cases J and K with new weights have the verdicts that they have with the old ones.
+pub checks-new-J : ChecksNew fileB (0 ∷ 1 ∷ 0 ∷ []) (done endsAlike)
+unfolding computing
+checks-new-J = tells-checks fileB (1 ∷ 0 ∷ []) (done endsAlike) .yes refl
+
+pub checks-new-K : ChecksNew fileB (0 ∷ 1 ∷ 2 ∷ []) (done (breaks 0))
+unfolding computing
+checks-new-K = tells-checks fileB (1 ∷ 2 ∷ []) (done (breaks 0)) .yes refl
 
 -- ---- bays
 

@@ -13,7 +13,7 @@ use Rattle.meaning.specs.Pair.{idle, closed, holds}
 use Rattle.meaning.specs.Slot.{SlotsOf, Stored}
 use Rattle.meaning.specs.Weight.{Keeps, Allows, Meets, SeparatesBy, Separates, LeastOf}
 use Rattle.meaning.specs.Number.{Reason, Range, Unordered, Held, Unclosed, Small, Malformed, refusal, Read, got, fault}
-use Rattle.meaning.specs.File.{inside, judgedTask, judgedWeights}
+use Rattle.meaning.specs.File.{inside, Kind, plain, gapped, judgedTask, judgedWeightsAs}
 use Rattle.meaning.specs.Workspace.{Content, wordsOf, wordsFor, wordsDue, packed, WellFormed, contentOf}
 
 -- A result, or the paper's number of a refusal and "no other result".
@@ -64,18 +64,22 @@ Judges T weights accepted = Separates T weights
 Judges T weights endsAlike = parity (T .sizes) weights (T .start) ≡ parity (T .sizes) weights (T .goal)
 Judges T weights (breaks j) = Breaks T weights j
 
--- "Weights are read after a fully accepted task."
-abbrev pub ChecksAs : Read Task → List ℕ → Answer Verdict → Type 0
-ChecksAs judged weights answer =
+-- "Weights are read after a fully accepted task." "Callers say which kind of weight file they send."
+abbrev pub ChecksAs : Kind → Read Task → List ℕ → Answer Verdict → Type 0
+ChecksAs kind judged weights answer =
     byRead judged
-    (λ T. byRead (judgedWeights (features (T .sizes)) weights)
+    (λ T. byRead (judgedWeightsAs kind (features (T .sizes)) weights)
     (λ ws. (v : Verdict) × (answer ≡ done v) × Judges T (listed ws) v)
     (λ reason. answer ≡ refused (refusal reason)))
     (λ reason. answer ≡ refused (refusal reason))
 
 -- check(task, weights)
 abbrev pub Checks : List ℕ → List ℕ → Answer Verdict → Type 0
-Checks task = ChecksAs (judgedTask task)
+Checks task = ChecksAs plain (judgedTask task)
+
+-- check_new(task, weights)
+abbrev pub ChecksNew : List ℕ → List ℕ → Answer Verdict → Type 0
+ChecksNew task = ChecksAs gapped (judgedTask task)
 
 -- ---- opening
 

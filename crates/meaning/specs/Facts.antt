@@ -15,7 +15,7 @@ use Rattle.meaning.specs.Weight.{Considered, Keeps, Allows}
 use Rattle.meaning.specs.Grid.{made, used, kept, effect}
 use Rattle.meaning.specs.Number.{Ends, Padded, Endless, Limit, Range, LeftOver, Outgrown, refusal, hasPlace}
 use Rattle.meaning.specs.Number.{got, fault, groups, number, numbersOn}
-use Rattle.meaning.specs.File.{item, judge, rising, ended, itemsOf, sizeList, header, limited, featuresOf, featureList, operatorsOf, taskOf, judgedTask}
+use Rattle.meaning.specs.File.{item, judge, rising, ended, itemsOf, sizeList, header, limited, featureOf, featuresOf, featureList, operatorsOf, kindOf, markOf, bodyOf, partsOf, taskAs, taskOf, judgedTask}
 use Rattle.meaning.specs.Workspace.{has}
 use Rattle.meaning.specs.Answer.{done, refused, accepted, endsAlike, breaks, fine, faulty, entriesJudged}
 use Rattle.meaning.specs.Bay.{sidesOf, neighbours}
@@ -185,12 +185,12 @@ range-first = refl
 
 -- In a file: after the pair feature 5, at place 9, comes 3, which is no pair feature and does not increase either.
 range-first-in-files : judgedTask (2 ∷ 2 ∷ 2 ∷ 0 ∷ 0 ∷ 0 ∷ 1 ∷ 2 ∷ 5 ∷ 3 ∷ 0 ∷ []) ≡ fault Range 9
-unfolding judgedTask taskOf header sizeList itemsOf limited featureList featuresOf item judge rising number groups features atoms pairsOf sumOf
+unfolding judgedTask taskOf kindOf taskAs markOf partsOf bodyOf header sizeList itemsOf limited featureList featuresOf featureOf item judge rising number groups features atoms pairsOf sumOf
 range-first-in-files = refl
 
 -- 5 before 6: a start that holds a listed pair, and a byte left over.
 left-over-first : judgedTask (2 ∷ 2 ∷ 2 ∷ 1 ∷ 1 ∷ 0 ∷ 0 ∷ 1 ∷ 7 ∷ 0 ∷ 0 ∷ []) ≡ fault LeftOver 10
-unfolding judgedTask taskOf header sizeList itemsOf limited featureList featuresOf operatorsOf item judge rising ended number groups features atoms pairsOf sumOf
+unfolding judgedTask taskOf kindOf taskAs markOf partsOf bodyOf header sizeList itemsOf limited featureList featuresOf featureOf operatorsOf item judge rising ended number groups features atoms pairsOf sumOf
 left-over-first = refl
 
 -- N is placed at the last size: five sizes of 64, from place 1 on.

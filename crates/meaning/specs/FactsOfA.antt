@@ -13,7 +13,7 @@ use Rattle.meaning.specs.Feature.{sumOf, pairsOf, atoms, features, singl
 use Rattle.meaning.specs.Pair.{paired, holds}
 use Rattle.meaning.specs.Weight.{Separates}
 use Rattle.meaning.specs.Number.{Malformed, Small, groups, number}
-use Rattle.meaning.specs.File.{item, judge, ended, itemsOf, sizeList, header, limited, featuresOf, featureList, operatorsOf, taskOf, judgedTask}
+use Rattle.meaning.specs.File.{item, judge, ended, itemsOf, sizeList, header, limited, featureOf, featuresOf, featureList, operatorsOf, kindOf, markOf, bodyOf, partsOf, taskAs, taskOf, judgedTask}
 use Rattle.meaning.specs.Workspace.{Content, wordsFor, packed, wordsOf, WellFormed}
 use Rattle.meaning.specs.Answer.{Answer, done, refused, Outcome, refuses, Opens, Finding, separated, SeparatesIn, FindsIn, Finds}
 use Rattle.meaning.specs.Line.{Found, nothing, separating, Says}
@@ -43,7 +43,7 @@ separates-in-A = record { ends = true≢false; keeps = λ i l. refl }
 
 -- An opening in the 16 words that are due is not refused.
 open-A : (outcome : Outcome ℕ) → Opens fileA (replicate 16 0) outcome → outcome .answer ≡ done 16
-unfolding judgedTask taskOf header sizeList itemsOf limited featureList featuresOf operatorsOf item judge ended number groups features atoms pairsOf sumOf holds some allOf paired listed anyOf
+unfolding judgedTask taskOf kindOf taskAs markOf partsOf bodyOf header sizeList itemsOf limited featureList featuresOf featureOf operatorsOf item judge ended number groups features atoms pairsOf sumOf holds some allOf paired listed anyOf
 open-A outcome (slots, shape, e) = ap (λ o. o .answer) e
 
 -- "None" is not found.
@@ -53,7 +53,7 @@ find-A room outcome (inr h) = ap (λ o. o .answer) (h .2)
 
 -- "None" is not said of the file, nor is it refused.
 said-A : (answer : Answer Found) → Says fileA answer → (fs : List ℕ) × (answer ≡ done (separating fs))
-unfolding judgedTask taskOf header sizeList itemsOf limited featureList featuresOf operatorsOf item judge ended number groups features atoms pairsOf sumOf holds some allOf paired listed anyOf
+unfolding judgedTask taskOf kindOf taskAs markOf partsOf bodyOf header sizeList itemsOf limited featureList featuresOf featureOf operatorsOf item judge ended number groups features atoms pairsOf sumOf holds some allOf paired listed anyOf
 said-A answer (nothing, e, never) = absurd (never _ separates-A)
 said-A answer (separating fs, e, h) = (fs, e)
 

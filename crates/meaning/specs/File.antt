@@ -1,10 +1,10 @@
--- Task files and weight files: what is judged, in which order, with which outcome; and the bytes of a task and of a weight list.
-use Prim.Native.Nat.{ℕ, zero, suc, _<_, _≤_}
+-- Task files and weight files, of the old kind and the new (document 02, ticket 7): what is judged, in which order, with which outcome; and the bytes of a task and of a weight list.
+use Prim.Native.Nat.{ℕ, zero, suc, _+_, _-_, _<_, _≤_}
 use mathlib.Core.Path.{_≡_}
 use mathlib.Core.Bool.{Bool, true, false, _&&_, cond}
 use mathlib.Core.List.{List, [], _∷_, _++_, List·Memᴰ as In}
 use lib.ListN.{length, replicate}
-use lib.Dec.{leb, ltb}
+use lib.Dec.{eqb, leb, ltb}
 use Rattle.meaning.specs.Sets.{listed, allOf}
 use Rattle.meaning.specs.Limits.{leastVariables, mostVariables, leastSize, mostSize, mostFeatures, numberEnd}
 use Rattle.meaning.specs.Task.{Entry, Operator, Task, State, IsOperator, Run, size}
@@ -56,6 +56,33 @@ itemsOf low reason [] = give []
 itemsOf low reason (bound ∷ bounds) =
     then (item (inside low bound) reason) (λ n. then (itemsOf low reason bounds) (λ ns. give (n ∷ ns)))
 
+-- ---- the kinds of files
+
+-- The old kind has its features as they are, the new one "as the first number and then each gap less one".
+pub data Kind : Type 0 where
+  plain gapped : Kind
+
+abbrev pub kindIf : Bool → Kind
+kindIf false = plain
+kindIf true = gapped
+
+abbrev pub other : Kind → Kind
+other plain = gapped
+other gapped = plain
+
+-- "The new task file starts with the number 0"; "a first number other than 0 where the new kind is due is 3". An old file has no mark.
+unfoldable pub markOf : Kind → Parser (Unit {0})
+markOf plain = give tt
+markOf gapped = then (item (inside 0 1) Range) (λ _. give tt)
+
+-- "either kind of task file, by its first number"
+abbrev pub kindBy : Read ℕ → Kind
+kindBy (got n next) = kindIf (eqb n 0)
+kindBy (fault reason place) = plain
+
+unfoldable pub kindOf : List ℕ → ℕ → Kind
+kindOf bytes place = kindBy (number bytes place)
+
 -- ---- the parts of a task file
 
 -- So many sizes, each from `least` to `most`.
@@ -74,15 +101,23 @@ header least most = limited (sizeList least most) (λ sizes. leb (features sizes
 abbrev pub valuesOf : List ℕ → Parser (List ℕ)
 valuesOf sizes = itemsOf 0 Range sizes
 
+-- The next feature of a list that has to be `least` or more, which is 0 for the first: it stands there itself; or how far it is above that, and "a gap list whose sum passes
+-- the range is 3".
+unfoldable pub featureOf : Kind → ℕ → ℕ → ℕ → Parser ℕ
+featureOf plain low high least = rising low high least
+featureOf gapped low high least =
+    λ bytes place.
+    onRead (number bytes place) (λ n next. cond (inside low high (least + n)) (got (least + n) next) (fault Range place))
+
 -- So many features in a range, "strictly increasing".
-unfoldable pub featuresOf : ℕ → ℕ → ℕ → ℕ → Parser (List ℕ)
-featuresOf zero low high least = give []
-featuresOf (suc k) low high least =
-    then (rising low high least) (λ f. then (featuresOf k low high (suc f)) (λ fs. give (f ∷ fs)))
+unfoldable pub featuresOf : Kind → ℕ → ℕ → ℕ → ℕ → Parser (List ℕ)
+featuresOf kind zero low high least = give []
+featuresOf kind (suc k) low high least =
+    then (featureOf kind low high least) (λ f. then (featuresOf kind k low high (suc f)) (λ fs. give (f ∷ fs)))
 
 -- "count and features": the pairs of a task, and a weight list.
-unfoldable pub featureList : ℕ → ℕ → Parser (List ℕ)
-featureList low high = then number (λ k. featuresOf k low high 0)
+unfoldable pub featureList : Kind → ℕ → ℕ → Parser (List ℕ)
+featureList kind low high = then number (λ k. featuresOf kind k low high 0)
 
 -- So many triples, their variables increasing.
 unfoldable pub entriesOf : List ℕ → ℕ → ℕ → Parser Operator
@@ -102,17 +137,27 @@ operatorsOf sizes zero = give []
 operatorsOf sizes (suc k) = then (operatorOf sizes) (λ o. then (operatorsOf sizes k) (λ os. give (o ∷ os)))
 
 -- "A task file: v; sizes; start; goal; pair count and pair features, strictly increasing; operator count; each operator as entry count and
--- then its triples. .. Nothing follows."
-unfoldable pub taskOf : Parser Task
-taskOf =
-    then (header leastSize mostSize)
-    (λ sizes. then (valuesOf sizes)
+-- then its triples. .. Nothing follows." What stands behind the sizes, and what stands behind the mark of a kind.
+unfoldable pub bodyOf : Kind → List ℕ → Parser Task
+bodyOf kind sizes =
+    then (valuesOf sizes)
     (λ start. then (valuesOf sizes)
-    (λ goal. then (featureList (atoms sizes) (features sizes))
+    (λ goal. then (featureList kind (atoms sizes) (features sizes))
     (λ pairs. then number
     (λ k. then (operatorsOf sizes k)
     (λ operators. then ended
-    (λ _. give (record { sizes = sizes; start = start; goal = goal; pairs = pairs; operators = operators }))))))))
+    (λ _. give (record { sizes = sizes; start = start; goal = goal; pairs = pairs; operators = operators })))))))
+
+unfoldable pub partsOf : Kind → Parser Task
+partsOf kind = then (header leastSize mostSize) (bodyOf kind)
+
+-- A task file of one kind.
+unfoldable pub taskAs : Kind → Parser Task
+taskAs kind = then (markOf kind) (λ _. partsOf kind)
+
+-- "Readers take either kind of task file, by its first number".
+unfoldable pub taskOf : Parser Task
+taskOf bytes place = taskAs (kindOf bytes place) bytes place
 
 -- "Then come 5, 6, 7 by operator": a start that holds a pair, an operator under which the pairs are not closed. Neither has a place.
 abbrev pub judgedPairs : Task → ℕ → Read Task
@@ -121,16 +166,20 @@ judgedPairs T next =
     (fault Held 0)
     (cond (allOf (closed (T .sizes) (listed (T .pairs))) (T .operators)) (got T next) (fault Unclosed 0))
 
-abbrev pub judgedFrom : Parser Task
-judgedFrom bytes place = onRead (taskOf bytes place) judgedPairs
-
--- A task file is judged from its first byte on.
+-- A task file is judged from its first byte on: one of either kind, and one of the kind that is due.
 unfoldable pub judgedTask : List ℕ → Read Task
-judgedTask bytes = judgedFrom bytes 0
+judgedTask bytes = onRead (taskOf bytes 0) judgedPairs
 
--- "A weight file: count and features, strictly increasing. Nothing follows." The features of a task with n features.
-unfoldable pub judgedWeights : ℕ → List ℕ → Read (List ℕ)
-judgedWeights n bytes = then (featureList 0 n) (λ weights. then ended (λ _. give weights)) bytes 0
+unfoldable pub judgedAs : Kind → List ℕ → Read Task
+judgedAs kind bytes = onRead (taskAs kind bytes 0) judgedPairs
+
+-- "A weight file: count and features, strictly increasing. Nothing follows." The features of a task with n features. "A new weight file also begins with 0; in it the count
+-- follows."
+unfoldable pub judgedWeightsAs : Kind → ℕ → List ℕ → Read (List ℕ)
+judgedWeightsAs kind n bytes = then (markOf kind) (λ _. then (featureList kind 0 n) (λ weights. then ended (λ _. give weights))) bytes 0
+
+abbrev pub judgedWeights : ℕ → List ℕ → Read (List ℕ)
+judgedWeights = judgedWeightsAs plain
 
 -- ---- tasks that can be accepted, and their bytes
 
@@ -175,12 +224,38 @@ entryBytes e = numberBytes (e .variable) ++ (numberBytes (e .before) ++ numberBy
 unfoldable pub operatorBytes : Operator → List ℕ
 operatorBytes o = counted entryBytes o
 
--- A count and features: the pairs of a task, and a whole weight file.
+-- A count and numbers: the pairs of a task and a whole weight file, of the old kind.
 unfoldable pub weightBytes : List ℕ → List ℕ
 weightBytes weights = counted numberBytes weights
 
-unfoldable pub taskBytes : Task → List ℕ
-taskBytes T =
-    counted numberBytes (T .sizes)
+-- How far each feature is above the least that it can be: the first number, and then each gap less one.
+unfoldable pub gapsFrom : ℕ → List ℕ → List ℕ
+gapsFrom least [] = []
+gapsFrom least (f ∷ fs) = (f - least) ∷ gapsFrom (suc f) fs
+
+-- The numbers that stand for features.
+abbrev pub numbersFor : Kind → ℕ → List ℕ → List ℕ
+numbersFor plain least fs = fs
+numbersFor gapped least fs = gapsFrom least fs
+
+-- A count and features.
+unfoldable pub listBytes : Kind → List ℕ → List ℕ
+listBytes kind fs = weightBytes (numbersFor kind 0 fs)
+
+abbrev pub markBytes : Kind → List ℕ
+markBytes plain = []
+markBytes gapped = numberBytes 0
+
+-- A weight file, and a task file, of a kind.
+unfoldable pub weightBytesAs : Kind → List ℕ → List ℕ
+weightBytesAs kind weights = markBytes kind ++ listBytes kind weights
+
+unfoldable pub taskBytesAs : Kind → Task → List ℕ
+taskBytesAs kind T =
+    markBytes kind
+    ++ (counted numberBytes (T .sizes)
     ++ (bytesOf numberBytes (T .start)
-    ++ (bytesOf numberBytes (T .goal) ++ (weightBytes (T .pairs) ++ counted operatorBytes (T .operators))))
+    ++ (bytesOf numberBytes (T .goal) ++ (listBytes kind (T .pairs) ++ counted operatorBytes (T .operators)))))
+
+abbrev pub taskBytes : Task → List ℕ
+taskBytes = taskBytesAs plain

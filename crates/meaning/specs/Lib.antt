@@ -14,11 +14,13 @@ pub mod Bay
 pub mod Partial
 pub mod Mend
 pub mod Place
+pub mod Convert
 pub mod Line
 pub mod History
 pub mod Before
 pub mod Facts
 pub mod PlaceFacts
+pub mod KindFacts
 pub mod FactsOfA
 pub mod LimitFacts
 pub mod LotFacts

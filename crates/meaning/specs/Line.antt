@@ -11,7 +11,7 @@ use Rattle.meaning.specs.Task.{Task, Run}
 use Rattle.meaning.specs.Feature.{features}
 use Rattle.meaning.specs.Weight.{Separates, LeastOf}
 use Rattle.meaning.specs.Number.{Small, refusal, Read, got, fault}
-use Rattle.meaning.specs.File.{judgedTask}
+use Rattle.meaning.specs.File.{plain, judgedTask}
 use Rattle.meaning.specs.Answer.{Answer, done, refused, byRead, Verdict, accepted, endsAlike, breaks, Checks}
 use Rattle.meaning.specs.Bay.{judgedBay}
 use Rattle.meaning.specs.Place.{Spot, nowhere, inTask, inWeights, spotAlone, spotBeside}
@@ -105,7 +105,7 @@ ChecksFiles task weights answer =
 
 -- Where the first fault of the two files stands; if one of them is too long none is known.
 abbrev pub checkedSpot : List ℕ → List ℕ → Spot
-checkedSpot task weights = spotBeside (judgedTask task) weights
+checkedSpot task weights = spotBeside plain (judgedTask task) weights
 
 abbrev pub filesSpot : List ℕ → List ℕ → Spot
 filesSpot task weights = cond (tooLong task weights) nowhere (checkedSpot task weights)

@@ -14,7 +14,7 @@ use Rattle.meaning.specs.Feature.{atoms, features}
 use Rattle.meaning.specs.Pair.{closed, holds, heldPair, unclosedPair}
 use Rattle.meaning.specs.Slot.{LeastMember}
 use Rattle.meaning.specs.Number.{Small}
-use Rattle.meaning.specs.File.{taskOf, weightBytes, taskBytes}
+use Rattle.meaning.specs.File.{kindOf, taskOf, weightBytes, taskBytesAs}
 use Rattle.meaning.specs.Answer.{Outcome, refuses, writes, delivered, byRead}
 
 -- ---- good lists
@@ -50,11 +50,11 @@ mended T kept = record { sizes = T .sizes; start = T .start; goal = T .goal; pai
 
 -- ---- the calls
 
--- mend(task, room): "a tool that keeps the largest good sublist"; it "gives no 6 or 7". The mended task's file.
+-- mend(task, room): "a tool that keeps the largest good sublist"; it "gives no 6 or 7". The mended task's file, of the kind that came.
 abbrev pub Mends : List ℕ → List ℕ → Outcome ℕ → Type 0
 Mends task room outcome =
     byRead (taskOf task 0)
-    (λ T. (kept : List ℕ) × Largest T kept × (outcome ≡ delivered (taskBytes (mended T kept)) room))
+    (λ T. (kept : List ℕ) × Largest T kept × (outcome ≡ delivered (taskBytesAs (kindOf task 0) (mended T kept)) room))
     (λ reason. outcome ≡ refuses reason room)
 
 -- dropped(task, room): "and says which pairs it dropped", as count and features.

@@ -14,8 +14,8 @@ use Rattle.meaning.specs.Feature.{sumOf, pairsOf, atoms, features, pairS
 use Rattle.meaning.specs.Pair.{paired, possible, clashing, stuck, idle, clashingAfter, uncovered, closed, holds, heldPair, joinsAfters, joinsPossible, unclosedPair}
 use Rattle.meaning.specs.Slot.{LeastMember}
 use Rattle.meaning.specs.Number.{groups, number, groupBytes, numberBytes}
-use Rattle.meaning.specs.File.{item, judge, rising, ended, itemsOf, sizeList, header, limited, featuresOf, featureList, entriesOf, operatorOf, operatorsOf, taskOf}
-use Rattle.meaning.specs.File.{bytesOf, counted, entryBytes, operatorBytes, weightBytes, taskBytes}
+use Rattle.meaning.specs.File.{item, judge, rising, ended, itemsOf, sizeList, header, limited, featureOf, featuresOf, featureList, entriesOf, operatorOf, operatorsOf, gapped, kindOf, markOf, bodyOf, partsOf, taskAs, taskOf}
+use Rattle.meaning.specs.File.{bytesOf, counted, entryBytes, operatorBytes, weightBytes, gapsFrom, listBytes, taskBytesAs, taskBytes}
 use Rattle.meaning.specs.Answer.{done, Outcome, writes, delivered}
 use Rattle.meaning.specs.Mend.{Good, Within, Sublist, Largest, Dropped, mended, Mends, Drops, PairFault, noFault, startHolds, operatorBreaks, LeastHeld, LeastUnclosed, FaultsPairs}
 use Rattle.meaning.specs.Facts.{pairOfTwo}
@@ -27,11 +27,11 @@ unfolding pairStart double both paired possible clashing stuck idle clashingAfte
 pairing = tt
 
 reading : Unit {0}
-unfolding taskOf header limited sizeList itemsOf featureList featuresOf operatorsOf operatorOf entriesOf item judge rising ended number groups features atoms pairsOf sumOf
+unfolding taskOf kindOf taskAs markOf partsOf bodyOf header limited sizeList itemsOf featureList featuresOf featureOf operatorsOf operatorOf entriesOf item judge rising ended number groups features atoms pairsOf sumOf
 reading = tt
 
 writing : Unit {0}
-unfolding taskBytes counted bytesOf entryBytes operatorBytes weightBytes numberBytes groupBytes
+unfolding taskBytesAs listBytes gapsFrom counted bytesOf entryBytes operatorBytes weightBytes numberBytes groupBytes
 writing = tt
 
 -- ---- the tasks
@@ -259,6 +259,12 @@ G-mended : (outcome : Outcome ℕ) → Mends fileG (replicate 15 9) outcome
     → outcome ≡ record { answer = done 13; lent = 2 ∷ 2 ∷ 2 ∷ 0 ∷ 0 ∷ 1 ∷ 0 ∷ 0 ∷ 1 ∷ 1 ∷ 0 ∷ 0 ∷ 1 ∷ 9 ∷ 9 ∷ [] }
 unfolding reading pairing writing
 G-mended outcome (kept, largest, e) = e ∙ ap (λ l. delivered (taskBytes (mended taskG l)) (replicate 15 9)) (G-kept kept largest)
+
+-- of the kind that came: the same of a new file.
+G-mended-new : (outcome : Outcome ℕ) → Mends (0 ∷ fileG) (replicate 15 9) outcome
+    → outcome ≡ record { answer = done 14; lent = 0 ∷ 2 ∷ 2 ∷ 2 ∷ 0 ∷ 0 ∷ 1 ∷ 0 ∷ 0 ∷ 1 ∷ 1 ∷ 0 ∷ 0 ∷ 1 ∷ 9 ∷ [] }
+unfolding reading pairing writing
+G-mended-new outcome (kept, largest, e) = e ∙ ap (λ l. delivered (taskBytesAs gapped (mended taskG l)) (replicate 15 9)) (G-kept kept largest)
 
 -- 7 is said to be dropped,
 G-lost : (kept dropped : List ℕ) → Largest taskG kept → Dropped taskG kept dropped → dropped ≡ 7 ∷ []

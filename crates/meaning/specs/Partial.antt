@@ -13,7 +13,7 @@ use Rattle.meaning.specs.Feature.{atoms, features, double}
 use Rattle.meaning.specs.Pair.{paired}
 use Rattle.meaning.specs.Weight.{Leads}
 use Rattle.meaning.specs.Number.{Range, Outgrown, Read, fault, onRead, number, numberBytes}
-use Rattle.meaning.specs.File.{Parser, give, then, inside, item, limited, ended, itemsOf, sizeList, valuesOf, featureList, operatorsOf, judgedPairs, judgedTask, bytesOf, counted, operatorBytes, weightBytes, taskBytes}
+use Rattle.meaning.specs.File.{Parser, give, then, inside, item, limited, ended, itemsOf, sizeList, valuesOf, plain, gapped, featureList, operatorsOf, judgedPairs, judgedTask, bytesOf, counted, operatorBytes, weightBytes, taskBytes}
 use Rattle.meaning.specs.Answer.{Answer, Outcome, Verdict, Judged, fine, faulty, need, valuesJudged, refuses, delivered, byRead, OpensAs, ChecksAs}
 use Rattle.meaning.specs.Bay.{SameLabels}
 
@@ -118,14 +118,14 @@ goalOf (d ∷ ds) [] = give []
 goalOf (d ∷ ds) (m ∷ ms) =
     then (cond (eqb m 1) (item (inside 0 d) Range) (give d)) (λ x. then (goalOf ds ms) (λ xs. give (x ∷ xs)))
 
--- The rest as in a task file: "values and pair features count by" the old sizes.
+-- The rest as in a task file of the old kind: "values and pair features count by" the old sizes.
 unfoldable pub partialOf : Parser Partial
 partialOf =
     then partialHeader
     (λ sizes. then (marksOf (length sizes))
     (λ marks. then (valuesOf sizes)
     (λ start. then (goalOf sizes marks)
-    (λ goal. then (featureList (atoms sizes) (features sizes))
+    (λ goal. then (featureList plain (atoms sizes) (features sizes))
     (λ pairs. then number
     (λ k. then (operatorsOf sizes k)
     (λ operators. then ended
@@ -178,7 +178,11 @@ abbrev pub OpensPartial : List ℕ → List ℕ → Outcome ℕ → Type 0
 OpensPartial file = OpensAs (judgedPartial leftOut file)
 
 abbrev pub ChecksPartial : List ℕ → List ℕ → Answer Verdict → Type 0
-ChecksPartial file = ChecksAs (judgedPartial leftOut file)
+ChecksPartial file = ChecksAs plain (judgedPartial leftOut file)
+
+-- check_partial_new(partial, weights)
+abbrev pub ChecksPartialNew : List ℕ → List ℕ → Answer Verdict → Type 0
+ChecksPartialNew file = ChecksAs gapped (judgedPartial leftOut file)
 
 -- The built task as a task file.
 abbrev pub BuildsBy : (Partial → ℕ → ℕ → Bool) → List ℕ → List ℕ → Outcome ℕ → Type 0

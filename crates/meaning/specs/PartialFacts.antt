@@ -11,15 +11,15 @@ use Rattle.meaning.specs.Task.{Operator, Task, names}
 use Rattle.meaning.specs.Feature.{sumOf, pairsOf, atoms, features, pairStart, double, both}
 use Rattle.meaning.specs.Pair.{paired, possible, clashing, stuck, idle, clashingAfter, uncovered, closed, holds}
 use Rattle.meaning.specs.Number.{Limit, Range, LeftOver, Held, Unclosed, Outgrown, refusal, got, fault, groups, number, numbersOn, groupBytes, numberBytes}
-use Rattle.meaning.specs.File.{item, judge, rising, ended, itemsOf, sizeList, header, limited, featuresOf, featureList, entriesOf, operatorOf, operatorsOf, taskOf, judgedTask}
-use Rattle.meaning.specs.File.{bytesOf, counted, entryBytes, operatorBytes, weightBytes, taskBytes}
+use Rattle.meaning.specs.File.{item, judge, rising, ended, itemsOf, sizeList, header, limited, featureOf, featuresOf, featureList, entriesOf, operatorOf, operatorsOf, kindOf, markOf, bodyOf, partsOf, taskAs, taskOf, judgedTask}
+use Rattle.meaning.specs.File.{bytesOf, counted, entryBytes, operatorBytes, weightBytes, listBytes, taskBytesAs, taskBytes}
 use Rattle.meaning.specs.Answer.{done, Outcome, fine, faulty, valuesJudged}
 use Rattle.meaning.specs.Partial.{Partial, named, eachPair, builtPairs, forgettings, builtTask, againstGoal, leftOut, leftOutLean, partialHeader, goalOf, partialOf, judgedPartial}
 use Rattle.meaning.specs.Partial.{marksIn, namedIn, partialBytes, BuildsPartial, silenced, marksJudged, Silences}
 
 -- To name one of these on an `unfolding` line opens what files are read with, what pairs are judged with, what a task is built with, what bytes are written with.
 reading : Unit {0}
-unfolding partialOf partialHeader limited sizeList itemsOf goalOf featureList featuresOf operatorsOf operatorOf entriesOf item judge rising ended number groups numbersOn
+unfolding partialOf partialHeader limited sizeList itemsOf goalOf featureList featuresOf featureOf operatorsOf operatorOf entriesOf item judge rising ended number groups numbersOn
     features atoms pairsOf sumOf
 reading = tt
 
@@ -32,7 +32,7 @@ unfolding reading pairing judgedPartial builtTask builtPairs eachPair forgetting
 building = tt
 
 writing : Unit {0}
-unfolding taskBytes partialBytes marksIn namedIn flat counted bytesOf entryBytes operatorBytes weightBytes numberBytes groupBytes
+unfolding taskBytesAs listBytes partialBytes marksIn namedIn flat counted bytesOf entryBytes operatorBytes weightBytes numberBytes groupBytes
 writing = tt
 
 -- ---- the built task
@@ -146,7 +146,7 @@ abbrev stuckFile : List ℕ
 stuckFile = 3 ∷ 2 ∷ 2 ∷ 2 ∷ 1 ∷ 0 ∷ 1 ∷ 0 ∷ 0 ∷ 0 ∷ pairsAndLift
 
 stuck-accepted : judgedTask stuckFile ≡ got stuckTask 19
-unfolding reading pairing judgedTask taskOf header
+unfolding reading pairing judgedTask taskOf kindOf taskAs markOf partsOf bodyOf header
 stuck-accepted = refl
 
 -- With the marks 0, 1, 1 its partial file names the goal values of the variables 1 and 2.
@@ -179,5 +179,5 @@ unfolding building writing
 build-written outcome e = ap (λ o. o .answer) e
 
 silence-written : (outcome : Outcome ℕ) → Silences stuckFile (0 ∷ 1 ∷ 1 ∷ []) (replicate 40 0) outcome → outcome .answer ≡ done 21
-unfolding reading pairing writing judgedTask taskOf header marksJudged valuesJudged silenced table
+unfolding reading pairing writing judgedTask taskOf kindOf taskAs markOf partsOf bodyOf header marksJudged valuesJudged silenced table
 silence-written outcome e = ap (λ o. o .answer) e

@@ -9,7 +9,7 @@ use Rattle.meaning.specs.Limits.{placeWords}
 use Rattle.meaning.specs.Task.{Task}
 use Rattle.meaning.specs.Feature.{features}
 use Rattle.meaning.specs.Number.{Reason, Small, hasPlace, Read, got, fault, bytesRead}
-use Rattle.meaning.specs.File.{judgedTask, judgedWeights}
+use Rattle.meaning.specs.File.{Kind, plain, gapped, judgedTask, judgedWeightsAs}
 use Rattle.meaning.specs.Answer.{Outcome, refuses, writes}
 use Rattle.meaning.specs.Bay.{judgedBay}
 use Rattle.meaning.specs.Partial.{leftOut, judgedPartial}
@@ -35,8 +35,9 @@ abbrev pub spotAlone : {A : Type 0} → Read A → Spot
 spotAlone read = spotBy inTask read (λ _. nowhere)
 
 -- The first fault of a task that was judged and of the weights beside it: "Weights are read after a fully accepted task."
-abbrev pub spotBeside : Read Task → List ℕ → Spot
-spotBeside judged weights = spotBy inTask judged (λ T. spotBy inWeights (judgedWeights (features (T .sizes)) weights) (λ _. nowhere))
+abbrev pub spotBeside : Kind → Read Task → List ℕ → Spot
+spotBeside kind judged weights =
+    spotBy inTask judged (λ T. spotBy inWeights (judgedWeightsAs kind (features (T .sizes)) weights) (λ _. nowhere))
 
 -- ---- what is shown
 
@@ -50,13 +51,16 @@ partAt task weights nowhere = ofTask 0 0
 partAt task weights (inTask place) = ofTask place (bytesRead task place)
 partAt task weights (inWeights place) = ofWeights place (bytesRead weights place)
 
--- "the offending bytes, taken from whichever of the two files holds them"
-unfoldable pub shown : List ℕ → List ℕ → Part
-shown task weights = partAt task weights (spotBeside (judgedTask task) weights)
+-- "the offending bytes, taken from whichever of the two files holds them"; the caller says which kind the weights are.
+unfoldable pub shownAs : Kind → List ℕ → List ℕ → Part
+shownAs kind task weights = partAt task weights (spotBeside kind (judgedTask task) weights)
+
+abbrev pub shown : List ℕ → List ℕ → Part
+shown = shownAs plain
 
 -- The same of a partial task file and weights for its built task. Which forgetting operators are left out moves no place.
 unfoldable pub shownPartial : List ℕ → List ℕ → Part
-shownPartial partial weights = partAt partial weights (spotBeside (judgedPartial leftOut partial) weights)
+shownPartial partial weights = partAt partial weights (spotBeside plain (judgedPartial leftOut partial) weights)
 
 -- The same of a bay file, which comes alone.
 unfoldable pub shownBay : List ℕ → Part
@@ -89,6 +93,10 @@ displayed part room = cond (ltb (length room) placeWords) (refuses Small room) (
 -- display(task, weights, room)
 abbrev pub Displays : List ℕ → List ℕ → List ℕ → Outcome Holder → Type 0
 Displays task weights room outcome = outcome ≡ displayed (shown task weights) room
+
+-- display_new(task, weights, room)
+abbrev pub DisplaysNew : List ℕ → List ℕ → List ℕ → Outcome Holder → Type 0
+DisplaysNew task weights room outcome = outcome ≡ displayed (shownAs gapped task weights) room
 
 -- display_partial(partial, weights, room)
 abbrev pub DisplaysPartial : List ℕ → List ℕ → List ℕ → Outcome Holder → Type 0

@@ -6,17 +6,17 @@ use Rattle.meaning.specs.Sets.{listed, anyOf, allOf, some}
 use Rattle.meaning.specs.Feature.{sumOf, pairsOf, atoms, features, pairStart, double, both}
 use Rattle.meaning.specs.Pair.{paired, holds}
 use Rattle.meaning.specs.Number.{Ends, Padded, Endless, refusal, fault, groups, number, numbersOn, groupsRead, bytesRead}
-use Rattle.meaning.specs.File.{item, judge, rising, ended, itemsOf, sizeList, header, limited, featuresOf, featureList, entriesOf, operatorOf, operatorsOf, taskOf, judgedTask, judgedWeights}
+use Rattle.meaning.specs.File.{item, judge, rising, ended, itemsOf, sizeList, header, limited, featureOf, featuresOf, featureList, entriesOf, operatorOf, operatorsOf, kindOf, markOf, bodyOf, partsOf, taskAs, taskOf, judgedTask, judgedWeightsAs}
 use Rattle.meaning.specs.Answer.{done, refused}
 use Rattle.meaning.specs.Bay.{sidesOf, bayOf, occurrences, oneGap, judgedLots, judgedBay}
 use Rattle.meaning.specs.Partial.{partialHeader, partialOf, judgedPartial}
-use Rattle.meaning.specs.Place.{nowhere, inTask, inWeights, ofTask, ofWeights, shown, shownPartial, shownBay, bytesIn, taskHolds, weightsHold, displayed}
+use Rattle.meaning.specs.Place.{nowhere, inTask, inWeights, ofTask, ofWeights, shownAs, shown, shownPartial, shownBay, bytesIn, taskHolds, weightsHold, displayed}
 use Rattle.meaning.specs.Line.{digits, word, atPlace, spotText, placeText, fileText, refusedLine, line, verdictLine, bayLine}
 
 -- To name this on an `unfolding` line opens what files are judged and faults are shown with.
 unfoldable judging : Unit {0}
-unfolding shown shownPartial shownBay bytesRead groupsRead judgedTask judgedWeights judgedPartial judgedBay taskOf partialOf bayOf header sizeList partialHeader sidesOf itemsOf limited
-    featureList featuresOf entriesOf operatorOf operatorsOf item judge rising ended number groups numbersOn features atoms pairsOf sumOf holds some paired both double pairStart listed anyOf allOf
+unfolding shownAs shownPartial shownBay bytesRead groupsRead judgedTask judgedWeightsAs judgedPartial judgedBay taskOf kindOf taskAs markOf partsOf bodyOf partialOf bayOf header sizeList partialHeader sidesOf itemsOf limited
+    featureList featuresOf featureOf entriesOf operatorOf operatorsOf item judge rising ended number groups numbersOn features atoms pairsOf sumOf holds some paired both double pairStart listed anyOf allOf
     judgedLots oneGap occurrences
 judging = tt
 

@@ -11,7 +11,7 @@ use Rattle.meaning.specs.Sets.{_⊕_, listed}
 use Rattle.meaning.specs.Limits.{numberEnd, faultWords}
 use Rattle.meaning.specs.Task.{Task, State}
 use Rattle.meaning.specs.Number.{Reason, Small, refusal, got, fault, numberBytes}
-use Rattle.meaning.specs.File.{taskOf, counted, operatorBytes, taskBytes}
+use Rattle.meaning.specs.File.{Kind, kindOf, taskOf, taskBytesAs}
 use Rattle.meaning.specs.Workspace.{wordsFor, pairsAt, has}
 use Rattle.meaning.specs.Answer.{Answer, done, refused, Outcome, refuses, delivered}
 use Rattle.meaning.specs.Mend as meaning
@@ -29,7 +29,8 @@ use Rattle.layout.specs.Parts.{sizesPart, startPart, goalPart, pairsPart, lengt
 use Rattle.pairs.specs.Ready.{Listed}
 use Rattle.task.specs.Answer.{ReadInto, left-room, left-parts, left-ready, read-end, read-readable, read-left, read-as}
 use Rattle.writer.specs.Parts.{FewWords}
-use Rattle.writer.specs.Front.{Front, frontBytes, task-front, sizes-countable, state-countable}
+use Rattle.writer.specs.Front.{Front, sizes-countable, state-countable}
+use Rattle.writer.specs.TaskFile.{fileBytes, task-file}
 use Rattle.writer.specs.Judging.{weights-delivered}
 use Rattle.writer.specs.Sets.{few-in-range, in-range-fine}
 use Rattle.writer.specs.Weights.{weightsWritten}
@@ -38,7 +39,6 @@ use Rattle.keeping.specs.declared.Fault.the-variants as found
 use Rattle.keeping.specs.Fault.{FaultIs}
 use Rattle.mending.specs.declared.PairFault.{PairFault}
 use Rattle.mending.specs.declared.PairFault.the-variants.{Good as Fine, Held, Unclosed, Refused}
-use Rattle.mending.specs.Parts.{mendedBytes}
 
 -- ---- the answers of the code
 
@@ -151,24 +151,19 @@ module _ {bytes words left : List ℕ} {v n count at : ℕ} (known : ReadInto by
         )
 
     module _ (small : Bytes bytes) where
-      operators-split : counted operatorBytes (T .operators) ≡ numberBytes count ++ drop at bytes
-      unfolding counted
-      operators-split = ap₂ (λ k l. numberBytes k ++ l) (sym (known .many))
-          (sym (operators-copied bytes (T .sizes) count at (T .operators) (known .next) small (known .operators) (omega (arith, read-end known))))
+      -- The file by its parts is the mended task's.
+      file-same : (kind : Kind) → fileBytes kind count (drop at bytes) sizes start goal kept ≡ taskBytesAs kind (mended T (membersIn kept))
+      file-same kind = let parts = left-parts (read-left known) in
+          rw (sizes-are ∙ parts .0, start-is ∙ parts .1, goal-is ∙ parts .2) (task-file kind (mended T (membersIn kept)) count (drop at bytes) kept (known .many)
+          (operators-copied bytes (T .sizes) count at (T .operators) (known .next) small (known .operators) (omega (arith, read-end known))) refl)
 
-      front-same : frontBytes (T .sizes) (T .start) (T .goal) (membersIn kept) ≡ frontBytes sizes start goal (membersIn kept)
-      front-same = let parts = left-parts (read-left known) in rw (sizes-are ∙ parts .0, start-is ∙ parts .1, goal-is ∙ parts .2) refl
-
-      file-split : taskBytes (mended T (membersIn kept)) ≡ mendedBytes count (drop at bytes) sizes start goal kept
-      unfolding mendedBytes
-      file-split = task-front (mended T (membersIn kept)) ∙ ap₂ _++_ front-same operators-split
-
-      -- What the code comes to is the mended task's file.
-      pub mends-so : KeptIn bytes kept → (own room : List ℕ) (outcome : Outcome ℕ) → own ≡ drop at bytes → outcome ≡ delivered (mendedBytes count own sizes start goal kept) room → Mends bytes room outcome
-      mends-so h own room outcome q e = rw (known .judged) (
+      -- What the code comes to is the mended task's file, of the kind that came.
+      pub mends-so : KeptIn bytes kept → (kind : Kind) → kind ≡ kindOf bytes 0 → (own room : List ℕ) (outcome : Outcome ℕ) → own ≡ drop at bytes
+          → outcome ≡ delivered (fileBytes kind count own sizes start goal kept) room → Mends bytes room outcome
+      mends-so h kind came own room outcome q e = rw (known .judged) (
         membersIn kept,
         h T (known .next) (known .judged),
-        e ∙ ap (λ rest. delivered (mendedBytes count rest sizes start goal kept) room) q ∙ ap (λ file. delivered file room) (sym file-split),
+        e ∙ ap (λ rest. delivered (fileBytes kind count rest sizes start goal kept) room) q ∙ ap (λ file. delivered file room) (file-same kind ∙ ap (λ k. taskBytesAs k (mended T (membersIn kept))) came),
       )
 
   -- ---- the pair behind a refusal

@@ -1,16 +1,13 @@
 // Mends a task's list of pairs: the file with the largest good sublist, the pairs that are dropped for it, and the pair behind a refusal 6 or 7.
 ghost use mathlib.Core.Path.{_≡_};
 ghost use mathlib.Core.List.{List};
-ghost use Prim.Native.Nat.{ℕ, _<_, _≤_};
+ghost use Prim.Native.Nat.{ℕ, _≤_};
 ghost use lib.ListN.{length};
-ghost use Rattle.meaning.specs.Limits.{numberEnd, faultWords};
+ghost use Rattle.meaning.specs.Limits.{faultWords};
 ghost use Rattle.meaning.specs.Workspace.{wordsFor};
-ghost use Rattle.meaning.specs.Answer.{delivered};
 ghost use Rattle.meaning.specs.Mend.{Mends, Drops, FaultsPairs};
 ghost use Rattle.task.specs.Answer.{ReadInto};
 ghost use Rattle.writer.specs.Answer.{outcomeOf};
-ghost use Rattle.writer.specs.Front.{Front};
-ghost use Rattle.mending.specs.Parts.{mendedBytes};
 ghost use Rattle.mending.specs.Answer.{KeptIn, faultOf};
 use keeping::Fault;
 use limits::FAULT_WORDS;
@@ -52,31 +49,7 @@ fn fill_kept(
     );
 }
 
-// Writes the file of a mended task from its parts, if the room is long enough for all of it: the operators as they stand in the task's file.
-fn write_mended(
-    own: &[u8],
-    count: usize,
-    sizes: &[u64],
-    start: &[u64],
-    goal: &[u64],
-    kept: &[u64],
-    room: &mut [u8],
-) -> Written
-    requires { ⌜ Front (now sizes) (now start) (now goal) (now kept) × (count < numberEnd) ⌝ }
-    ensures { λ r. ⌜ outcomeOf r (now (room .exit))
-        ≡ delivered (mendedBytes count (now (own .entry)) (now (sizes .entry)) (now (start .entry)) (now (goal .entry)) (now (kept .entry))) (now (room .entry)) ⌝ }
-{
-    let front = writer::front_width(sizes, start, goal, kept);
-    let operators = number::width(count) + own.len();
-    if room.len() < front + operators {
-        return writer::refuse(Reason::Small);
-    }
-    let second = writer::write_front(room, sizes, start, goal, kept);
-    let third = number::write_number(room, second, count);
-    Written::Done(writer::write_bytes(room, third, own))
-}
-
-// Writes the mended task of a file that was read, by its header and its counts. The pairs that are kept go to the lent words.
+// Writes the mended task of a file that was read, by its header and its counts, as a file of the kind that came. The pairs that are kept go to the lent words.
 fn mend_in(
     task: &[u8],
     header: &[u64],
@@ -91,9 +64,10 @@ fn mend_in(
     ensures { λ r. ⌜ Mends (now (task .entry)) (now (room .entry)) (outcomeOf r (now (room .exit))) ⌝ }
 {
     fill_kept(task, header, v, n, count, at, kept);
-    write_mended(
+    writer::write_task(
         &task[at..],
         count,
+        number::is_gapped(task),
         layout::sizes(header, v),
         layout::start(header, v, n),
         layout::goal(header, v, n),

@@ -5,7 +5,7 @@ ghost use Prim.Native.Nat.{_+_, _<_, _≤_};
 ghost use lib.ListN.{length, take, drop};
 ghost use Rattle.meaning.specs.Limits.{mostGroups, numberEnd};
 ghost use Rattle.meaning.specs.Number.{refusal as refusalNumber, hasPlace, groups, number, bytesRead, numbersOn, numberBytes};
-ghost use Rattle.meaning.specs.File.{inside, item, rising};
+ghost use Rattle.meaning.specs.File.{inside, item, rising, kindIf, gapped as gappedKind, kindOf, featureOf};
 ghost use Rattle.number.specs.Answers.{reasonOf, numberOf};
 
 // Why a call refuses.
@@ -154,6 +154,55 @@ pub fn rising_at(bytes: &[u8], at: usize, low: usize, high: usize, least: usize)
             Number::Got(n, next)
         }
         Number::Fault(found, place) => Number::Fault(found, place),
+    }
+}
+
+// The next feature of a list of gaps: the number says how far it is above `least`.
+fn gap_at(bytes: &[u8], at: usize, low: usize, high: usize, least: usize) -> Number
+    ensures { λ r. ⌜ numberOf r ≡ featureOf gappedKind low high least (now (bytes .entry)) at ⌝ }
+{
+    match number_at(bytes, at) {
+        Number::Got(n, next) => {
+            if high <= least {
+                return Number::Fault(Reason::Range, at);
+            }
+            if high - least <= n {
+                return Number::Fault(Reason::Range, at);
+            }
+            let feature = least + n;
+            if feature < low {
+                return Number::Fault(Reason::Range, at);
+            }
+            Number::Got(feature, next)
+        }
+        Number::Fault(found, place) => Number::Fault(found, place),
+    }
+}
+
+// The next feature of a list, in a file of either kind.
+pub fn feature_at(
+    bytes: &[u8],
+    at: usize,
+    gapped: bool,
+    low: usize,
+    high: usize,
+    least: usize,
+) -> Number
+    ensures { λ r. ⌜ numberOf r ≡ featureOf (kindIf gapped) low high least (now (bytes .entry)) at ⌝ }
+{
+    if gapped {
+        return gap_at(bytes, at, low, high, least);
+    }
+    rising_at(bytes, at, low, high, least)
+}
+
+// Whether a task file is of the new kind, by its first number.
+pub fn is_gapped(bytes: &[u8]) -> bool
+    ensures { λ r. ⌜ kindIf r ≡ kindOf (now (bytes .entry)) 0 ⌝ }
+{
+    match number_at(bytes, 0) {
+        Number::Got(n, _) => n == 0,
+        Number::Fault(_, _) => false,
     }
 }
 

@@ -8,7 +8,7 @@ use Rattle.meaning.specs.Limits.{leastVariables, mostVariables, leastPartialSiz
 use Rattle.meaning.specs.Task.{Operator, State, IsOperator, size}
 use Rattle.meaning.specs.Feature.{features}
 use Rattle.meaning.specs.Number.{got}
-use Rattle.meaning.specs.File.{Parser, give, then, valuesOf, operatorsOf, ended, InLimits}
+use Rattle.meaning.specs.File.{Parser, give, then, plain, valuesOf, operatorsOf, ended, InLimits}
 use Rattle.meaning.specs.Partial.{Partial, Ordered, builtSizes, partialHeader, marksOf, goalOf, partialOf}
 use Rattle.theory.specs.Reading.{on-on}
 use Rattle.theory.specs.Spent.{Gives, gives-known, gives-then, gives-map}
@@ -34,7 +34,7 @@ partialStatesOf = then markedOf (λ marked. then (goalOf (marked .sizes) (marked
 
 -- With the pairs, by the file's own numbers, and how many operators follow.
 unfoldable pub partialFrontOf : Parser Front
-partialFrontOf = then partialStatesOf behindStates
+partialFrontOf = then partialStatesOf (behindStates plain)
 
 -- A partial task with this front.
 abbrev pub partialWith : Front → List Operator → Partial
@@ -81,7 +81,7 @@ partial-states-said bytes = gives-then _ _ (marked-said bytes) (λ marked l h. g
 pub partial-front-said : (bytes : List ℕ)
     → Gives bytes partialFrontOf (λ front l. (operators : List Operator) → ((o : Operator) → In o operators → IsOperator (front .states .sizes) o) → Ordered (partialWith front operators))
 unfolding partialFrontOf
-partial-front-said bytes = gives-then _ _ (partial-states-said bytes) (λ states l h. behind-said bytes states _ (λ pairs count p operators fine.
+partial-front-said bytes = gives-then _ _ (partial-states-said bytes) (λ states l h. behind-said plain bytes states _ (λ pairs count p operators fine.
     let a = h .0 in record { variables = a .variables; each = a .each; total = a .total; start = h .1; goal = h .2; pairs = p; operators = fine }))
 
 pub front-ordered : (bytes : List ℕ) (from : ℕ) (front : Front) (at : ℕ) (operators : List Operator) → partialFrontOf bytes from ≡ got front at

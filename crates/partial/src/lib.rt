@@ -148,7 +148,7 @@ pub fn read_front(bytes: &[u8], at: usize, header: &mut [u64]) -> Header
     ensures { λ r. ⌜ HeaderInto (partialFrontOf (now (bytes .entry)) at) (now (header .entry)) r (now (header .exit)) ⌝ }
 {
     match read_states(bytes, at, &mut *header) {
-        Step::Next(next) => reader::read_behind(bytes, next, header),
+        Step::Next(next) => reader::read_behind(bytes, next, false, header),
         Step::Fault(reason, place) => Header::Fault(reason, place),
     }
 }

@@ -7,7 +7,7 @@ use Rattle.meaning.specs.Limits.{leastSize, mostSize}
 use Rattle.meaning.specs.Task.{Operator, Task}
 use Rattle.meaning.specs.Feature.{atoms, features}
 use Rattle.meaning.specs.Number.{Read, got, fault, number}
-use Rattle.meaning.specs.File.{Parser, give, then, header, valuesOf, featureList, operatorsOf, ended, taskOf}
+use Rattle.meaning.specs.File.{Parser, give, then, header, valuesOf, Kind, featureList, operatorsOf, ended, bodyOf, partsOf}
 use Rattle.theory.specs.Reading.{on-on}
 use Rattle.number.specs.Answers.{declaredOf}
 use Rattle.reader.specs.declared.Header.{Header}
@@ -43,14 +43,14 @@ pub record Front : Type 0 where
   pub pairs : List ℕ
   pub count : ℕ
 
--- What of a front stands behind its states, in every kind of file.
-unfoldable pub behindStates : States → Parser Front
-behindStates states =
-    then (featureList (atoms (states .sizes)) (features (states .sizes)))
+-- What of a front stands behind its states, in every file of a kind.
+unfoldable pub behindStates : Kind → States → Parser Front
+behindStates kind states =
+    then (featureList kind (atoms (states .sizes)) (features (states .sizes)))
     (λ pairs. then number (λ count. give (record { states = states; pairs = pairs; count = count })))
 
-unfoldable pub frontOf : Parser Front
-frontOf = then statesOf behindStates
+unfoldable pub frontOf : Kind → Parser Front
+frontOf kind = then statesOf (behindStates kind)
 
 -- ---- the words
 
@@ -75,7 +75,7 @@ taskWith front operators =
     record { sizes = front .states .sizes; start = front .states .start; goal = front .states .goal; pairs = front .pairs; operators = operators }
 
 -- A task is read as its front, then as many operators as it says, and nothing follows.
-pub task-front : (bytes : List ℕ) (place : ℕ) → taskOf bytes place
-    ≡ then frontOf (λ front. then (operatorsOf (front .states .sizes) (front .count)) (λ operators. then ended (λ _. give (taskWith front operators)))) bytes place
-unfolding taskOf frontOf statesOf startOf behindStates
-task-front bytes place = simp on-on
+pub task-front : (kind : Kind) (bytes : List ℕ) (place : ℕ) → partsOf kind bytes place
+    ≡ then (frontOf kind) (λ front. then (operatorsOf (front .states .sizes) (front .count)) (λ operators. then ended (λ _. give (taskWith front operators)))) bytes place
+unfolding partsOf bodyOf frontOf statesOf startOf behindStates
+task-front kind bytes place = simp on-on

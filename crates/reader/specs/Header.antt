@@ -12,17 +12,17 @@ use Rattle.meaning.specs.Limits.{leastVariables, mostVariables, mostSize, mostF
 use Rattle.meaning.specs.Task.{size}
 use Rattle.meaning.specs.Number as meaning
 use Rattle.meaning.specs.Number.{Limit, Read, got, fault, numbersOn}
-use Rattle.meaning.specs.File.{Parser, inside, item, judge, limited, itemsOf, sizesOf, sizeList, featureList, ended, judgedWeights}
+use Rattle.meaning.specs.File.{Parser, give, then, inside, item, judge, limited, itemsOf, sizesOf, sizeList, Kind, markOf, featureList, ended, judgedWeightsAs}
 use Rattle.meaning.specs.Workspace.{sizesAt, startAt}
 use Rattle.theory.specs.Parts.{item-said, sizes-said, size-list-said}
-use Rattle.number.specs.Answers.{placeOf}
+use Rattle.number.specs.Answers.{placeOf, place-next, place-faulted}
 use Rattle.number.specs.declared.Reason.{Reason}
 use Rattle.number.specs.declared.Reason.the-variants as code
 use Rattle.number.specs.declared.Step.{Step}
 use Rattle.number.specs.declared.Step.the-variants.{Next, Fault}
 use Rattle.numbering.specs.Sizes.{SmallSizes}
 use Rattle.reader.specs.After.{After, after}
-use Rattle.reader.specs.Answer.{written, begun, sizedWords, ReadsInto, reads-next, reads-unread, reads-same, answer-next, answer-fault}
+use Rattle.reader.specs.Answer.{written, begun, sizedWords, ReadsInto, reads-next, unread, reads-unread, reads-same, answer-next, answer-fault}
 
 -- How many variables there are.
 abbrev pub countAt : Parser ℕ
@@ -92,26 +92,36 @@ module _ (bytes : List ℕ) (at least most : ℕ) where
       by true e = rw (total, known .is, e) (refl, known .are)
       by false e = rw (total, known .is, e, known .count) refl
 
--- ---- the end of a weight file
+-- ---- a weight file
 
-weights-ended : (n : ℕ) (bytes weights : List ℕ) (next : ℕ) → featureList 0 n bytes 0 ≡ got weights next → length bytes ≤ next
-    → judgedWeights n bytes ≡ got weights next
-unfolding judgedWeights ended judge
-weights-ended n bytes weights next e h = rw (e, le-leb (length bytes) next h)
+-- A list of features, and nothing follows.
+abbrev pub wholeList : Kind → ℕ → Parser (List ℕ)
+wholeList kind n = then (featureList kind 0 n) (λ weights. then ended (λ _. give weights))
 
-module _ (n : ℕ) (bytes : List ℕ) (words : List ℕ → List ℕ) (answer : Step) (left : List ℕ) (read : ReadsInto (featureList 0 n bytes 0) words answer left) where
-  pub weights-fault : (reason : Reason) (place : ℕ) → answer ≡ Fault reason place → ReadsInto (judgedWeights n bytes) words (Fault reason place) left
-  unfolding judgedWeights
-  weights-fault reason place e = reads-unread (featureList 0 n bytes 0) words _ words answer reason place left read e
+module _ (kind : Kind) (n : ℕ) (bytes : List ℕ) (words : List ℕ → List ℕ) (left : List ℕ) where
+  module _ (answer : Step) (at : ℕ) (read : ReadsInto (featureList kind 0 n bytes at) words answer left) where
+    pub list-unread : (reason : Reason) (place : ℕ) → answer ≡ Fault reason place → ReadsInto (wholeList kind n bytes at) words (Fault reason place) left
+    list-unread reason place e = reads-unread (featureList kind 0 n bytes at) words _ words answer reason place left read e
 
-  module _ (next : ℕ) (e : answer ≡ Next next) where
-    pub weights-over : next < length bytes → ReadsInto (judgedWeights n bytes) words (Fault code.LeftOver next) left
-    unfolding judgedWeights ended judge
-    weights-over h =
-        let known = reads-next (featureList 0 n bytes 0) words answer next left read e in
-        answer-fault (judgedWeights n bytes) words code.LeftOver next left (rw (known .1, lt-leb (length bytes) next h))
+    module _ (next : ℕ) (e : answer ≡ Next next) where
+      known : (weights : List ℕ) × (featureList kind 0 n bytes at ≡ got weights next) × (left ≡ words weights)
+      known = reads-next (featureList kind 0 n bytes at) words answer next left read e
 
-    pub weights-read : length bytes ≤ next → ReadsInto (judgedWeights n bytes) words (Next next) left
-    weights-read h =
-        let known = reads-next (featureList 0 n bytes 0) words answer next left read e in
-        answer-next (judgedWeights n bytes) words (known .0) next left (weights-ended n bytes (known .0) next (known .1) h) (known .2)
+      pub list-over : next < length bytes → ReadsInto (wholeList kind n bytes at) words (Fault code.LeftOver next) left
+      unfolding ended judge
+      list-over h = answer-fault (wholeList kind n bytes at) words code.LeftOver next left (rw (known .1, lt-leb (length bytes) next h))
+
+      pub list-whole : length bytes ≤ next → ReadsInto (wholeList kind n bytes at) words (Next next) left
+      unfolding ended judge
+      list-whole h = answer-next (wholeList kind n bytes at) words (known .0) next left (rw (known .1, le-leb (length bytes) next h)) (known .2)
+
+  -- The list behind the mark.
+  pub weights-marked : (answer : Step) (at : ℕ) → Next at ≡ placeOf (markOf kind bytes 0) → ReadsInto (wholeList kind n bytes at) words answer left
+      → ReadsInto (judgedWeightsAs kind n bytes) words answer left
+  unfolding judgedWeightsAs
+  weights-marked answer at e read = let (u, mark) = place-next (markOf kind bytes 0) at (sym e) in rw mark read
+
+  pub weights-unmarked : (reason : Reason) (place : ℕ) → Fault reason place ≡ placeOf (markOf kind bytes 0) → ReadsInto (judgedWeightsAs kind n bytes) words (Fault reason place) left
+  unfolding judgedWeightsAs
+  weights-unmarked reason place e =
+      answer-fault (judgedWeightsAs kind n bytes) words reason place left (unread (markOf kind bytes 0) _ _ _ (place-faulted (markOf kind bytes 0) reason place (sym e)))

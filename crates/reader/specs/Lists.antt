@@ -10,9 +10,9 @@ use lib.Seq.{sets, drop-cons, drop-drop, take-at, drop-at, getD-set-other, getD-
 use Rattle.meaning.specs.Limits.{mostVariables}
 use Rattle.meaning.specs.Number as meaning
 use Rattle.meaning.specs.Number.{got, fault}
-use Rattle.meaning.specs.File.{Parser, inside, item, itemsOf, rising, featuresOf}
+use Rattle.meaning.specs.File.{Parser, inside, item, itemsOf, Kind, featureOf, featuresOf}
 use Rattle.theory.specs.Flat.{take-replicate}
-use Rattle.theory.specs.Parts.{items-said, rising-said}
+use Rattle.theory.specs.Parts.{items-said, feature-said}
 use Rattle.layout.specs.Parts.{lent, length-part}
 use Rattle.number.specs.Laws.{sets-all}
 use Rattle.number.specs.declared.Step.{Step}
@@ -148,22 +148,22 @@ module _ (old : List ℕ) (to count bound : ℕ) (few : count ≤ mostVariables)
 
 -- ---- features
 
-module _ (k i low high least : ℕ) where
-  pub first-feature : i < k → Splits (featuresOf (k - i) low high least) (rising low high least) (λ f. featuresOf (k - (i + 1)) low high (suc f))
+module _ (kind : Kind) (k i low high least : ℕ) where
+  pub first-feature : i < k → Splits (featuresOf kind (k - i) low high least) (featureOf kind low high least) (λ f. featuresOf kind (k - (i + 1)) low high (suc f))
   unfolding featuresOf
   first-feature h = let q : k - i ≡ suc (k - (i + 1)) = omega arith in record { by = rw q }
 
   module _ (bytes : List ℕ) (place : ℕ) (words : List ℕ) where
-    pub features-more : (f next : ℕ) → i < k → rising low high least bytes place ≡ got f next
-        → placed (featuresOf (k - i) low high least bytes place) (toggledAll words) ≡ placed (featuresOf (k - (i + 1)) low high (f + 1) bytes next) (toggledAll (toggled words f))
+    pub features-more : (f next : ℕ) → i < k → featureOf kind low high least bytes place ≡ got f next
+        → placed (featuresOf kind (k - i) low high least bytes place) (toggledAll words) ≡ placed (featuresOf kind (k - (i + 1)) low high (f + 1) bytes next) (toggledAll (toggled words f))
     unfolding toggledAll
     features-more f next h e = rw (first-feature h .by, add-one f)
-        (first-read (rising low high least) (λ f. featuresOf (k - (i + 1)) low high (suc f)) bytes place (toggledAll words) f next e)
+        (first-read (featureOf kind low high least) (λ f. featuresOf kind (k - (i + 1)) low high (suc f)) bytes place (toggledAll words) f next e)
 
-    pub features-none : k ≤ i → placed (featuresOf (k - i) low high least bytes place) (toggledAll words) ≡ got words place
+    pub features-none : k ≤ i → placed (featuresOf kind (k - i) low high least bytes place) (toggledAll words) ≡ got words place
     unfolding featuresOf toggledAll
     features-none h = let q : k - i ≡ 0 = omega arith in rw q
 
 -- A feature that was read is in its range.
-pub feature-below : (low high least : ℕ) (bytes : List ℕ) (place f next : ℕ) → rising low high least bytes place ≡ got f next → f < high
-feature-below low high least bytes place f next e = rising-said bytes low high least .gives place f next e .known .1
+pub feature-below : (kind : Kind) (low high least : ℕ) (bytes : List ℕ) (place f next : ℕ) → featureOf kind low high least bytes place ≡ got f next → f < high
+feature-below kind low high least bytes place f next e = feature-said bytes kind low high least .gives place f next e .known .1

@@ -9,7 +9,7 @@ use lib.Seq.{drop-at, drop-drop}
 use Rattle.meaning.specs.Limits.{mostVariables, mostFeatures}
 use Rattle.meaning.specs.Feature.{atoms, features}
 use Rattle.meaning.specs.Number.{Read, got, fault, onRead, number}
-use Rattle.meaning.specs.File.{Parser, give, then, featureList, InLimits}
+use Rattle.meaning.specs.File.{Parser, give, then, Kind, featureList, InLimits}
 use Rattle.meaning.specs.Workspace.{pairsAt, slotsAt, wordsFor}
 use Rattle.theory.specs.Numbering.{atoms-room}
 use Rattle.theory.specs.Words.{length-packed}
@@ -47,14 +47,14 @@ module _ (words : List ℕ) (n : ℕ) (clear : Cleared words n) where
     pairs-room = rw (first, clear .total) (atoms-room (sizesIn words))
 
     -- The part with the pairs is put back.
-    pub pairs-put : (at : Places) → at ≡ placesOf (getD words 0 0) n → (bytes : List ℕ) (place : ℕ) (answer : Step) (left : List ℕ)
-        → ReadsInto (featureList low n bytes place) (featureWords n) answer left
-        → ReadsInto (featureList (atoms (sizesIn words)) n bytes place) (λ pairs. written words (pairsAt (getD words 0 0)) (featureWords n pairs)) answer
+    pub pairs-put : (kind : Kind) (at : Places) → at ≡ placesOf (getD words 0 0) n → (bytes : List ℕ) (place : ℕ) (answer : Step) (left : List ℕ)
+        → ReadsInto (featureList kind low n bytes place) (featureWords n) answer left
+        → ReadsInto (featureList kind (atoms (sizesIn words)) n bytes place) (λ pairs. written words (pairsAt (getD words 0 0)) (featureWords n pairs)) answer
         (take (at .pairs) words ++ (left ++ drop (at .slots - at .pairs) (drop (at .pairs) words)))
-    pairs-put at is bytes place answer left read =
+    pairs-put kind at is bytes place answer left read =
         let from = pairsAt (getD words 0 0) in
         rw is (
-        reads-put (featureList (atoms (sizesIn words)) n bytes place) (featureWords n) (λ pairs. written words from (featureWords n pairs))
+        reads-put (featureList kind (atoms (sizesIn words)) n bytes place) (featureWords n) (λ pairs. written words from (featureWords n pairs))
         (λ part. take from words ++ (part ++ drop (from + wordsFor n - from) (drop from words))) answer left
         (λ pairs next e. ap (λ l. take from words ++ (featureWords n pairs ++ l)) (rest from (featureWords n pairs) (length-packed n _)))
         (rw first at read))
@@ -80,29 +80,29 @@ pub record Holds (states : States) (old words : List ℕ) : Type 0 where
   pub ends : length (stateWords states) ≡ pairsAt (length (states .sizes))
 
 -- What is read behind the states that the words hold, whichever they are.
-pub record BehindInto (bytes : List ℕ) (at : ℕ) (words : List ℕ) (answer : Header) (left : List ℕ) : Type 0 where
-  pub into : (states : States) (old : List ℕ) → Holds states old words → HeaderInto (behindStates states bytes at) old answer left
+pub record BehindInto (kind : Kind) (bytes : List ℕ) (at : ℕ) (words : List ℕ) (answer : Header) (left : List ℕ) : Type 0 where
+  pub into : (states : States) (old : List ℕ) → Holds states old words → HeaderInto (behindStates kind states bytes at) old answer left
 
 header-fault : (read : Read Front) (words : List ℕ) (reason : Reason) (place : ℕ) (left : List ℕ) → read ≡ fault (reasonOf reason) place → HeaderInto read words (Fault reason place) left
 unfolding HeaderInto
 header-fault read words reason place left e = rw e (ap (λ r. Fault r place) (sym (declared-reason reason)))
 
-module _ (bytes : List ℕ) (at : ℕ) (words : List ℕ) (n : ℕ) (total : n ≡ features (sizesIn words)) where
+module _ (kind : Kind) (bytes : List ℕ) (at : ℕ) (words : List ℕ) (n : ℕ) (total : n ≡ features (sizesIn words)) where
   -- What the pairs are read as, and the words with them.
   abbrev pairsRead : Read (List ℕ)
-  pairsRead = featureList (atoms (sizesIn words)) n bytes at
+  pairsRead = featureList kind (atoms (sizesIn words)) n bytes at
 
   abbrev withPairs : List ℕ → List ℕ
   withPairs pairs = written words (pairsAt (getD words 0 0)) (featureWords n pairs)
 
   -- What is left to be read.
   behind-rest : (states : States) → sizesIn words ≡ states .sizes
-      → behindStates states bytes at ≡ onRead pairsRead (λ pairs next. then number (λ count. give (record { states = states; pairs = pairs; count = count })) bytes next)
+      → behindStates kind states bytes at ≡ onRead pairsRead (λ pairs next. then number (λ count. give (record { states = states; pairs = pairs; count = count })) bytes next)
   unfolding behindStates
   behind-rest states same = rw (total, same) refl
 
   module _ (answer : Step) (left : List ℕ) (read : ReadsInto pairsRead withPairs answer left) where
-    pub pairs-unread : (reason : Reason) (place : ℕ) → answer ≡ code.Fault reason place → BehindInto bytes at words (Fault reason place) left
+    pub pairs-unread : (reason : Reason) (place : ℕ) → answer ≡ code.Fault reason place → BehindInto kind bytes at words (Fault reason place) left
     pairs-unread reason place e = record {
       into = λ states old holds. header-fault _ old reason place left (behind-rest states (holds .same) ∙ rw (reads-fault pairsRead withPairs answer reason place left read e));
     }
@@ -111,18 +111,18 @@ module _ (bytes : List ℕ) (at : ℕ) (words : List ℕ) (n : ℕ) (total : n �
       pairs-read : (pairs : List ℕ) × (pairsRead ≡ got pairs next) × (left ≡ withPairs pairs)
       pairs-read = reads-next pairsRead withPairs answer next left read e
 
-      pub count-unread : (reason : Reason) (place : ℕ) → number bytes next ≡ fault (reasonOf reason) place → BehindInto bytes at words (Fault reason place) left
+      pub count-unread : (reason : Reason) (place : ℕ) → number bytes next ≡ fault (reasonOf reason) place → BehindInto kind bytes at words (Fault reason place) left
       count-unread reason place f = record { into = λ states old holds. header-fault _ old reason place left (behind-rest states (holds .same) ∙ rw (pairs-read .1, f)) }
 
-      pub header-got : (v operators last : ℕ) → v ≡ getD words 0 0 → number bytes next ≡ got operators last → BehindInto bytes at words (Got v n operators last) left
+      pub header-got : (v operators last : ℕ) → v ≡ getD words 0 0 → number bytes next ≡ got operators last → BehindInto kind bytes at words (Got v n operators last) left
       unfolding frontWords HeaderInto
       header-got v operators last same f = record { into = λ states old holds. made states old holds (pairs-read .0) (pairs-read .1) (pairs-read .2) }
         where
           made : (states : States) (old : List ℕ) → Holds states old words → (pairs : List ℕ) → pairsRead ≡ got pairs next → left ≡ withPairs pairs
-              → HeaderInto (behindStates states bytes at) old (Got v n operators last) left
+              → HeaderInto (behindStates kind states bytes at) old (Got v n operators last) left
           made states old holds pairs r w =
               let count : n ≡ features (states .sizes) = total ∙ ap features (holds .same) in
-              let front : behindStates states bytes at ≡ got (record { states = states; pairs = pairs; count = operators }) last = behind-rest states (holds .same) ∙ rw (r, f) in
+              let front : behindStates kind states bytes at ≡ got (record { states = states; pairs = pairs; count = operators }) last = behind-rest states (holds .same) ∙ rw (r, f) in
               rw front (
                 rw (same, holds .count, count) refl,
                 w ∙ rw (holds .count, holds .are, count) (begun-more old (stateWords states) (featureWords (features (states .sizes)) pairs) _ (holds .ends)),
@@ -131,9 +131,9 @@ module _ (bytes : List ℕ) (at : ℕ) (words : List ℕ) (n : ℕ) (total : n �
 -- ---- behind states that were read
 
 module _ (read : Parser States) (bytes : List ℕ) (from : ℕ) (words : List ℕ) where
-  pub states-unread : (answer : Step) (reason : Reason) (place : ℕ) (left : List ℕ) → ReadsInto (read bytes from) (λ states. begun words (stateWords states)) answer left
-      → answer ≡ code.Fault reason place → HeaderInto (then read behindStates bytes from) words (Fault reason place) left
-  states-unread answer reason place left reads e = header-fault _ words reason place left (unread _ _ _ _ (reads-fault _ _ answer reason place left reads e))
+  pub states-unread : (kind : Kind) (answer : Step) (reason : Reason) (place : ℕ) (left : List ℕ) → ReadsInto (read bytes from) (λ states. begun words (stateWords states)) answer left
+      → answer ≡ code.Fault reason place → HeaderInto (then read (behindStates kind) bytes from) words (Fault reason place) left
+  states-unread kind answer reason place left reads e = header-fault _ words reason place left (unread _ _ _ _ (reads-fault _ _ answer reason place left reads e))
 
   module _ (old : List ℕ) (next : ℕ) (known : AfterStates read bytes from words old next) where
     pub cleared : words ≡ replicate (length words) 0 → slotsAt mostVariables mostFeatures ≤ length words → length old ≡ length words → Cleared old (features (sizesIn old))
@@ -154,6 +154,6 @@ module _ (read : Parser States) (bytes : List ℕ) (from : ℕ) (words : List �
             rw none (rw (zeros-left (length front) (length words))
             (take-replicate (wordsFor n) (length words - length front) 0 (omega (arith, known .known .1, known .known .0 .variables)))))
 
-    pub header-behind : (answer : Header) (left : List ℕ) → BehindInto bytes next old answer left → HeaderInto (then read behindStates bytes from) words answer left
-    header-behind answer left behind = rw (known .is)
+    pub header-behind : (kind : Kind) (answer : Header) (left : List ℕ) → BehindInto kind bytes next old answer left → HeaderInto (then read (behindStates kind) bytes from) words answer left
+    header-behind kind answer left behind = rw (known .is)
         (behind .into (known .value) words (record { are = known .are; count = known .count; same = known .same; ends = known .known .1 }))

@@ -8,7 +8,7 @@ use Rattle.meaning.specs.Limits.{leastSize, mostSize}
 use Rattle.meaning.specs.Task.{State, Run}
 use Rattle.meaning.specs.Feature.{atoms, features}
 use Rattle.meaning.specs.Number.{got}
-use Rattle.meaning.specs.File.{Parser, give, then, header, valuesOf, InLimits}
+use Rattle.meaning.specs.File.{Parser, give, then, Kind, header, valuesOf, InLimits}
 use Rattle.meaning.specs.Workspace.{startAt, goalAt, pairsAt}
 use Rattle.theory.specs.Spent.{Gives, gives-then, gives-map}
 use Rattle.theory.specs.Numbering.{atoms-room}
@@ -33,11 +33,11 @@ unfolding statesOf
 states-said bytes = gives-then _ _ (start-said bytes) (λ started l h. gives-map (statesWith started) _ (values-said bytes (started .sizes)) (λ goal m g. (h .0, h .1, g .0)))
 
 -- What is known of a front behind its states, by its pairs.
-pub behind-said : (bytes : List ℕ) (states : States) (Q : Front → Type 0)
+pub behind-said : (kind : Kind) (bytes : List ℕ) (states : States) (Q : Front → Type 0)
     → ((pairs : List ℕ) (count : ℕ) → Run (atoms (states .sizes)) pairs (features (states .sizes)) → Q (record { states = states; pairs = pairs; count = count }))
-    → Gives bytes (behindStates states) (λ front l. Q front)
+    → Gives bytes (behindStates kind states) (λ front l. Q front)
 unfolding behindStates
-behind-said bytes states Q made = gives-then _ _ (feature-list-said bytes (atoms (states .sizes)) (features (states .sizes)) (atoms-room (states .sizes))) (λ pairs l p.
+behind-said kind bytes states Q made = gives-then _ _ (feature-list-said bytes kind (atoms (states .sizes)) (features (states .sizes)) (atoms-room (states .sizes))) (λ pairs l p.
     gives-map (λ count. record { states = states; pairs = pairs; count = count }) _ (number-said bytes) (λ count m c. made pairs count (p .0)))
 
 -- ---- a state behind what was read before it

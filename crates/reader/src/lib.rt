@@ -3,13 +3,13 @@ ghost use mathlib.Core.Path.{_≡_};
 ghost use Prim.Native.Nat.{_+_, _*_, _≤_};
 ghost use lib.ListN.{length, getD, take, drop, replicate};
 ghost use Rattle.meaning.specs.Limits.{wordBits, mostVariables, mostSize, mostFeatures};
-ghost use Rattle.meaning.specs.File.{header as headerOf, itemsOf, sizeList, featuresOf, featureList, judgedWeights};
+ghost use Rattle.meaning.specs.File.{header as headerOf, itemsOf, sizeList, kindIf, markOf, featuresOf, featureList, judgedWeightsAs};
 ghost use Rattle.meaning.specs.Workspace.{startAt, pairsAt, slotsAt, wordsFor};
 ghost use Rattle.meaning.specs.Feature.{atoms, features};
 ghost use Rattle.theory.specs.Contents.{sizesIn};
 ghost use Rattle.number.specs.Answers.{reasonOf, placeOf};
 ghost use Rattle.reader.specs.Lists.{Apart};
-ghost use Rattle.reader.specs.Header.{featuresJudged};
+ghost use Rattle.reader.specs.Header.{featuresJudged, wholeList};
 ghost use Rattle.reader.specs.Answer.{written, featureWords, begun, sizedWords, ReadsInto};
 ghost use Rattle.words.specs.Toggled.{toggledAll};
 ghost use Rattle.reader.specs.Front.{statesOf, stateWords, frontOf, HeaderInto};
@@ -183,19 +183,20 @@ fn read_states(bytes: &[u8], at: usize, header: &mut [u64]) -> Step
 fn features_at(
     bytes: &[u8],
     at: usize,
+    gapped: bool,
     low: usize,
     high: usize,
     words: &mut [u64],
     count: usize,
 ) -> Step
     requires { ⌜ high ≤ wordBits * length (now words) ⌝ }
-    ensures { λ r. ⌜ ReadsInto (featuresOf count low high 0 (now (bytes .entry)) at) (toggledAll (now (words .entry))) r (now (words .exit)) ⌝ }
+    ensures { λ r. ⌜ ReadsInto (featuresOf (kindIf gapped) count low high 0 (now (bytes .entry)) at) (toggledAll (now (words .entry))) r (now (words .exit)) ⌝ }
 {
     let mut next = at;
     let mut least = 0;
     let mut i = 0;
     while i < count {
-        match number::rising_at(bytes, next, low, high, least) {
+        match number::feature_at(bytes, next, gapped, low, high, least) {
             Number::Got(feature, after) => {
                 words::toggle(&mut *words, feature);
                 least = feature + 1;
@@ -211,35 +212,55 @@ fn features_at(
 }
 
 // Reads a count and so many features, from `low` on and below `high`, into words that hold none yet.
-pub fn read_features(bytes: &[u8], at: usize, low: usize, high: usize, words: &mut [u64]) -> Step
+pub fn read_features(
+    bytes: &[u8],
+    at: usize,
+    gapped: bool,
+    low: usize,
+    high: usize,
+    words: &mut [u64],
+) -> Step
     requires { ⌜ (low ≤ high) × (now words ≡ replicate (wordsFor high) 0) ⌝ }
-    ensures { λ r. ⌜ ReadsInto (featureList low high (now (bytes .entry)) at) (featureWords high) r (now (words .exit)) ⌝ }
+    ensures { λ r. ⌜ ReadsInto (featureList (kindIf gapped) low high (now (bytes .entry)) at) (featureWords high) r (now (words .exit)) ⌝ }
 {
     match number::number_at(bytes, at) {
-        Number::Got(count, next) => features_at(bytes, next, low, high, words, count),
+        Number::Got(count, next) => features_at(bytes, next, gapped, low, high, words, count),
         Number::Fault(reason, place) => Step::Fault(reason, place),
     }
 }
 
 // Reads the pairs of a task with n features behind sizes, start and goal.
-fn read_pairs(bytes: &[u8], at: usize, header: &mut [u64], n: usize) -> Step
+fn read_pairs(bytes: &[u8], at: usize, gapped: bool, header: &mut [u64], n: usize) -> Step
     requires { ⌜ Cleared (now header) n ⌝ }
-    ensures { λ r. ⌜ ReadsInto (featureList (atoms (sizesIn (now (header .entry)))) n (now (bytes .entry)) at) (λ pairs. written (now (header .entry)) (pairsAt (getD (now (header .entry)) 0 0)) (featureWords n pairs)) r (now (header .exit)) ⌝ }
+    ensures { λ r. ⌜ ReadsInto (featureList (kindIf gapped) (atoms (sizesIn (now (header .entry)))) n (now (bytes .entry)) at) (λ pairs. written (now (header .entry)) (pairsAt (getD (now (header .entry)) 0 0)) (featureWords n pairs)) r (now (header .exit)) ⌝ }
 {
     let v = header[0] as usize;
     let low = numbering::atoms(layout::sizes(header, v));
     let places = layout::places_for(v, n);
     let pairs = places.pairs;
     let slots = places.slots;
-    read_features(bytes, at, low, n, &mut header[pairs..slots])
+    read_features(bytes, at, gapped, low, n, &mut header[pairs..slots])
 }
 
-// Reads a whole weight file of a task with n features into words that hold none yet.
-pub fn read_weights(bytes: &[u8], n: usize, words: &mut [u64]) -> Step
-    requires { ⌜ now words ≡ replicate (wordsFor n) 0 ⌝ }
-    ensures { λ r. ⌜ ReadsInto (judgedWeights n (now (bytes .entry))) (featureWords n) r (now (words .exit)) ⌝ }
+// Reads the mark that files of a kind begin with.
+pub fn read_mark(bytes: &[u8], at: usize, gapped: bool) -> Step
+    ensures { λ r. ⌜ r ≡ placeOf (markOf (kindIf gapped) (now (bytes .entry)) at) ⌝ }
 {
-    match read_features(bytes, 0, 0, n, words) {
+    if !gapped {
+        return Step::Next(at);
+    }
+    match number::item_at(bytes, at, 0, 1, Reason::Range) {
+        Number::Got(_, next) => Step::Next(next),
+        Number::Fault(reason, place) => Step::Fault(reason, place),
+    }
+}
+
+// Reads a list of features of a task with n features up to the end of the file, into words that hold none yet.
+fn read_list(bytes: &[u8], at: usize, gapped: bool, n: usize, words: &mut [u64]) -> Step
+    requires { ⌜ now words ≡ replicate (wordsFor n) 0 ⌝ }
+    ensures { λ r. ⌜ ReadsInto (wholeList (kindIf gapped) n (now (bytes .entry)) at) (featureWords n) r (now (words .exit)) ⌝ }
+{
+    match read_features(bytes, at, gapped, 0, n, words) {
         Step::Next(next) => {
             if next < bytes.len() {
                 return Step::Fault(Reason::LeftOver, next);
@@ -250,14 +271,25 @@ pub fn read_weights(bytes: &[u8], n: usize, words: &mut [u64]) -> Step
     }
 }
 
+// Reads a whole weight file of a kind, of a task with n features, into words that hold none yet.
+pub fn read_weights(bytes: &[u8], gapped: bool, n: usize, words: &mut [u64]) -> Step
+    requires { ⌜ now words ≡ replicate (wordsFor n) 0 ⌝ }
+    ensures { λ r. ⌜ ReadsInto (judgedWeightsAs (kindIf gapped) n (now (bytes .entry))) (featureWords n) r (now (words .exit)) ⌝ }
+{
+    match read_mark(bytes, 0, gapped) {
+        Step::Next(at) => read_list(bytes, at, gapped, n, words),
+        Step::Fault(reason, place) => Step::Fault(reason, place),
+    }
+}
+
 // Reads the pairs and the count of operators behind sizes, start and goal.
-pub fn read_behind(bytes: &[u8], at: usize, header: &mut [u64]) -> Header
+pub fn read_behind(bytes: &[u8], at: usize, gapped: bool, header: &mut [u64]) -> Header
     requires { ⌜ Cleared (now header) (features (sizesIn (now header))) ⌝ }
-    ensures { λ r. ⌜ BehindInto (now (bytes .entry)) at (now (header .entry)) r (now (header .exit)) ⌝ }
+    ensures { λ r. ⌜ BehindInto (kindIf gapped) (now (bytes .entry)) at (now (header .entry)) r (now (header .exit)) ⌝ }
 {
     let v = header[0] as usize;
     let n = numbering::features(layout::sizes(header, v));
-    match read_pairs(bytes, at, &mut *header, n) {
+    match read_pairs(bytes, at, gapped, &mut *header, n) {
         Step::Next(next) => match number::number_at(bytes, next) {
             Number::Got(operators, after) => Header::Got {
                 variables: v,
@@ -271,13 +303,13 @@ pub fn read_behind(bytes: &[u8], at: usize, header: &mut [u64]) -> Header
     }
 }
 
-// Reads what stands before the operators of a task file, from a place on, into words that are all 0.
-pub fn read_header(bytes: &[u8], at: usize, header: &mut [u64]) -> Header
+// Reads what stands before the operators of a task file of a kind, from the place behind its mark on, into words that are all 0.
+pub fn read_header(bytes: &[u8], at: usize, gapped: bool, header: &mut [u64]) -> Header
     requires { ⌜ (slotsAt mostVariables mostFeatures ≤ length (now header)) × (now header ≡ replicate (length (now header)) 0) ⌝ }
-    ensures { λ r. ⌜ HeaderInto (frontOf (now (bytes .entry)) at) (now (header .entry)) r (now (header .exit)) ⌝ }
+    ensures { λ r. ⌜ HeaderInto (frontOf (kindIf gapped) (now (bytes .entry)) at) (now (header .entry)) r (now (header .exit)) ⌝ }
 {
     match read_states(bytes, at, &mut *header) {
-        Step::Next(next) => read_behind(bytes, next, header),
+        Step::Next(next) => read_behind(bytes, next, gapped, header),
         Step::Fault(reason, place) => Header::Fault(reason, place),
     }
 }

@@ -7,6 +7,7 @@ use lib.ListN.{length, set, take, drop}
 use borrow.Author.Tests.{lt-ltb, le-ltb}
 use Rattle.meaning.specs.Limits.{placeWords}
 use Rattle.meaning.specs.Number.{Small, refusal}
+use Rattle.meaning.specs.File.{plain}
 use Rattle.meaning.specs.Answer.{Answer, done, refused, Outcome}
 use Rattle.meaning.specs.Place as meaning
 use Rattle.theory.specs.Shown.{PartWithin, shown-within}
@@ -34,7 +35,7 @@ placeIn task weights (meaning.ofWeights place many) = (weights .0, place + weigh
 
 module _ (task weights : List ℕ) where
   pub part-within : (part : meaning.Part) → part ≡ meaning.shown task weights → PartWithin task weights part
-  part-within part e = subst (PartWithin task weights) (sym e) (shown-within task weights)
+  part-within part e = subst (PartWithin task weights) (sym e) (shown-within plain task weights)
 
   pub task-bytes : (place many : ℕ) → meaning.ofTask place many ≡ meaning.shown task weights
       → take (place + many - place) (drop place task) ≡ meaning.bytesIn task weights (meaning.shown task weights)

@@ -1,5 +1,5 @@
 -- What silence answers for an accepted task, by its file and its parts.
-use Prim.Native.Nat.{ℕ, _<_, _≤_}
+use Prim.Native.Nat.{ℕ, _*_, _<_, _≤_}
 use mathlib.Core.Path.{_≡_, refl, sym, ap, _∙_, subst}
 use mathlib.Core.Logic.{_≢_}
 use mathlib.Core.Bool.{true, false}
@@ -7,40 +7,89 @@ use mathlib.Core.List.{List, List·Memᴰ as In}
 use native.Mathlib.Omega.{arith}
 use lib.ListN.{length, getD, drop}
 use borrow.Author.Tests.{eq-eqb, ne-eqb, lt-leb, le-leb}
-use Rattle.meaning.specs.Limits.{mostVariables, mostFeatures, numberEnd}
+use Rattle.meaning.specs.Limits.{mostVariables, mostFeatures, numberEnd, wordBits}
 use Rattle.meaning.specs.Task.{Task}
-use Rattle.meaning.specs.Feature.{features}
+use Rattle.meaning.specs.Feature.{atoms, features}
 use Rattle.meaning.specs.Number.{Reason, Range, Outgrown, got, fault}
-use Rattle.meaning.specs.File.{judgedTask, Writable, InLimits}
+use Rattle.meaning.specs.File.{judgedTask, Writable, InLimits, bytesOf, operatorBytes}
+use Rattle.meaning.specs.Workspace.{has}
 use Rattle.meaning.specs.Answer.{Outcome, fine, faulty, refuses, delivered}
 use Rattle.meaning.specs.Partial.{builtSizes, silenced, silencesBy, Silences}
+use Rattle.theory.specs.Run.{members, members-listed, run-wider}
 use Rattle.theory.specs.Spent.{Bytes}
+use Rattle.theory.specs.Parts.{operators-said}
+use Rattle.theory.specs.PartialParts.{operators-copied}
 use Rattle.theory.specs.Flat.{getD-in, in-getD}
-use Rattle.theory.specs.Accepted.{accepted, accepted-bytes}
-use Rattle.writer.specs.Parts.{Countable}
+use Rattle.theory.specs.Accepted.{accepted, accepted-end}
+use Rattle.words.specs.Members.{membersIn}
+use Rattle.layout.specs.Parts.{sizesPart, startPart, goalPart, pairsPart}
+use Rattle.task.specs.Answer.{Known, known-parts, known-ready}
+use Rattle.writer.specs.Parts.{Countable, FewWords}
 use Rattle.writer.specs.Front.{sizes-countable, state-countable}
 use Rattle.silencing.specs.Marks.{areMarks, areRoomy, Marked, are-marked, judgedBy, marks-judged, picked, picked-in}
-use Rattle.silencing.specs.Parts.{PartialFront, pairsPlace, partsBytes, place-within, silenced-bytes}
+use Rattle.silencing.specs.Parts.{PartialFront, restBytes, partsBytes, task-rest, silenced-bytes}
 
--- A task that was accepted, by its file and its parts.
-pub record Parted (bytes sizes start goal : List ℕ) : Type 0 where
+-- A task that was accepted, by its file and its parts: its pairs in words, and its operators as they stand in the file.
+pub record Parted (bytes own : List ℕ) (count : ℕ) (sizes start goal pairs : List ℕ) : Type 0 where
   pub task : Task
   pub next : ℕ
   pub judged : judgedTask bytes ≡ got task next
   pub sizes-are : sizes ≡ task .sizes
   pub start-is : start ≡ task .start
   pub goal-is : goal ≡ task .goal
+  pub few : FewWords pairs
+  pub pairs-are : membersIn pairs ≡ task .pairs
+  pub many : count ≡ length (task .operators)
+  pub copied : own ≡ bytesOf operatorBytes (task .operators)
+
+-- What the judge tells of an accepted file.
+module _ {bytes words left : List ℕ} {v n count at : ℕ} (known : Known bytes words left v n count at) where
+  abbrev read : Task
+  read = known .accepted .task
+
+  end : known .accepted .next ≡ length bytes
+  end = accepted-end bytes read (known .accepted .next) (known .accepted .judged)
+
+  -- The operators begin within the file.
+  pub at-within : at ≤ length bytes
+  at-within = omega (arith, operators-said bytes (read .sizes) count .gives at (read .operators) (known .accepted .next) (known .operators) .moved, end)
+
+  -- The header's parts, as they are lent.
+  module _ (sizes start goal pairs : List ℕ) (sizes-are : sizes ≡ sizesPart v left) (start-is : start ≡ startPart v left) (goal-is : goal ≡ goalPart v left) (pairs-are : pairs ≡ pairsPart v n left) where
+    due : (features (read .sizes) ≤ wordBits * length pairs) × FewWords pairs
+    due =
+        let listed-in = known-ready (known .accepted) .0 in
+        let total = ap features (known-parts (known .accepted) .0) in
+        (omega (arith, listed-in .due, total, ap length pairs-are), omega (arith, listed-in .due, listed-in .limits .total, ap length pairs-are))
+
+    pairs-members : membersIn pairs ≡ read .pairs
+    pairs-members =
+        ap (members (wordBits * length pairs)) (ap has pairs-are ∙ known-parts (known .accepted) .3)
+        ∙ members-listed (atoms (read .sizes)) (wordBits * length pairs) (read .pairs) (run-wider _ _ _ _ (read .pairs) (omega arith) (due .0) (known .accepted .writable .acceptable .pairs))
+
+    pub known-parted : Bytes bytes → (own : List ℕ) → own ≡ drop at bytes → Parted bytes own count sizes start goal pairs
+    known-parted small own e = let parts = known-parts (known .accepted) in record {
+      task = read;
+      next = known .accepted .next;
+      judged = known .accepted .judged;
+      sizes-are = sizes-are ∙ parts .0;
+      start-is = start-is ∙ parts .1;
+      goal-is = goal-is ∙ parts .2;
+      few = due .1;
+      pairs-are = pairs-members;
+      many = known .many;
+      copied = e ∙ operators-copied bytes (read .sizes) count at (read .operators) (known .accepted .next) small (known .operators) (omega (arith, end));
+    }
 
 -- What can be silenced by marks that were judged.
-pub record Silent (bytes sizes start goal marks : List ℕ) : Type 0 where
+pub record Silent (sizes start goal marks : List ℕ) : Type 0 where
   pub sizes-fit : Countable sizes
   pub start-fits : Countable start
   pub goal-fits : Countable goal
   pub few : length goal ≤ mostVariables
   pub marked : Marked (length goal) marks
-  pub place : pairsPlace sizes start goal ≤ length bytes
 
-module _ {bytes sizes start goal marks : List ℕ} (silent : Silent bytes sizes start goal marks) where
+module _ {sizes start goal marks : List ℕ} (silent : Silent sizes start goal marks) where
   -- The front with the goal values that are named can be written.
   pub silent-front : (named : List ℕ) → length named ≤ length marks → named ≡ picked marks goal → PartialFront sizes marks start named
   silent-front named few e = (
@@ -56,7 +105,7 @@ module _ {bytes sizes start goal marks : List ℕ} (silent : Silent bytes sizes 
     ),
   )
 
-module _ (bytes sizes start goal : List ℕ) (parted : Parted bytes sizes start goal) where
+module _ (bytes own : List ℕ) (count : ℕ) (sizes start goal pairs : List ℕ) (parted : Parted bytes own count sizes start goal pairs) where
   abbrev T : Task
   T = parted .task
 
@@ -67,17 +116,19 @@ module _ (bytes sizes start goal : List ℕ) (parted : Parted bytes sizes start 
   parted-limits = rw (parted .sizes-are) (writable .acceptable .limits)
 
   module _ (marks room : List ℕ) where
-    pub parted-silent : Bytes bytes → length marks ≡ length sizes → areMarks marks ≡ true → Silent bytes sizes start goal marks
-    parted-silent small long ok =
-        let a = writable .acceptable in
-        rw (parted .sizes-are, parted .start-is, parted .goal-is) (record {
-          sizes-fit = sizes-countable (T .sizes) (a .limits);
-          start-fits = state-countable (T .sizes) (T .start) (a .limits) (a .start);
-          goal-fits = state-countable (T .sizes) (T .goal) (a .limits) (a .goal);
-          few = omega (arith, a .goal .full, a .limits .variables);
-          marked = are-marked (length (T .goal)) marks (long ∙ ap length (parted .sizes-are) ∙ sym (a .goal .full)) ok;
-          place = omega (arith, place-within T, ap length (accepted-bytes bytes T (parted .next) (parted .judged) small));
-        })
+    pub parted-silent : length marks ≡ length sizes → areMarks marks ≡ true → Silent sizes start goal marks × FewWords pairs × (count < numberEnd)
+    parted-silent long ok =
+        let a = writable .acceptable in (
+          rw (parted .sizes-are, parted .start-is, parted .goal-is) (record {
+            sizes-fit = sizes-countable (T .sizes) (a .limits);
+            start-fits = state-countable (T .sizes) (T .start) (a .limits) (a .start);
+            goal-fits = state-countable (T .sizes) (T .goal) (a .limits) (a .goal);
+            few = omega (arith, a .goal .full, a .limits .variables);
+            marked = are-marked (length (T .goal)) marks (long ∙ ap length (parted .sizes-are) ∙ sym (a .goal .full)) ok;
+          }),
+          parted .few,
+          omega (arith, parted .many, writable .countable),
+        )
 
     by-judged : (outcome : Outcome ℕ) → outcome ≡ silencesBy (judgedBy sizes marks) (silenced T marks) room → Silences bytes marks room outcome
     by-judged outcome q = rw (parted .judged) (q ∙ ap (λ j. silencesBy j (silenced T marks) room) (ap (λ ds. judgedBy ds marks) (parted .sizes-are) ∙ sym (marks-judged T marks)))
@@ -105,15 +156,16 @@ module _ (bytes sizes start goal : List ℕ) (parted : Parted bytes sizes start 
       too-many e d l = rw (eq-eqb _ _ long, e, d, lt-leb _ _ l) refl
 
       -- Otherwise the file is delivered.
-      pub silence-delivered : (outcome : Outcome ℕ) → Bytes bytes → areMarks marks ≡ true → areRoomy sizes ≡ true → features (builtSizes sizes) ≤ mostFeatures
-          → outcome ≡ delivered (partsBytes sizes marks start (picked marks goal) (drop (pairsPlace sizes start goal) bytes)) room → Silences bytes marks room outcome
+      pub silence-delivered : (outcome : Outcome ℕ) → areMarks marks ≡ true → areRoomy sizes ≡ true → features (builtSizes sizes) ≤ mostFeatures
+          → outcome ≡ delivered (partsBytes sizes marks start (picked marks goal) (restBytes pairs count own)) room → Silences bytes marks room outcome
       unfolding judgedBy
-      silence-delivered outcome small e d l q =
+      silence-delivered outcome e d l q =
           let a = writable .acceptable in
           let ok = are-marked (length (T .sizes)) marks (long ∙ ap length (parted .sizes-are)) e in
-          let file = rw (parted .sizes-are, parted .start-is, parted .goal-is, accepted-bytes bytes T (parted .next) (parted .judged) small) at q in
+          let rest = task-rest T pairs count own (parted .pairs-are) (parted .many) (parted .copied) in
+          let file = rw (parted .sizes-are, parted .start-is, parted .goal-is) at q in
           let judged : judgedBy sizes marks ≡ fine = rw (eq-eqb _ _ long, e, d, le-leb _ _ l) refl in
-          by-judged outcome (file ∙ ap (λ l. delivered l room) (sym (silenced-bytes T marks (a .goal) ok)) ∙ sym (ap (λ j. silencesBy j (silenced T marks) room) judged))
+          by-judged outcome (file ∙ ap (λ l. delivered l room) (sym (silenced-bytes T marks (restBytes pairs count own) (a .goal) ok rest)) ∙ sym (ap (λ j. silencesBy j (silenced T marks) room) judged))
 
 -- A task that is refused.
 pub task-refused : (bytes marks room : List ℕ) (reason : Reason) (place : ℕ) (outcome : Outcome ℕ) → judgedTask bytes ≡ fault reason place → outcome ≡ refuses reason room → Silences bytes marks room outcome

@@ -1,29 +1,45 @@
--- The parts of the partial file of a task: the front anew, and what stands behind the goal as in the task's file.
-use Prim.Native.Nat.{ℕ, suc, _+_, _-_, _*_, _<_, _≤_}
-use mathlib.Core.Path.{_≡_, refl, sym, ap, ap₂, _∙_}
+-- The parts of the partial file of a task: the front and the pairs anew, and the operators as in the task's file.
+use Prim.Native.Nat.{ℕ, suc, _+_, _*_, _<_, _≤_}
+use mathlib.Core.Path.{_≡_, refl, sym, ap, ap₂}
 use mathlib.Core.Bool.{Bool, true, false, cond}
-use mathlib.Core.List.{List, [], _∷_, _++_, append-nil, append-assoc}
+use mathlib.Core.List.{List, [], _∷_, _++_, append-nil}
 use native.Mathlib.Omega.{arith}
 use lib.Dec.{eqb, ltb}
 use lib.ListN.{length, take, drop, length-append}
-use lib.Seq.{drop-at}
 use borrow.Author.Tests.{eqb-true, eqb-false, lt-ltb, le-ltb}
 use Rattle.meaning.specs.Sets.{table}
-use Rattle.meaning.specs.Limits.{group, numberEnd}
+use Rattle.meaning.specs.Limits.{group, numberEnd, wordBits}
 use Rattle.meaning.specs.Task.{Task, State, value, size}
 use Rattle.meaning.specs.Number.{groupBytes, numberBytes}
-use Rattle.meaning.specs.File.{bytesOf, counted, operatorBytes, weightBytes, taskBytes}
+use Rattle.meaning.specs.File.{plain, bytesOf, counted, operatorBytes, weightBytes, listBytes}
+use Rattle.meaning.specs.Workspace.{has}
 use Rattle.meaning.specs.Answer.{delivered}
 use Rattle.meaning.specs.Partial.{marksIn, namedIn, partialBytes, silenced}
 use Rattle.theory.specs.Truth.{on, off, test}
+use Rattle.theory.specs.NumberBack.{number-bytes-length}
+use Rattle.words.specs.Members.{membersIn, members-few}
 use Rattle.writer.specs.declared.Written.the-variants.{Done}
 use Rattle.writer.specs.Answer.{outcomeOf}
-use Rattle.writer.specs.Parts.{Countable}
-use Rattle.writer.specs.Widths.{fourLists, numbers-few, list-few}
+use Rattle.writer.specs.Parts.{Countable, FewWords}
+use Rattle.writer.specs.Widths.{fourLists, numbers-few, list-few, features-few}
 use Rattle.writer.specs.Remains.{remains-all, remains-after, remains-none, delivered-done}
 use Rattle.silencing.specs.Marks.{Marked, picked}
 
 -- ---- the file by its parts
+
+-- What stands behind the goal: the pairs in words, how many operators there are, and the operators.
+unfoldable pub restBytes : List ℕ → ℕ → List ℕ → List ℕ
+restBytes pairs count own = listBytes plain (membersIn pairs) ++ (numberBytes count ++ own)
+
+pub rest-length : (pairs : List ℕ) (count : ℕ) (own : List ℕ)
+    → length (restBytes pairs count own) ≡ length (listBytes plain (membersIn pairs)) + length (numberBytes count) + length own
+unfolding restBytes
+rest-length pairs count own = omega (arith, length-append (listBytes plain (membersIn pairs)) (numberBytes count ++ own), length-append (numberBytes count) own)
+
+-- It is short but for the operators.
+pub rest-few : (pairs : List ℕ) (count : ℕ) (own : List ℕ) → FewWords pairs → length (restBytes pairs count own) ≤ fourLists + length own
+rest-few pairs count own few =
+    omega (arith, rest-length pairs count own, features-few plain (membersIn pairs), members-few (has pairs) (wordBits * length pairs), few, number-bytes-length count .1)
 
 -- Sizes with their count, marks, start, the goal values that are named, and the rest as it is.
 unfoldable pub partsBytes : List ℕ → List ℕ → List ℕ → List ℕ → List ℕ → List ℕ
@@ -70,42 +86,6 @@ module _ (sizes marks start named rest : List ℕ) where
         let all = remains-none (remains-after r₄ rest [] room₅ end (sym (append-nil rest)) (e .0) (e .1)) refl in
         delivered-done file room room₅ end fit (all .0) (all .1)
 
--- ---- the task's file
-
--- Where the pairs begin.
-unfoldable pub pairsPlace : List ℕ → List ℕ → List ℕ → ℕ
-pairsPlace sizes start goal = length (counted numberBytes sizes) + length (bytesOf numberBytes start) + length (bytesOf numberBytes goal)
-
-pub place-few : (sizes start goal : List ℕ) → Countable sizes → Countable start → Countable goal → pairsPlace sizes start goal ≤ fourLists
-unfolding pairsPlace
-place-few sizes start goal s b g = omega (arith, list-few sizes, numbers-few start, numbers-few goal, s .0, b .0, g .0)
-
-module _ (T : Task) where
-  abbrev front : List ℕ
-  front = (counted numberBytes (T .sizes) ++ bytesOf numberBytes (T .start)) ++ bytesOf numberBytes (T .goal)
-
-  abbrev behind : List ℕ
-  behind = weightBytes (T .pairs) ++ counted operatorBytes (T .operators)
-
-  split : taskBytes T ≡ front ++ behind
-  unfolding taskBytes
-  split = sym (append-assoc (counted numberBytes (T .sizes) ++ bytesOf numberBytes (T .start)) (bytesOf numberBytes (T .goal)) behind
-      ∙ append-assoc (counted numberBytes (T .sizes)) (bytesOf numberBytes (T .start)) (bytesOf numberBytes (T .goal) ++ behind))
-
-  place : length front ≡ pairsPlace (T .sizes) (T .start) (T .goal)
-  unfolding pairsPlace
-  place = omega (
-    arith,
-    length-append (counted numberBytes (T .sizes) ++ bytesOf numberBytes (T .start)) (bytesOf numberBytes (T .goal)),
-    length-append (counted numberBytes (T .sizes)) (bytesOf numberBytes (T .start)),
-  )
-
-  pub place-within : pairsPlace (T .sizes) (T .start) (T .goal) ≤ length (taskBytes T)
-  place-within = omega (arith, place, ap length split, length-append front behind)
-
-  pub behind-goal : drop (pairsPlace (T .sizes) (T .start) (T .goal)) (taskBytes T) ≡ behind
-  behind-goal = ap (drop (pairsPlace (T .sizes) (T .start) (T .goal))) split ∙ drop-at front behind _ place
-
 -- ---- marks and named values of the partial task
 
 -- A mark is one byte.
@@ -143,11 +123,15 @@ marked (d ∷ ds) (m ∷ ms) (g ∷ gs) ok t =
     value-picked true c g d e = rw e refl
     value-picked false c g d e = rw e refl
 
-pub silenced-bytes : (T : Task) (marks : List ℕ) → State (T .sizes) (T .goal) → Marked (length (T .sizes)) marks → partialBytes (silenced T marks)
-    ≡ partsBytes (T .sizes) marks (T .start) (picked marks (T .goal)) (drop (pairsPlace (T .sizes) (T .start) (T .goal)) (taskBytes T))
+-- What stands behind the goal of a task's partial file.
+pub task-rest : (T : Task) (pairs : List ℕ) (count : ℕ) (own : List ℕ) → membersIn pairs ≡ T .pairs → count ≡ length (T .operators) → own ≡ bytesOf operatorBytes (T .operators)
+    → restBytes pairs count own ≡ weightBytes (T .pairs) ++ counted operatorBytes (T .operators)
+unfolding restBytes listBytes counted
+task-rest T pairs count own same many copied = rw (same, many, copied) refl
+
+pub silenced-bytes : (T : Task) (marks rest : List ℕ) → State (T .sizes) (T .goal) → Marked (length (T .sizes)) marks → rest ≡ weightBytes (T .pairs) ++ counted operatorBytes (T .operators)
+    → partialBytes (silenced T marks) ≡ partsBytes (T .sizes) marks (T .start) (picked marks (T .goal)) rest
 unfolding partialBytes partsBytes silenced
-silenced-bytes T marks t ok =
+silenced-bytes T marks rest t ok behind =
     let (mark, named) = marked (T .sizes) marks (T .goal) ok t in
-    ap₂ (λ ms ns. counted numberBytes (T .sizes) ++ (bytesOf numberBytes ms ++ (bytesOf numberBytes (T .start) ++ (bytesOf numberBytes ns ++ behind T)))) mark named
-    ∙ ap₂ (λ ms rest. counted numberBytes (T .sizes) ++ (ms ++ (bytesOf numberBytes (T .start) ++ (bytesOf numberBytes (picked marks (T .goal)) ++ rest))))
-    (marks-bytes marks _ ok) (sym (behind-goal T))
+    rw (mark, named, marks-bytes marks _ ok, behind) refl

@@ -11,7 +11,7 @@ use Rattle.meaning.specs.Limits.{mostSlots, mostFeatures}
 use Rattle.meaning.specs.Number.{Gaps, Unequal}
 use Rattle.meaning.specs.Feature.{atoms, features}
 use Rattle.meaning.specs.Workspace.{wordsFor}
-use Rattle.meaning.specs.File.{InLimits, operatorBytes, counted, taskBytes}
+use Rattle.meaning.specs.File.{plain, InLimits, operatorBytes, counted, taskBytes}
 use Rattle.meaning.specs.Answer.{refuses, delivered}
 use Rattle.meaning.specs.Bay.{occurrences, oneGap, equalLots, onceIn, baySizes, bayPairs, taskFor}
 use Rattle.theory.specs.Flat.{take-replicate}
@@ -61,12 +61,12 @@ module _ {near sizes start goal pairs : List ℕ} (parts : TaskParts near sizes 
       let limits = slots-limits (parts .slots) in
       (rw (parts .all-sizes) (sizes-countable _ limits), state-countable _ start limits (parts .slots .state), state-countable _ goal limits (parts .is-goal), parts .few-words)
 
-  pub task-split : taskBytes (taskIn near start goal) ≡ frontBytes sizes start goal (membersIn pairs) ++ counted operatorBytes (operatorsIn near start)
+  pub task-split : taskBytes (taskIn near start goal) ≡ frontBytes plain sizes start goal (membersIn pairs) ++ counted operatorBytes (operatorsIn near start)
   unfolding taskFor
-  task-split = rw (parts .all-sizes, parts .all-pairs) (task-front (taskIn near start goal))
+  task-split = rw (parts .all-sizes, parts .all-pairs) (task-front plain (taskIn near start goal))
 
-  pub task-length : length (taskBytes (taskIn near start goal)) ≡ length (frontBytes sizes start goal (membersIn pairs)) + length (counted operatorBytes (operatorsIn near start))
-  task-length = part-length (frontBytes sizes start goal (membersIn pairs)) _ task-split
+  pub task-length : length (taskBytes (taskIn near start goal)) ≡ length (frontBytes plain sizes start goal (membersIn pairs)) + length (counted operatorBytes (operatorsIn near start))
+  task-length = part-length (frontBytes plain sizes start goal (membersIn pairs)) _ task-split
 
   -- The whole is small.
   pub task-few : length (taskBytes (taskIn near start goal)) ≤ 2 * fourLists
@@ -74,7 +74,7 @@ module _ {near sizes start goal pairs : List ℕ} (parts : TaskParts near sizes 
       omega (
         arith,
         task-length,
-        front-few sizes start goal pairs front-written,
+        front-few plain sizes start goal pairs front-written,
         operators-length near start (parts .slots),
         number-bytes-length (length (operatorsIn near start)) .1,
         operators-few near start (parts .slots),

@@ -241,11 +241,11 @@ fn write_task(
     requires { ⌜ TaskParts (now near) (now sizes) (now start) (now goal) (now pairs) ⌝ }
     ensures { λ r. ⌜ outcomeOf r (now (room .exit)) ≡ delivered (taskBytes (taskIn (now (near .entry)) (now (start .entry)) (now (goal .entry)))) (now (room .entry)) ⌝ }
 {
-    let front = writer::front_width(sizes, start, goal, pairs);
+    let front = writer::front_width(false, sizes, start, goal, pairs);
     if room.len() < front + operators_width(near, start) {
         return writer::refuse(Reason::Small);
     }
-    let next = writer::write_front(room, sizes, start, goal, pairs);
+    let next = writer::write_front(room, false, sizes, start, goal, pairs);
     Written::Done(write_operators(room, next, near, start))
 }
 

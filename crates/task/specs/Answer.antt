@@ -9,7 +9,7 @@ use Rattle.meaning.specs.Sets.{listed}
 use Rattle.meaning.specs.Task.{Operator, Task, State}
 use Rattle.meaning.specs.Feature.{features}
 use Rattle.meaning.specs.Number.{Read, got, fault}
-use Rattle.meaning.specs.File.{operatorsOf, taskOf, judgedTask, Writable}
+use Rattle.meaning.specs.File.{Kind, markOf, operatorsOf, taskOf, judgedTask, Writable}
 use Rattle.meaning.specs.Workspace.{slotsAt, has}
 use Rattle.theory.specs.Parts.{operators-said}
 use Rattle.theory.specs.Accepted.{Readable, writable-readable, read-known, accepted}
@@ -29,7 +29,7 @@ use Rattle.pairs.specs.Ready.{Listed}
 use Rattle.task.specs.declared.Judged.{Judged}
 use Rattle.task.specs.declared.Judged.the-variants.{Accepted, Refused}
 use Rattle.task.specs.Header.{headerWords, Headed, readable-headed, front-header, front-headed, header-front, header-room, header-parts, header-ready, header-has}
-use Rattle.task.specs.Rest.{judgedBy, restOf, behind, front-unread, judged-behind, rest-operators}
+use Rattle.task.specs.Rest.{judgedBy, fileBy, restOf, behind, front-unread, judged-behind, rest-operators, file-marked, file-unmarked}
 
 -- An accepted task: the answer has its counts and the place after its front, where its operators are read, and the words left begin with its header.
 pub record AcceptedInto (bytes words : List ℕ) (T : Task) (next : ℕ) (answer : Judged) (left : List ℕ) : Type 0 where
@@ -191,9 +191,9 @@ pub record FrontedAs (reading : Read Front) (words left : List ℕ) (v n count a
   pub many : count ≡ front .count
   pub words-are : left ≡ begun words (frontWords front)
 
--- That of a task file.
-abbrev pub Fronted : List ℕ → ℕ → List ℕ → List ℕ → ℕ → ℕ → ℕ → ℕ → Type 0
-Fronted bytes from = FrontedAs (frontOf bytes from)
+-- That of a task file of a kind.
+abbrev pub Fronted : Kind → List ℕ → ℕ → List ℕ → List ℕ → ℕ → ℕ → ℕ → ℕ → Type 0
+Fronted kind bytes from = FrontedAs (frontOf kind bytes from)
 
 -- What the reader of a front tells.
 module _ (reading : Read Front) (words : List ℕ) (answer : Header) (left : List ℕ) (h : HeaderInto reading words answer left) where
@@ -221,16 +221,33 @@ module _ (reading : Read Front) (words : List ℕ) (answer : Header) (left : Lis
           let found : step.Fault (declaredOf other) there ≡ step.Fault reason place = cc in
           place-faulted (fault other there) reason place found
 
-module _ (bytes : List ℕ) (from : ℕ) (words left : List ℕ) where
-  answer-refused : (wholly : Bool) (reason : Reason) (place : ℕ) → judgedBy wholly bytes from ≡ fault (reasonOf reason) place
-      → JudgedInto (judgedBy wholly bytes from) bytes words (Refused reason place) left
-  unfolding JudgedInto
-  answer-refused wholly reason place e = rw e (ap (λ r. Refused r place) (sym (declared-reason reason)))
+-- A fault, whatever was judged.
+answer-refused : (judging : Read Task) (bytes words left : List ℕ) (reason : Reason) (place : ℕ) → judging ≡ fault (reasonOf reason) place
+    → JudgedInto judging bytes words (Refused reason place) left
+unfolding JudgedInto
+answer-refused judging bytes words left reason place e = rw e (ap (λ r. Refused r place) (sym (declared-reason reason)))
 
-  pub front-refused : (wholly : Bool) (reason : Reason) (place : ℕ) → frontOf bytes from ≡ fault (reasonOf reason) place → JudgedInto (judgedBy wholly bytes from) bytes words (Refused reason place) left
-  front-refused wholly reason place e = answer-refused wholly reason place (front-unread bytes from wholly (reasonOf reason) place e)
+-- What is the same, judged, is answered so.
+pub answer-same : {judging asked : Read Task} (bytes words left : List ℕ) (answer : Judged) → judging ≡ asked → JudgedInto judging bytes words answer left
+    → JudgedInto asked bytes words answer left
+answer-same bytes words left answer e judged = rw (← e) judged
 
-  module _ (v n count at : ℕ) (known : Fronted bytes from words left v n count at) where
+-- A file by its mark.
+module _ (kind : Kind) (wholly : Bool) (bytes words left : List ℕ) where
+  pub marked-judged : (at : ℕ) (answer : Judged) → Next at ≡ placeOf (markOf kind bytes 0) → JudgedInto (judgedBy kind wholly bytes at) bytes words answer left
+      → JudgedInto (fileBy kind wholly bytes) bytes words answer left
+  marked-judged at answer e judged = let (mark, read) = place-next (markOf kind bytes 0) at (sym e) in rw (file-marked kind bytes wholly mark at read) judged
+
+  pub unmarked-judged : (reason : Reason) (place : ℕ) → step.Fault reason place ≡ placeOf (markOf kind bytes 0) → JudgedInto (fileBy kind wholly bytes) bytes words (Refused reason place) left
+  unmarked-judged reason place e =
+      answer-refused _ bytes words left reason place (file-unmarked kind bytes wholly (reasonOf reason) place (place-faulted (markOf kind bytes 0) reason place (sym e)))
+
+module _ (kind : Kind) (bytes : List ℕ) (from : ℕ) (words left : List ℕ) where
+  pub front-refused : (wholly : Bool) (reason : Reason) (place : ℕ) → frontOf kind bytes from ≡ fault (reasonOf reason) place
+      → JudgedInto (judgedBy kind wholly bytes from) bytes words (Refused reason place) left
+  front-refused wholly reason place e = answer-refused _ bytes words left reason place (front-unread kind bytes from wholly (reasonOf reason) place e)
+
+  module _ (v n count at : ℕ) (known : Fronted kind bytes from words left v n count at) where
     -- A task with this front, and its header.
     abbrev begins : List Operator → Task
     begins operators = taskWith (known .front) operators
@@ -239,7 +256,7 @@ module _ (bytes : List ℕ) (from : ℕ) (words left : List ℕ) where
     header-words operators = known .words-are ∙ ap (begun words) (front-header (known .front) operators)
 
     fronted-left : HeaderLeft (begins []) words left v n
-    fronted-left = record { headed = front-headed bytes from (known .front) at [] (known .read); variables = known .variables; total = known .total; header = header-words [] }
+    fronted-left = record { headed = front-headed kind bytes from (known .front) at [] (known .read); variables = known .variables; total = known .total; header = header-words [] }
 
     pub fronted-room : layout.Headed v n left
     fronted-room = left-room fronted-left
@@ -254,16 +271,16 @@ module _ (bytes : List ℕ) (from : ℕ) (words left : List ℕ) where
         abbrev rest : Read (List Operator)
         rest = restOf wholly sizes (has pairs) start count bytes at
 
-        lent-behind : rest ≡ behind bytes from (known .front) at wholly
+        lent-behind : rest ≡ behind kind bytes from (known .front) at wholly
         lent-behind = let parts = left-parts fronted-left in rw (sizes-are ∙ parts .0, start-is ∙ parts .1, ap has pairs-are ∙ parts .3, known .many)
 
         module _ (answer : Step) (told : answer ≡ placeOf rest) where
-          pub rest-refused : (reason : Reason) (place : ℕ) → answer ≡ step.Fault reason place → JudgedInto (judgedBy wholly bytes from) bytes words (Refused reason place) left
+          pub rest-refused : (reason : Reason) (place : ℕ) → answer ≡ step.Fault reason place → JudgedInto (judgedBy kind wholly bytes from) bytes words (Refused reason place) left
           rest-refused reason place e =
-              let found : behind bytes from (known .front) at wholly ≡ fault (reasonOf reason) place = sym lent-behind ∙ place-faulted rest reason place (sym told ∙ e) in
-              answer-refused wholly reason place (judged-behind bytes from (known .front) at wholly (known .read) ∙ rw found)
+              let found : behind kind bytes from (known .front) at wholly ≡ fault (reasonOf reason) place = sym lent-behind ∙ place-faulted rest reason place (sym told ∙ e) in
+              answer-refused _ bytes words left reason place (judged-behind kind bytes from (known .front) at wholly (known .read) ∙ rw found)
 
-          pub rest-accepted : (next : ℕ) → answer ≡ Next next → JudgedInto (judgedBy wholly bytes from) bytes words (Accepted v n count at) left
+          pub rest-accepted : (next : ℕ) → answer ≡ Next next → JudgedInto (judgedBy kind wholly bytes from) bytes words (Accepted v n count at) left
           unfolding JudgedInto
           rest-accepted next e = let (operators, read) = place-next rest next (sym told ∙ e) in passed operators (sym lent-behind ∙ read)
             where
@@ -276,9 +293,9 @@ module _ (bytes : List ℕ) (from : ℕ) (words left : List ℕ) where
                 header = header-words operators;
               }
 
-              passed : (operators : List Operator) → behind bytes from (known .front) at wholly ≡ got operators next
-                  → JudgedInto (judgedBy wholly bytes from) bytes words (Accepted v n count at) left
+              passed : (operators : List Operator) → behind kind bytes from (known .front) at wholly ≡ got operators next
+                  → JudgedInto (judgedBy kind wholly bytes from) bytes words (Accepted v n count at) left
               passed operators found =
-                  let all : judgedBy wholly bytes from ≡ got (begins operators) next = judged-behind bytes from (known .front) at wholly (known .read) ∙ rw found in
+                  let all : judgedBy kind wholly bytes from ≡ got (begins operators) next = judged-behind kind bytes from (known .front) at wholly (known .read) ∙ rw found in
                   let read = rest-operators wholly (known .front .states .sizes) (listed (known .front .pairs)) (known .front .states .start) (known .front .count) bytes at operators next found in
                   rw all (made operators read (operators-said bytes (known .front .states .sizes) (known .front .count) .gives at operators next read .known .0))

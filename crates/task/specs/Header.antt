@@ -1,7 +1,6 @@
 -- The header of a task in words: where each part is read back, and what is known of a front that was read.
 use Prim.Native.Nat.{ℕ, _≤_}
-use mathlib.Core.Path.{_≡_, refl, sym, ap, _∙_, fun-ext}
-use mathlib.Core.Bool.{false}
+use mathlib.Core.Path.{_≡_, refl, sym, ap, _∙_}
 use mathlib.Core.List.{List, [], _∷_, _++_, append-assoc}
 use native.Mathlib.Omega.{arith}
 use lib.ListN.{length, take, drop, length-append}
@@ -10,14 +9,12 @@ use Rattle.meaning.specs.Sets.{Slots, listed, flat}
 use Rattle.meaning.specs.Task.{Operator, Task, State, Run}
 use Rattle.meaning.specs.Feature.{atoms, features}
 use Rattle.meaning.specs.Number.{got}
-use Rattle.meaning.specs.File.{InLimits}
+use Rattle.meaning.specs.File.{Kind, InLimits}
 use Rattle.meaning.specs.Workspace.{wordsFor, sizesAt, startAt, goalAt, pairsAt, slotsAt, has, packed, wordsOf, contentOf}
-use Rattle.theory.specs.Search.{listed-in}
-use Rattle.theory.specs.Run.{run-in}
-use Rattle.theory.specs.Truth.{on, off, test}
-use Rattle.theory.specs.Words.{length-packed, packed-holds}
+use Rattle.theory.specs.Words.{length-packed}
 use Rattle.theory.specs.Spent.{Gives, gives-then}
 use Rattle.theory.specs.Accepted.{Readable}
+use Rattle.words.specs.Members.{run-has}
 use Rattle.layout.specs.Parts as layout
 use Rattle.layout.specs.Parts.{sizesPart, startPart, goalPart, pairsPart}
 use Rattle.reader.specs.Answer.{begun, featureWords}
@@ -68,10 +65,7 @@ module _ {above : List ℕ} (T : Task) (known : HeadedFor above T) where
   header-listed = record { limits = known .limits; due = length-packed (features (T .sizes)) (listed (T .pairs)) }
 
   pairs-has : has (pairWords T) ≡ listed (T .pairs)
-  pairs-has = fun-ext (λ f. packed-holds (features (T .sizes)) (listed (T .pairs)) f (past f))
-    where
-      past : (f : ℕ) → features (T .sizes) ≤ f → listed (T .pairs) f ≡ false
-      past f l = elim (test (listed (T .pairs) f)) [ on e ↦ absurd (omega (arith, run-in (atoms (T .sizes)) (features (T .sizes)) (T .pairs) f (known .pairs) (listed-in (T .pairs) f e))) | off e ↦ e ]
+  pairs-has = run-has (atoms (T .sizes)) (features (T .sizes)) (T .pairs) (known .pairs)
 
   pub header-length : length (headerWords T) ≡ slotsAt (length (T .sizes)) (features (T .sizes))
   unfolding headerWords
@@ -119,11 +113,11 @@ header-ready T known words left e v n many total = let parts = header-parts T kn
 
 -- ---- a front that was read
 
-front-said : (bytes : List ℕ) → Gives bytes frontOf (λ front l. Headed (taskWith front []))
+front-said : (kind : Kind) (bytes : List ℕ) → Gives bytes (frontOf kind) (λ front l. Headed (taskWith front []))
 unfolding frontOf
-front-said bytes = gives-then _ _ (states-said bytes)
-    (λ states l s. behind-said bytes states (λ front. Headed (taskWith front [])) (λ pairs count p. record { limits = s .0; start = s .1; even = refl; goal = s .2; pairs = p }))
+front-said kind bytes = gives-then _ _ (states-said bytes)
+    (λ states l s. behind-said kind bytes states (λ front. Headed (taskWith front [])) (λ pairs count p. record { limits = s .0; start = s .1; even = refl; goal = s .2; pairs = p }))
 
-pub front-headed : (bytes : List ℕ) (from : ℕ) (front : Front) (at : ℕ) (operators : List Operator) → frontOf bytes from ≡ got front at → Headed (taskWith front operators)
-front-headed bytes from front at operators e = let known = front-said bytes .gives from front at e .known in
+pub front-headed : (kind : Kind) (bytes : List ℕ) (from : ℕ) (front : Front) (at : ℕ) (operators : List Operator) → frontOf kind bytes from ≡ got front at → Headed (taskWith front operators)
+front-headed kind bytes from front at operators e = let known = front-said kind bytes .gives from front at e .known in
     record { limits = known .limits; start = known .start; even = refl; goal = known .goal; pairs = known .pairs }

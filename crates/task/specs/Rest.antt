@@ -1,4 +1,4 @@
--- What is judged behind the header of a task file, wholly or up to 5, and that a task is judged as its front and then this.
+-- What is judged behind the mark and behind the header of a task file, wholly or up to 5: that a task is judged as its front and then the rest, and a file as its mark and then its task.
 use Prim.Native.Nat.{ℕ, _<_, _≤_}
 use mathlib.Core.Path.{_≡_, refl, sym, ap, _∙_}
 use mathlib.Core.Bool.{Bool, true, false, cond}
@@ -10,15 +10,20 @@ use Rattle.meaning.specs.Sets.{Set, listed, allOf}
 use Rattle.meaning.specs.Task.{Operator, Task}
 use Rattle.meaning.specs.Pair.{closed, holds}
 use Rattle.meaning.specs.Number.{Reason, Read, got, fault, onRead, LeftOver, Held, Unclosed}
-use Rattle.meaning.specs.File.{Parser, give, then, judge, operatorsOf, ended, taskOf, judgedPairs, judgedFrom}
+use Rattle.meaning.specs.File.{Parser, give, then, judge, Kind, kindOf, markOf, operatorsOf, ended, partsOf, taskAs, taskOf, judgedPairs, judgedAs, judgedTask}
 use Rattle.theory.specs.Reading.{on-got, test-passed, test-failed, judged-passed}
 use Rattle.reader.specs.Front.{Front, frontOf, taskWith, task-front}
 use Rattle.task.specs.Walk.{closedFrom, closed-all}
 
--- A task file judged wholly, or up to 5 and no further.
-unfoldable pub judgedBy : Bool → Parser Task
-judgedBy true = judgedFrom
-judgedBy false = taskOf
+-- What stands behind the mark of a task file, judged wholly, or up to 5 and no further.
+unfoldable pub judgedBy : Kind → Bool → Parser Task
+judgedBy kind true bytes from = onRead (partsOf kind bytes from) judgedPairs
+judgedBy kind false bytes from = partsOf kind bytes from
+
+-- A task file of a kind, judged so.
+unfoldable pub fileBy : Kind → Bool → List ℕ → Read Task
+fileBy kind true bytes = judgedAs kind bytes
+fileBy kind false bytes = taskAs kind bytes 0
 
 -- What is judged after the last byte, if the task is judged wholly: "then come 5, 6, 7 by operator".
 abbrev pub judgedLast : Bool → List ℕ → Set → List ℕ → List Operator → ℕ → Read (List Operator)
@@ -84,11 +89,11 @@ module _ (wholly : Bool) (sizes : List ℕ) (pairs : Set) (start : List ℕ) (co
 
 -- ---- a task
 
-module _ (bytes : List ℕ) (from : ℕ) where
-  pub front-unread : (wholly : Bool) (reason : Reason) (place : ℕ) → frontOf bytes from ≡ fault reason place → judgedBy wholly bytes from ≡ fault reason place
+module _ (kind : Kind) (bytes : List ℕ) (from : ℕ) where
+  pub front-unread : (wholly : Bool) (reason : Reason) (place : ℕ) → frontOf kind bytes from ≡ fault reason place → judgedBy kind wholly bytes from ≡ fault reason place
   unfolding judgedBy
-  front-unread true reason place e = rw (task-front bytes from, e)
-  front-unread false reason place e = rw (task-front bytes from, e)
+  front-unread true reason place e = rw (task-front kind bytes from, e)
+  front-unread false reason place e = rw (task-front kind bytes from, e)
 
   module _ (front : Front) (at : ℕ) where
     abbrev made : Read (List Operator) → Read Task
@@ -101,8 +106,8 @@ module _ (bytes : List ℕ) (from : ℕ) where
     abbrev pub behind : Bool → Read (List Operator)
     behind wholly = restOf wholly (front .states .sizes) (listed (front .pairs)) (front .states .start) (front .count) bytes at
 
-    read-behind : frontOf bytes from ≡ got front at → taskOf bytes from ≡ made ends
-    read-behind read = rw (task-front bytes from, read) (at-operators (operatorsOf (front .states .sizes) (front .count) bytes at))
+    read-behind : frontOf kind bytes from ≡ got front at → partsOf kind bytes from ≡ made ends
+    read-behind read = rw (task-front kind bytes from, read) (at-operators (operatorsOf (front .states .sizes) (front .count) bytes at))
       where
         at-end : (operators : List Operator) (end : Read (Unit {0})) → onRead end (λ _ next. got (taskWith front operators) next) ≡ made (onRead end (λ _ next. got operators next))
         at-end operators (got _ next) = refl
@@ -113,7 +118,7 @@ module _ (bytes : List ℕ) (from : ℕ) where
         at-operators (got operators after) = at-end operators (ended bytes after)
         at-operators (fault reason place) = refl
 
-    pub judged-behind : (wholly : Bool) → frontOf bytes from ≡ got front at → judgedBy wholly bytes from ≡ made (behind wholly)
+    pub judged-behind : (wholly : Bool) → frontOf kind bytes from ≡ got front at → judgedBy kind wholly bytes from ≡ made (behind wholly)
     unfolding judgedBy restOf
     judged-behind true read = ap (λ r. onRead r judgedPairs) (read-behind read) ∙ last ends
       where
@@ -132,3 +137,27 @@ module _ (bytes : List ℕ) (from : ℕ) where
         same : (read : Read (List Operator)) → read ≡ onRead read got
         same (got operators next) = refl
         same (fault reason place) = refl
+
+-- ---- a file
+
+module _ (kind : Kind) (bytes : List ℕ) where
+  -- By its mark.
+  pub file-marked : (wholly : Bool) (mark : Unit {0}) (at : ℕ) → markOf kind bytes 0 ≡ got mark at → fileBy kind wholly bytes ≡ judgedBy kind wholly bytes at
+  unfolding fileBy judgedBy judgedAs taskAs
+  file-marked true mark at e = rw e
+  file-marked false mark at e = rw e
+
+  pub file-unmarked : (wholly : Bool) (reason : Reason) (place : ℕ) → markOf kind bytes 0 ≡ fault reason place → fileBy kind wholly bytes ≡ fault reason place
+  unfolding fileBy judgedAs taskAs
+  file-unmarked true reason place e = rw e
+  file-unmarked false reason place e = rw e
+
+  -- Of the kind that its first number says.
+  module _ (e : kind ≡ kindOf bytes 0) where
+    pub either-judged : fileBy kind true bytes ≡ judgedTask bytes
+    unfolding fileBy judgedAs judgedTask taskOf
+    either-judged = ap (λ k. onRead (taskAs k bytes 0) judgedPairs) e
+
+    pub either-read : fileBy kind false bytes ≡ taskOf bytes 0
+    unfolding fileBy taskOf
+    either-read = ap (λ k. taskAs k bytes 0) e

@@ -1,15 +1,15 @@
-// Judges a task file, wholly or up to 5: its first fault in the order of the paper, or that it is accepted.
+// Judges a task file of one kind or either, wholly or up to 5: its first fault in the order of the paper, or that it is accepted.
 ghost use mathlib.Core.Path.{_≡_};
 ghost use Prim.Native.Nat.{_≤_};
 ghost use lib.ListN.{length, replicate};
 ghost use Rattle.meaning.specs.Limits.{mostVariables, mostFeatures};
 ghost use Rattle.meaning.specs.Task.{State};
-ghost use Rattle.meaning.specs.File.{operatorsOf, taskOf, judgedTask};
+ghost use Rattle.meaning.specs.File.{kindIf, operatorsOf, taskOf, judgedAs, judgedTask};
 ghost use Rattle.meaning.specs.Workspace.{slotsAt, has};
 ghost use Rattle.number.specs.Answers.{placeOf};
 ghost use Rattle.pairs.specs.Ready.{Listed};
 ghost use Rattle.task.specs.Walk.{closedFrom};
-ghost use Rattle.task.specs.Rest.{judgedBy, restOf};
+ghost use Rattle.task.specs.Rest.{judgedBy, fileBy, restOf};
 ghost use Rattle.task.specs.Answer.{JudgedInto};
 use limits::ATOM_WORDS;
 use number::Reason;
@@ -125,12 +125,12 @@ fn judge_rest(
     }
 }
 
-// Judges a task file, wholly or up to 5, and leaves the header of an accepted one in words that are all 0.
-fn judge_by(bytes: &[u8], wholly: bool, header: &mut [u64]) -> Judged
+// Judges what stands behind the mark of a task file of a kind, wholly or up to 5, and leaves the header of an accepted one in words that are all 0.
+fn judge_parts(bytes: &[u8], at: usize, gapped: bool, wholly: bool, header: &mut [u64]) -> Judged
     requires { ⌜ (slotsAt mostVariables mostFeatures ≤ length (now header)) × (now header ≡ replicate (length (now header)) 0) ⌝ }
-    ensures { λ r. ⌜ JudgedInto (judgedBy wholly (now (bytes .entry)) 0) (now (bytes .entry)) (now (header .entry)) r (now (header .exit)) ⌝ }
+    ensures { λ r. ⌜ JudgedInto (judgedBy (kindIf gapped) wholly (now (bytes .entry)) at) (now (bytes .entry)) (now (header .entry)) r (now (header .exit)) ⌝ }
 {
-    match reader::read_header(bytes, 0, &mut *header) {
+    match reader::read_header(bytes, at, gapped, &mut *header) {
         Header::Got {
             variables,
             features,
@@ -160,18 +160,39 @@ fn judge_by(bytes: &[u8], wholly: bool, header: &mut [u64]) -> Judged
     }
 }
 
-// Judges a task file wholly, and leaves the header of an accepted one in words that are all 0.
+// Judges a task file of a kind, wholly or up to 5, and leaves the header of an accepted one in words that are all 0.
+fn judge_by(bytes: &[u8], gapped: bool, wholly: bool, header: &mut [u64]) -> Judged
+    requires { ⌜ (slotsAt mostVariables mostFeatures ≤ length (now header)) × (now header ≡ replicate (length (now header)) 0) ⌝ }
+    ensures { λ r. ⌜ JudgedInto (fileBy (kindIf gapped) wholly (now (bytes .entry))) (now (bytes .entry)) (now (header .entry)) r (now (header .exit)) ⌝ }
+{
+    match reader::read_mark(bytes, 0, gapped) {
+        Step::Next(at) => judge_parts(bytes, at, gapped, wholly, header),
+        Step::Fault(reason, place) => Judged::Refused(reason, place),
+    }
+}
+
+// Judges a task file of a kind wholly, and leaves the header of an accepted one in words that are all 0.
+pub fn judge_as(bytes: &[u8], gapped: bool, header: &mut [u64]) -> Judged
+    requires { ⌜ (slotsAt mostVariables mostFeatures ≤ length (now header)) × (now header ≡ replicate (length (now header)) 0) ⌝ }
+    ensures { λ r. ⌜ JudgedInto (judgedAs (kindIf gapped) (now (bytes .entry))) (now (bytes .entry)) (now (header .entry)) r (now (header .exit)) ⌝ }
+{
+    judge_by(bytes, gapped, true, header)
+}
+
+// Judges a task file of either kind wholly, and leaves the header of an accepted one in words that are all 0.
 pub fn judge(bytes: &[u8], header: &mut [u64]) -> Judged
     requires { ⌜ (slotsAt mostVariables mostFeatures ≤ length (now header)) × (now header ≡ replicate (length (now header)) 0) ⌝ }
     ensures { λ r. ⌜ JudgedInto (judgedTask (now (bytes .entry))) (now (bytes .entry)) (now (header .entry)) r (now (header .exit)) ⌝ }
 {
-    judge_by(bytes, true, header)
+    let gapped = number::is_gapped(bytes);
+    judge_by(bytes, gapped, true, header)
 }
 
-// Judges a task file up to 5 and no further, so that its listed pairs may be any, and leaves the header of an accepted one in words that are all 0.
+// Judges a task file of either kind up to 5 and no further, so that its listed pairs may be any, and leaves the header of an accepted one in words that are all 0.
 pub fn read(bytes: &[u8], header: &mut [u64]) -> Judged
     requires { ⌜ (slotsAt mostVariables mostFeatures ≤ length (now header)) × (now header ≡ replicate (length (now header)) 0) ⌝ }
     ensures { λ r. ⌜ JudgedInto (taskOf (now (bytes .entry)) 0) (now (bytes .entry)) (now (header .entry)) r (now (header .exit)) ⌝ }
 {
-    judge_by(bytes, false, header)
+    let gapped = number::is_gapped(bytes);
+    judge_by(bytes, gapped, false, header)
 }

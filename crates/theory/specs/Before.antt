@@ -12,12 +12,13 @@ use Rattle.meaning.specs.Limits.{leastVariables, mostVariables, leastSize, most
 use Rattle.meaning.specs.Task.{Operator, Task, size}
 use Rattle.meaning.specs.Feature.{atoms, features}
 use Rattle.meaning.specs.Number.{Reason, Limit, Range, Unordered, Outgrown, got, fault, onRead, groups, number, placeAfter, numbersOn}
-use Rattle.meaning.specs.File.{Parser, give, then, inside, item, limited, rising, itemsOf, sizeList, header, featuresOf, featureList, entriesOf, operatorOf, operatorsOf, taskOf, judgedTask, judgedWeights}
+use Rattle.meaning.specs.File.{Parser, give, then, inside, item, limited, rising, itemsOf, sizeList, header, plain, markOf, featureOf, featuresOf, featureList, entriesOf, operatorOf, operatorsOf, bodyOf, partsOf, taskAs, judgedAs, judgedTask, judgedWeightsAs, judgedWeights}
 use Rattle.meaning.specs.Bay.{Bay, baySizes, sidesOf, bayOf, judgedBay}
 use Rattle.meaning.specs.Partial.{Partial, builtSizes, builtTask, partialHeader, goalOf, partialOf, judgedPartial}
 use Rattle.meaning.specs.Before.{Bounds, asBefore, asToday, numberBy, numbersOnBy, itemBy, limitedBy, risingBy, itemsBy, sizeListBy, headerBy, featuresBy, featureListBy, entriesBy, operatorBy, operatorsBy, taskBy, judgedTaskBy, judgedWeightsBy, sidesBy, bayBy, judgedBayBy, partialHeaderBy, goalBy, partialBy, judgedPartialBy}
 use Rattle.theory.specs.Truth.{on, off, test}
 use Rattle.theory.specs.Reading.{not-got, on-got, test-passed}
+use Rattle.theory.specs.Accepted.{either-accepted}
 use Rattle.theory.specs.PartialFile.{Follows, inside-wider, follows-same, follows-then, follows-tested}
 
 -- ---- readers with other limits, beside today's
@@ -55,12 +56,12 @@ module _ {bounds : Bounds} {Like : (A : Type 0) → Parser A → Parser A → Ty
   unfolding sizeListBy sizeList
   sizes-like least most = law .in-turn _ _ (item-like (inside leastVariables (suc mostVariables)) Limit) (λ v. items-like least Limit (replicate v (suc most)))
 
-  features-like : (k low high least : ℕ) → Like (List ℕ) (featuresBy bounds k low high least) (featuresOf k low high least)
-  unfolding featuresBy featuresOf
+  features-like : (k low high least : ℕ) → Like (List ℕ) (featuresBy bounds k low high least) (featuresOf plain k low high least)
+  unfolding featuresBy featuresOf featureOf
   features-like zero low high least = law .same (give [])
   features-like (suc k) low high least = law .in-turn _ _ (rising-like low high least) (λ f. law .in-turn _ _ (features-like k low high (suc f)) (λ fs. law .same (give (f ∷ fs))))
 
-  feature-list-like : (low high : ℕ) → Like (List ℕ) (featureListBy bounds low high) (featureList low high)
+  feature-list-like : (low high : ℕ) → Like (List ℕ) (featureListBy bounds low high) (featureList plain low high)
   unfolding featureListBy featureList
   feature-list-like low high = law .in-turn _ _ (law .numbers) (λ k. features-like k low high 0)
 
@@ -76,8 +77,8 @@ module _ {bounds : Bounds} {Like : (A : Type 0) → Parser A → Parser A → Ty
   operators-like sizes (suc k) = law .in-turn _ _ (law .in-turn _ _ (item-like (inside 1 (suc (length sizes))) Range) (λ n. entries-like sizes n 0)) (λ o.
       law .in-turn _ _ (operators-like sizes k) (λ os. law .same (give (o ∷ os))))
 
-  task-like : Like Task (taskBy bounds) taskOf
-  unfolding taskBy taskOf headerBy header
+  task-like : Like Task (taskBy bounds) (partsOf plain)
+  unfolding taskBy partsOf bodyOf headerBy header
   task-like =
       law .in-turn _ _ (law .totals features length (sizes-like leastSize mostSize)) (λ sizes.
       law .in-turn _ _ (items-like 0 Range sizes) (λ start.
@@ -138,12 +139,13 @@ today = record {
   slots = λ count. limited-today _;
 }
 
-pub task-today : (bytes : List ℕ) → judgedTaskBy asToday bytes ≡ judgedTask bytes
-unfolding judgedTaskBy judgedTask
+-- Files of the old kind.
+pub task-today : (bytes : List ℕ) → judgedTaskBy asToday bytes ≡ judgedAs plain bytes
+unfolding judgedTaskBy judgedAs taskAs markOf
 task-today bytes = rw (task-like today)
 
 pub weights-today : (n : ℕ) (bytes : List ℕ) → judgedWeightsBy asToday n bytes ≡ judgedWeights n bytes
-unfolding judgedWeightsBy judgedWeights
+unfolding judgedWeightsBy judgedWeightsAs markOf
 weights-today n bytes = rw (feature-list-like today 0 n)
 
 pub bay-today : (bytes : List ℕ) → judgedBayBy asToday bytes ≡ judgedBay bytes
@@ -189,11 +191,13 @@ module _ (bounds : Bounds) (narrow : Narrow bounds) (bytes : List ℕ) where
   }
 
   pub task-kept : (T : Task) (next : ℕ) → judgedTaskBy bounds bytes ≡ got T next → judgedTask bytes ≡ got T next
-  unfolding judgedTaskBy judgedTask
-  task-kept T next e = let (S, middle, p, q) = on-got (taskBy bounds bytes 0) _ T next e in rw (task-like kept .follows 0 S middle p) q
+  unfolding judgedTaskBy judgedAs taskAs markOf
+  task-kept T next e =
+      let (S, middle, p, q) = on-got (taskBy bounds bytes 0) _ T next e in
+      either-accepted bytes plain T next (rw (task-like kept .follows 0 S middle p) q)
 
   pub weights-kept : (n : ℕ) (weights : List ℕ) (next : ℕ) → judgedWeightsBy bounds n bytes ≡ got weights next → judgedWeights n bytes ≡ got weights next
-  unfolding judgedWeightsBy judgedWeights
+  unfolding judgedWeightsBy judgedWeightsAs markOf
   weights-kept n weights next e = let (fs, middle, p, q) = on-got (featureListBy bounds 0 n bytes 0) _ weights next e in rw (feature-list-like kept 0 n .follows 0 fs middle p) q
 
   pub bay-kept : (b : Bay) (next : ℕ) → judgedBayBy bounds bytes ≡ got b next → judgedBay bytes ≡ got b next

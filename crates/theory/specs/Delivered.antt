@@ -21,6 +21,10 @@ pub record Leaves (file room lent : List ℕ) (k : ℕ) : Type 0 where
 pub delivered-written : (file room : List ℕ) (k : ℕ) → length file ≡ k → k ≤ length room → delivered file room ≡ writes k file room
 delivered-written file room k e h = rw (e, le-ltb (length room) k h) refl
 
+-- Where a file fits, a call that writes it is done.
+pub delivered-done : (file room : List ℕ) → length file ≤ length room → (outcome : Outcome ℕ) → outcome ≡ delivered file room → (k : ℕ) × (outcome .answer ≡ done k)
+delivered-done file room fits outcome e = (length file, ap (λ o. o .answer) (e ∙ delivered-written file room _ refl fits))
+
 module _ (room lent : List ℕ) (k : ℕ) where
   -- A result is no refusal.
   pub not-refused : (reason : Reason) → _≡_ {A = Outcome ℕ} (record { answer = done k; lent = lent }) (refuses reason room) → ⊥

@@ -12,8 +12,8 @@ use Rattle.meaning.specs.Limits.{numberEnd}
 use Rattle.meaning.specs.Task.{Task}
 use Rattle.meaning.specs.Feature.{features}
 use Rattle.meaning.specs.Weight.{Separates, LeastOf, Unsolvable}
-use Rattle.meaning.specs.Number.{got}
-use Rattle.meaning.specs.File.{judgedTask, judgedWeights, weightBytes, taskBytes}
+use Rattle.meaning.specs.Number.{Reason, refusal, got}
+use Rattle.meaning.specs.File.{plain, judgedTask, judgedWeights, weightBytes, taskBytes}
 use Rattle.meaning.specs.Workspace.{wordsFor, wordsDue, has, packed}
 use Rattle.meaning.specs.Answer.{Answer, done, refused, Outcome, writes, Verdict, accepted, Judges, Checks, Opens, Finding, none, separated, Finds, Edit, editJudged, Edits}
 use Rattle.meaning.specs.Bay.{Bay, Move, Step, SameLabels, slotCount, judgedBay, neighbours, bayTask, Builds}
@@ -59,8 +59,8 @@ pub build-refuses : (bay room : List ℕ) → RefusesExactly (Builds bay room) r
 build-refuses bay = builds-exactly (judgedBay bay) (λ b. taskBytes (bayTask b))
 
 -- The task's first fault; then that of the weights. The checker is lent nothing to write.
-pub check-refuses : (task weights : List ℕ) (answer : Answer Verdict) → Checks task weights answer → (n : ℕ) → (answer ≡ refused n) ↔ Faulty (checkJudged (judgedTask task) weights) n
-check-refuses task = checks-exactly (judgedTask task)
+pub check-refuses : (task weights : List ℕ) (answer : Answer Verdict) → Checks task weights answer → (n : ℕ) → (answer ≡ refused n) ↔ Faulty (checkJudged plain (judgedTask task) weights) n
+check-refuses task = checks-exactly plain (judgedTask task)
 
 -- The finder program: 8 for too many bytes; the task's first fault; then 8 for too many features.
 pub print-refuses : (input : List ℕ) (answer : Answer Found) → Prints input answer → (n : ℕ) → (answer ≡ refused n) ↔ Faulty (printJudged input) n
@@ -80,16 +80,17 @@ module _ (file : List ℕ) (T : Task) (next : ℕ) (judged : judgedTask file ≡
       judged-as : (verdict : Verdict) → ((v : Verdict) × (_≡_ {A = Answer Verdict} (done verdict) (done v)) × Judges T (listed fs) v) → Judges T (listed fs) verdict
       judged-as verdict (v, q, h) = let e : verdict ≡ v = cc in rw e h
 
+-- A refusal is not "accepted".
+pub not-accepted : (reason : Reason) → _≡_ {A = Answer Verdict} (done accepted) (refused (refusal reason)) → ⊥
+not-accepted reason q = let z : _≡_ {A = ℕ} 0 1 = cc in omega arith
+
 -- "once it accepts, no sequence of that task's moves leads from the start to the goal": whatever the two files are, the first then is an accepted
 -- task, and that task is unsolvable.
 pub accepted-unsolvable : (file weights : List ℕ) → Checks file weights (done accepted) → (T : Task) × (next : ℕ) × (judgedTask file ≡ got T next) × Unsolvable T
 accepted-unsolvable file weights checks =
-    let (T, next, judged, given) = by-got (judgedTask file) _ _ (λ reason. not-refused) checks in
-    let (fs, end, read, _) = by-got (judgedWeights (features (T .sizes)) weights) _ _ (λ reason. not-refused) given in
+    let (T, next, judged, given) = by-got (judgedTask file) _ _ not-accepted checks in
+    let (fs, end, read, _) = by-got (judgedWeights (features (T .sizes)) weights) _ _ not-accepted given in
     (T, next, judged, sound T (listed fs) (Files.accepted file T next judged .acceptable) (accepts-exactly file T next judged weights fs end read .0 checks))
-  where
-    not-refused : {k : ℕ} → _≡_ {A = Answer Verdict} (done accepted) (refused k) → ⊥
-    not-refused q = let z : _≡_ {A = ℕ} 0 1 = cc in omega arith
 
 -- ---- demand 2: the finder, on a workspace opened from a task
 

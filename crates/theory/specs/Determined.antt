@@ -14,13 +14,14 @@ use Rattle.meaning.specs.Feature.{features}
 use Rattle.meaning.specs.Pair.{holds}
 use Rattle.meaning.specs.Weight.{LeastOf, Separates}
 use Rattle.meaning.specs.Number.{Reason, Small, Malformed, refusal, Read, got, fault}
-use Rattle.meaning.specs.File.{taskOf, judgedTask, judgedWeights, weightBytes, taskBytes}
+use Rattle.meaning.specs.File.{taskOf, judgedAs, judgedTask, Kind, other, kindOf, judgedWeightsAs, weightBytes, taskBytesAs}
 use Rattle.meaning.specs.Workspace.{Content, wordsOf, wordsFor, wordsDue, WellFormed, contentOf}
 use Rattle.meaning.specs.Answer.{Outcome, done, refused, refuses, writes, delivered, byRead, accepted, endsAlike, breaks, Breaks, Judges, ChecksAs, OpensAs}
 use Rattle.meaning.specs.Answer.{separated, FindsIn, FindsBy, Finds, Edit, addOperator, replaceStart, replaceGoal, Judged, fine, faulty, editJudged, Changes, EditsIn, Edits}
 use Rattle.meaning.specs.Bay.{Builds, judgedBay}
 use Rattle.meaning.specs.Partial.{Partial, judgedPartial, BuildsBy, Silences}
 use Rattle.meaning.specs.Mend.{Good, Dropped, mended, Mends, Drops, startHolds, operatorBreaks, LeastHeld, LeastUnclosed, FindsFault, FaultsPairs}
+use Rattle.meaning.specs.Convert.{Converts, ConvertsWeights}
 use Rattle.meaning.specs.Line.{nothing, separating, Seeks, Says, tooLarge, Prints}
 use Rattle.theory.specs.Truth.{clash, Order, less, same, more, order}
 use Rattle.theory.specs.Flat.{flat-cong, getD-in}
@@ -80,9 +81,9 @@ verdict-only T weights (breaks j) (breaks k) h h' = elim (order j k) [
 ]
 
 -- Whatever file the task was read from.
-pub checks-only : (judged : Read Task) (weights : List ℕ) → AtMostOne (ChecksAs judged weights)
-checks-only judged weights = read-only judged _ (λ reason. refused (refusal reason))
-    (λ T. read-only (judgedWeights (features (T .sizes)) weights) _ (λ reason. refused (refusal reason))
+pub checks-only : (kind : Kind) (judged : Read Task) (weights : List ℕ) → AtMostOne (ChecksAs kind judged weights)
+checks-only kind judged weights = read-only judged _ (λ reason. refused (refusal reason))
+    (λ T. read-only (judgedWeightsAs kind (features (T .sizes)) weights) _ (λ reason. refused (refusal reason))
     (λ ws a b h h'. h .1 ∙ ap done (verdict-only T (listed ws) (h .0) (h' .0) (h .2) (h' .2)) ∙ sym (h' .1)))
 
 -- ---- opening
@@ -129,7 +130,7 @@ edits-only workspace edit = formed-or workspace _ (refuses Malformed workspace) 
 
 -- ---- calls that write a file
 
--- What was read fixes the outcome: `build`, `build_partial` and `build_partial_lean`, `silence`.
+-- What was read fixes the outcome: `build`, `build_partial` and `build_partial_lean`, `silence`, and the calls that convert a file.
 pub writes-only : {A : Type 0} (read : Read A) (due : A → Outcome ℕ) (room : List ℕ)
     → AtMostOne (λ outcome. byRead read (λ a. outcome ≡ due a) (λ reason. outcome ≡ refuses reason room))
 writes-only read due room = read-only read _ (λ reason. refuses reason room) (λ a. is-only (due a))
@@ -143,11 +144,18 @@ builds-by-only out file room = writes-only (judgedPartial out file) _ room
 pub silences-only : (task marks room : List ℕ) → AtMostOne (Silences task marks room)
 silences-only task marks room = writes-only (judgedTask task) _ room
 
+pub converts-only : (kind : Kind) (task room : List ℕ) → AtMostOne (Converts kind task room)
+converts-only kind task room = writes-only (judgedAs (other kind) task) _ room
+
+pub converts-weights-only : (kind : Kind) (task weights room : List ℕ) → AtMostOne (ConvertsWeights kind task weights room)
+converts-weights-only kind task weights room = read-only (judgedTask task) _ (λ reason. refuses reason room)
+    (λ T. writes-only (judgedWeightsAs (other kind) (features (T .sizes)) weights) _ room)
+
 -- ---- pair lists made by hand
 
 pub mends-only : (task room : List ℕ) → AtMostOne (Mends task room)
 mends-only task room = read-only (taskOf task 0) _ (λ reason. refuses reason room)
-    (λ T a b h h'. h .2 ∙ ap (λ kept. delivered (taskBytes (mended T kept)) room) (largest-only T (h .0) (h' .0) (h .1) (h' .1)) ∙ sym (h' .2))
+    (λ T a b h h'. h .2 ∙ ap (λ kept. delivered (taskBytesAs (kindOf task 0) (mended T kept)) room) (largest-only T (h .0) (h' .0) (h .1) (h' .1)) ∙ sym (h' .2))
 
 pub drops-only : (task room : List ℕ) → AtMostOne (Drops task room)
 drops-only task room = read-only (taskOf task 0) _ (λ reason. refuses reason room)

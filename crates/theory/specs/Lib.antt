@@ -65,6 +65,7 @@ pub mod PartialNamed
 pub mod PartialDemands
 pub mod MendingDemands
 pub mod Shorter
+pub mod Kinds
 pub mod Silence
 pub mod BayOrders
 pub mod Asked

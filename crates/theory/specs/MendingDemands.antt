@@ -17,7 +17,7 @@ use Rattle.meaning.specs.Pair.{idle, closed, holds, heldPair, unclosedPair}
 use Rattle.meaning.specs.Slot.{LeastMember}
 use Rattle.meaning.specs.Weight.{Separates, LeastOf, Unsolvable}
 use Rattle.meaning.specs.Number.{Reason, Held, Unclosed, Small, refusal, Read, got, fault, onRead}
-use Rattle.meaning.specs.File.{taskOf, judgedPairs, judgedTask, judgedWeights, weightBytes, taskBytes}
+use Rattle.meaning.specs.File.{Kind, kindOf, taskOf, judgedPairs, judgedTask, judgedWeights, weightBytes, taskBytesAs, taskBytes}
 use Rattle.meaning.specs.Workspace.{wordsFor, has, packed}
 use Rattle.meaning.specs.Answer.{Answer, done, refused, Outcome, refuses, writes, delivered, byRead, accepted, Checks, Opens, Finding, none, separated, Finds, fine, need}
 use Rattle.meaning.specs.History.{Event, Edited, taskAfter, SameTask}
@@ -33,7 +33,7 @@ use Rattle.theory.specs.Closed.{closed-by-pairs}
 use Rattle.theory.specs.Reading.{not-got, got-value, by-got}
 use Rattle.theory.specs.Spent.{Bytes}
 use Rattle.theory.specs.AsRead.{asRead, AsRead, ReadNumber, as-read-number, plain-task}
-use Rattle.theory.specs.ReadBack.{read-back, weights-back}
+use Rattle.theory.specs.ReadBack.{kind-back, read-back-either, weights-back}
 use Rattle.theory.specs.Accepted as Files
 use Rattle.theory.specs.Mending.{holds-by-pairs, held-holds, Hopeless, Narrowed, hopeless-narrowed, unclosed-hopeless, held-hopeless, listed-below}
 use Rattle.theory.specs.Mending.{largest-only, largest-exists, dropped-exists, good-largest, listed-readable, mended-writable}
@@ -117,7 +117,7 @@ known-task task T next read = Files.read-known task T next read .1
 pub mends-some : (task room : List ℕ) → (outcome : Outcome ℕ) × Mends task room outcome
 mends-some task room = read-some (taskOf task 0) _ (λ reason. refuses reason room) (λ T next read.
     let (kept, largest) = largest-exists T (known-task task T next read) in
-    (delivered (taskBytes (mended T kept)) room, (kept, largest, refl)))
+    (delivered (taskBytesAs (kindOf task 0) (mended T kept)) room, (kept, largest, refl)))
 
 -- what is not kept is a list,
 pub drops-some : (task room : List ℕ) → (outcome : Outcome ℕ) × Drops task room outcome
@@ -181,8 +181,9 @@ good-alike T pairs list = (
 )
 
 -- The file of the mended task is accepted.
-mended-back : (T : Task) → Files.Readable T → (kept : List ℕ) → Largest T kept → judgedTask (taskBytes (mended T kept)) ≡ got (mended T kept) (length (taskBytes (mended T kept)))
-mended-back T known kept largest = read-back (mended T kept) (mended-writable T known kept largest)
+mended-back : (kind : Kind) (T : Task) → Files.Readable T → (kept : List ℕ) → Largest T kept
+    → judgedTask (taskBytesAs kind (mended T kept)) ≡ got (mended T kept) (length (taskBytesAs kind (mended T kept)))
+mended-back kind T known kept largest = read-back-either kind (mended T kept) (mended-writable T known kept largest)
 
 -- Where `mend` answers a length, so many bytes of the room are an accepted task file.
 pub record MendedFile (task room lent : List ℕ) (k : ℕ) : Type 0 where
@@ -193,15 +194,17 @@ pub record MendedFile (task room lent : List ℕ) (k : ℕ) : Type 0 where
   -- "the largest good sublist" of its list is kept, which is good and such that "any good sublist is within it",
   pub kept : List ℕ
   pub largest : Largest came kept
-  -- the first k bytes are those of the mended task and are accepted as it, and the others stay.
-  pub bytes : take k lent ≡ taskBytes (mended came kept)
+  -- the first k bytes are those of the mended task, of the kind that came, and are accepted as it, and the others stay.
+  pub bytes : take k lent ≡ taskBytesAs (kindOf task 0) (mended came kept)
+  pub same-kind : kindOf (take k lent) 0 ≡ kindOf task 0
   pub accepted-as : judgedTask (take k lent) ≡ got (mended came kept) k
   pub others : drop k lent ≡ drop k room
 
 pub mended-accepted : (task room lent : List ℕ) (k : ℕ) → Mends task room (record { answer = done k; lent = lent }) → MendedFile task room lent k
 mended-accepted task room lent k mends =
     let (T, end, read, (kept, largest, o)) = by-got (taskOf task 0) _ _ (not-refused room lent k) mends in
-    let left = delivered-leaves room lent k (taskBytes (mended T kept)) o in
+    let known = known-task task T end read in
+    let left = delivered-leaves room lent k (taskBytesAs (kindOf task 0) (mended T kept)) o in
     record {
       came = T;
       end = end;
@@ -209,7 +212,8 @@ mended-accepted task room lent k mends =
       kept = kept;
       largest = largest;
       bytes = left .front;
-      accepted-as = ap judgedTask (left .front) ∙ mended-back T (known-task task T end read) kept largest ∙ ap (got (mended T kept)) (left .width);
+      same-kind = ap (λ file. kindOf file 0) (left .front) ∙ kind-back (kindOf task 0) (mended T kept) (mended-writable T known kept largest);
+      accepted-as = ap judgedTask (left .front) ∙ mended-back (kindOf task 0) T known kept largest ∙ ap (got (mended T kept)) (left .width);
       others = left .others;
     }
 
@@ -231,8 +235,8 @@ module _ (task : List ℕ) (T : Task) (next : ℕ) (judged : judgedTask task ≡
   all-kept : Largest T (T .pairs)
   all-kept = good-largest T (known-task task T next (good-read .0)) (good-read .1)
 
-  pub good-mends : (room : List ℕ) (outcome : Outcome ℕ) → Mends task room outcome → outcome ≡ delivered (taskBytes T) room
-  good-mends room outcome mends = mends-only task room outcome (delivered (taskBytes T) room) mends (rw (good-read .0) (T .pairs, all-kept, refl))
+  pub good-mends : (room : List ℕ) (outcome : Outcome ℕ) → Mends task room outcome → outcome ≡ delivered (taskBytesAs (kindOf task 0) T) room
+  good-mends room outcome mends = mends-only task room outcome (delivered (taskBytesAs (kindOf task 0) T) room) mends (rw (good-read .0) (T .pairs, all-kept, refl))
 
   -- and so does the file, byte for byte;
   pub good-unmended : Bytes task → (room : List ℕ) → length task ≤ length room → (outcome : Outcome ℕ) → Mends task room outcome → outcome ≡ writes (length task) task room
@@ -341,7 +345,7 @@ module _ (task room left : List ℕ) (k : ℕ) (mends : Mends task room (record 
   -- A mended file is mended already.
   pub mended-again : (room' : List ℕ) → k ≤ length room' → (outcome : Outcome ℕ) → Mends (take k left) room' outcome → outcome ≡ writes k (take k left) room'
   mended-again room' fits outcome again = good-mends (take k left) mendedTask k (file .accepted-as) room' outcome again
-      ∙ ap (λ bytes. delivered bytes room') (sym (file .bytes))
+      ∙ ap (λ bytes. delivered bytes room') (ap (λ kind. taskBytesAs kind mendedTask) (file .same-kind) ∙ sym (file .bytes))
       ∙ delivered-written (take k left) room' k (sym (Files.accepted-end (take k left) mendedTask k (file .accepted-as))) fits
 
   -- "the checker accepts weights, from anyone, exactly when they separate start from goal"

@@ -15,8 +15,8 @@ use Rattle.meaning.specs.Task.{Operator, Task, size, Run}
 use Rattle.meaning.specs.Feature.{atoms, features}
 use Rattle.meaning.specs.Pair.{paired, stuck, closed, holds}
 use Rattle.meaning.specs.Weight.{Separates, LeastOf, Unsolvable}
-use Rattle.meaning.specs.Number.{Reason, Held, Unclosed, Outgrown, refusal, Read, got, fault, onRead}
-use Rattle.meaning.specs.File.{judgedPairs, judgedTask, judgedWeights, weightBytes, taskBytes}
+use Rattle.meaning.specs.Number.{Held, Unclosed, Outgrown, Read, got, fault, onRead}
+use Rattle.meaning.specs.File.{plain, judgedPairs, judgedTask, judgedWeights, weightBytes, taskBytes}
 use Rattle.meaning.specs.Workspace.{wordsFor, has, packed}
 use Rattle.meaning.specs.Answer.{Answer, done, refused, Outcome, Verdict, accepted, ChecksAs, Checks, OpensAs, Opens, Finding, none, separated, Finds, Judged, fine, faulty, need}
 use Rattle.meaning.specs.History.{Event, Edited, taskAfter, SameTask}
@@ -33,7 +33,7 @@ use Rattle.theory.specs.Determined.{silences-only}
 use Rattle.theory.specs.Refusals.{Faulty, RefusesExactly, refuses-exactly, fileJudged, openJudged, checkJudged, buildJudged, silenceJudged}
 use Rattle.theory.specs.Refusals.{opens-exactly, checks-exactly, builds-exactly, silences-refused}
 use Rattle.theory.specs.Delivered.{Leaves, not-refused, delivered-leaves, builds-leave}
-use Rattle.theory.specs.Demands.{Afresh, accepts-exactly, accepted-unsolvable, none-exactly, some-found, least-given, found-accepted, written-afresh}
+use Rattle.theory.specs.Demands.{Afresh, accepts-exactly, not-accepted, accepted-unsolvable, none-exactly, some-found, least-given, found-accepted, written-afresh}
 use Rattle.theory.specs.PartialPairs.{built-run, built-count, paired-known, paired-unknown}
 use Rattle.theory.specs.PartialPlans.{Permitted, letter-permitted, lean-permitted}
 use Rattle.theory.specs.PartialFile.{AcceptedPartial, accepted-partial}
@@ -88,8 +88,8 @@ outgrown-exactly out file = (
     by : (read : Read Partial) → AsRead read
         → onRead read (λ P next. cond (ltb (length (builtTask P (out P) .operators)) numberEnd) (judgedPairs (builtTask P (out P)) next) (fault Outgrown 0)) ≡ fault Outgrown 0
         → (P : Partial) × (next : ℕ) × (read ≡ got P next) × (numberEnd ≤ length (builtTask P (out P) .operators))
-    by (fault reason place) plain e = let z : reason ≡ Outgrown = cc in absurd (clash (plain .reasoned reason place refl) (rw z refl))
-    by (got P next) plain e = let T = builtTask P (out P) in (
+    by (fault reason place) asRead e = let z : reason ≡ Outgrown = cc in absurd (clash (asRead .reasoned reason place refl) (rw z refl))
+    by (got P next) asRead e = let T = builtTask P (out P) in (
       P,
       next,
       refl,
@@ -103,8 +103,8 @@ open-partial-refuses file = opens-exactly (judgedPartial leftOut file)
 
 -- check_partial: the partial file's first fault; then that of the weights.
 pub check-partial-refuses : (file weights : List ℕ) (answer : Answer Verdict) → ChecksPartial file weights answer → (n : ℕ)
-    → (answer ≡ refused n) ↔ Faulty (checkJudged (judgedPartial leftOut file) weights) n
-check-partial-refuses file = checks-exactly (judgedPartial leftOut file)
+    → (answer ≡ refused n) ↔ Faulty (checkJudged plain (judgedPartial leftOut file) weights) n
+check-partial-refuses file = checks-exactly plain (judgedPartial leftOut file)
 
 -- build_partial, build_partial_lean: the partial file's first fault; then 8.
 pub build-partial-refuses : (out : Partial → ℕ → ℕ → Bool) (file room : List ℕ)
@@ -153,7 +153,7 @@ module _ (file : List ℕ) (out : Partial → ℕ → ℕ → Bool) (T : Task) (
   pub opens-built : (room : List ℕ) (outcome : Outcome ℕ) → OpensAs (judgedPartial out file) room outcome ↔ Opens (taskBytes T) room outcome
   opens-built room outcome = rw (judged, built-accepted) Iff·rfl
 
-  pub checks-built : (weights : List ℕ) (answer : Answer Verdict) → ChecksAs (judgedPartial out file) weights answer ↔ Checks (taskBytes T) weights answer
+  pub checks-built : (weights : List ℕ) (answer : Answer Verdict) → ChecksAs plain (judgedPartial out file) weights answer ↔ Checks (taskBytes T) weights answer
   checks-built weights answer = rw (judged, built-accepted) Iff·rfl
 
   -- The file that a builder writes is that file: whoever opens or checks it does what is done for the partial file, word for word.
@@ -161,7 +161,7 @@ module _ (file : List ℕ) (out : Partial → ℕ → ℕ → Bool) (T : Task) (
     pub bytes : take k lent ≡ taskBytes T
     pub others : drop k lent ≡ drop k room
     pub opens : (room' : List ℕ) (outcome : Outcome ℕ) → OpensAs (judgedPartial out file) room' outcome ↔ Opens (take k lent) room' outcome
-    pub checks : (weights : List ℕ) (answer : Answer Verdict) → ChecksAs (judgedPartial out file) weights answer ↔ Checks (take k lent) weights answer
+    pub checks : (weights : List ℕ) (answer : Answer Verdict) → ChecksAs plain (judgedPartial out file) weights answer ↔ Checks (take k lent) weights answer
 
   pub partial-built : (room lent : List ℕ) (k : ℕ) → BuildsBy out file room (record { answer = done k; lent = lent }) → BuiltFile room lent k
   partial-built room lent k builds =
@@ -170,7 +170,7 @@ module _ (file : List ℕ) (out : Partial → ℕ → ℕ → Bool) (T : Task) (
 
   -- "the checker accepts weights, from anyone, exactly when they separate start from goal": those of the built task.
   pub partial-accepts : (weights fs : List ℕ) (end : ℕ) → judgedWeights (features (T .sizes)) weights ≡ got fs end
-      → ChecksAs (judgedPartial out file) weights (done accepted) ↔ Separates T (listed fs)
+      → ChecksAs plain (judgedPartial out file) weights (done accepted) ↔ Separates T (listed fs)
   partial-accepts weights fs end read =
       let built = accepts-exactly (taskBytes T) T (length (taskBytes T)) built-accepted weights fs end read in
       let same = checks-built weights (done accepted) in
@@ -216,7 +216,7 @@ module _ (file : List ℕ) (out : Partial → ℕ → ℕ → Bool) (T : Task) (
 
     -- what it gives, check_partial accepts.
     pub partial-found : (lent lent' : List ℕ) → Finds workspace lent (record { answer = done separated; lent = lent' })
-        → ChecksAs (judgedPartial out file) (weightBytes (members (features (T .sizes)) (has lent'))) (done accepted)
+        → ChecksAs plain (judgedPartial out file) (weightBytes (members (features (T .sizes)) (has lent'))) (done accepted)
     partial-found lent lent' finds = checks-built _ (done accepted) .1 (found-accepted (taskBytes T) T (length (taskBytes T)) built-accepted room workspace k as-built lent lent' finds)
 
     -- ---- demand 3
@@ -241,13 +241,10 @@ module _ (out : Partial → ℕ → ℕ → Bool) (permitted : (P : Partial) →
       (w .partial, next, w .read, accepted-unmet file out T next judged (w .partial) next (w .read) (permitted (w .partial)) weights checks)
 
   -- Once weights are accepted for a partial file,
-  pub checked-unmet : ChecksAs (judgedPartial out file) weights (done accepted) → Unmet file
+  pub checked-unmet : ChecksAs plain (judgedPartial out file) weights (done accepted) → Unmet file
   checked-unmet checks =
       let (T, next, judged, _) = by-got (judgedPartial out file) _ _ not-accepted checks in
       unmet-by T next judged (checks-built file out T next judged weights (done accepted) .0 checks)
-    where
-      not-accepted : (reason : Reason) → _≡_ {A = Answer Verdict} (done accepted) (refused (refusal reason)) → ⊥
-      not-accepted reason e = let z : _≡_ {A = ℕ} 0 1 = cc in omega arith
 
   -- or for the task file that was built for it.
   pub built-unmet : (room lent : List ℕ) (k : ℕ) → BuildsBy out file room (record { answer = done k; lent = lent }) → Checks (take k lent) weights (done accepted) → Unmet file

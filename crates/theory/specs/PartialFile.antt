@@ -14,7 +14,7 @@ use Rattle.meaning.specs.Task.{Task, State, value, size}
 use Rattle.meaning.specs.Feature.{atoms, features}
 use Rattle.meaning.specs.Pair.{closed, holds}
 use Rattle.meaning.specs.Number.{Reason, Limit, Range, Outgrown, Held, Unclosed, got, fault, onRead, numberBytes, number, numbersOn}
-use Rattle.meaning.specs.File.{Parser, give, then, inside, item, limited, rising, valuesOf, featureList, entriesOf, operatorOf, operatorsOf, Writable, bytesOf, counted}
+use Rattle.meaning.specs.File.{Parser, give, then, inside, item, limited, rising, valuesOf, plain, featureList, entriesOf, operatorOf, operatorsOf, Writable, bytesOf, counted, listBytes}
 use Rattle.meaning.specs.Partial.{Partial, Ordered, Reaches, Met, builtSizes, builtPairs, forgettings, builtTask}
 use Rattle.meaning.specs.Partial.{partialHeader, marksOf, goalOf, partialOf, judgedPartial, marksIn, namedIn, partialBytes}
 use Rattle.theory.specs.Truth.{on, off, test}
@@ -128,13 +128,13 @@ module _ (bytes : List ℕ) where
       )))
 
   pub partial-said : Gives bytes partialOf (λ P l. Ordered P × Exact bytes partialBytes P l)
-  unfolding partialOf partialBytes
+  unfolding partialOf partialBytes listBytes
   partial-said =
       gives-then _ _ partial-header-said (λ sizes l a.
       gives-then _ _ (values-said bytes (replicate (length sizes) 2)) (λ marks m c.
       gives-then _ _ (values-said bytes sizes) (λ start n d.
       gives-then _ _ (goal-said sizes marks (c .0)) (λ goal p e.
-      gives-then _ _ (feature-list-said bytes (atoms sizes) (features sizes) (atoms-room sizes)) (λ pairs q f.
+      gives-then _ _ (feature-list-said bytes plain (atoms sizes) (features sizes) (atoms-room sizes)) (λ pairs q f.
       gives-then _ _ (number-said bytes) (λ k r g.
       gives-ended (λ os. record { sizes = sizes; start = start; goal = goal; pairs = pairs; operators = os }) _ (operators-said bytes sizes k) (λ os s h. (
         record { variables = a .0; each = a .1; total = a .2; start = d .0; goal = e .0; pairs = f .0; operators = h .1 },
@@ -145,7 +145,7 @@ module _ (bytes : List ℕ) where
   pub partial-ends : Ends bytes partialOf
   unfolding partialOf
   partial-ends = ends-then partialHeader _ (λ sizes. ends-then (marksOf (length sizes)) _ (λ marks. ends-then (valuesOf sizes) _ (λ start. ends-then (goalOf sizes marks) _ (λ goal.
-      ends-then (featureList (atoms sizes) (features sizes)) _ (λ pairs. ends-then number _ (λ k. ends-then (operatorsOf sizes k) _ (λ os. ends-ended _)))))))
+      ends-then (featureList plain (atoms sizes) (features sizes)) _ (λ pairs. ends-then number _ (λ k. ends-then (operatorsOf sizes k) _ (λ os. ends-ended _)))))))
 
   -- ---- an accepted partial file
 

@@ -14,7 +14,7 @@ use Rattle.meaning.specs.Task.{Operator, State, value, size}
 use Rattle.meaning.specs.Feature.{sumOf, pairsOf, atoms, features}
 use Rattle.meaning.specs.Pair.{paired, stuck, closed, holds}
 use Rattle.meaning.specs.Number.{Range, got, groupBytes, numberBytes}
-use Rattle.meaning.specs.File.{operatorsOf, bytesOf, counted, entryBytes, operatorBytes}
+use Rattle.meaning.specs.File.{plain, operatorsOf, bytesOf, counted, entryBytes, operatorBytes, listBytes}
 use Rattle.meaning.specs.Partial.{Partial, Ordered, named, builtSizes, builtPairs, forgetting, forgettings, builtTask, againstGoal, leftOut, leftOutLean}
 use Rattle.meaning.specs.Partial.{partialHeader, goalOf, partialOf, judgedPartial, marksIn, namedIn, partialBytes}
 use Rattle.theory.specs.Tells.{tells-agree, tells-map, tells-lt}
@@ -81,7 +81,7 @@ features-built sizes = omega (arith, sum-built sizes, pairs-built sizes)
     pairs-built (d ∷ ds) = omega (arith, pairs-built ds, mul-le-mul-left d (sum-built ds), suc-mul d (sumOf (builtSizes ds)))
 
 pub partial-back : (P : Partial) → Ordered P → length (P .operators) < numberEnd → Reads partialOf P (partialBytes P) []
-unfolding partialOf partialBytes counted
+unfolding listBytes partialOf partialBytes counted
 partial-back P ok few =
     let ds = P .sizes in
     let small : Sayable ds = λ i l. omega (arith, ok .each i l) in
@@ -93,7 +93,7 @@ partial-back P ok few =
     (reads-then _ (values-back twos (marksIn ds (P .goal)) (λ i l. omega (arith, getD-replicate {A = ℕ} (length ds) i 2 0 (omega (arith, length-replicate {A = ℕ} (length ds) 2)))) marks _)
     (reads-then _ (values-back ds (P .start) small (ok .start) _)
     (reads-then _ (goal-back ds (P .goal) (λ i l. ok .each i l .1) long (λ i l. rw (built-size ds i l) at (ok .goal .values i (rw (built-length ds) l))) _)
-    (reads-then _ (feature-list-back (atoms ds) (features ds) (P .pairs) (omega (arith, features-built ds, ok .total)) (ok .pairs) _)
+    (reads-then _ (feature-list-back plain (atoms ds) (features ds) (P .pairs) (omega (arith, features-built ds, ok .total)) (ok .pairs) _)
     (reads-then _ (number-back (length (P .operators)) few _)
     (ended-back (λ os. record { sizes = ds; start = P .start; goal = P .goal; pairs = P .pairs; operators = os }) (operators-back ds short small (P .operators) (ok .operators) [])))))))
 

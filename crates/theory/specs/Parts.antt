@@ -1,6 +1,7 @@
 -- What is read of each part of a file is in its range, and was read from the very bytes that are written for it.
-use Prim.Native.Nat.{ℕ, zero, suc, _-_, _<_, _≤_, max}
-use mathlib.Core.Path.{_≡_, refl, sym, ap, ap₂, _∙_}
+use Prim.Native.Nat.{ℕ, zero, suc, _+_, _-_, _<_, _≤_, max}
+use mathlib.Core.Path.{_≡_, refl, sym, ap, ap₂, _∙_, subst}
+use mathlib.Core.Bool.{true, cond}
 use mathlib.Core.Logic.{inl, inr}
 use mathlib.Core.List.{List, [], _∷_, _++_, List·Memᴰ as In, List·Memᴰ·not-nil as not-nil, List·Memᴰ·cases-cons as cases-cons}
 use native.Mathlib.Omega.{arith}
@@ -10,15 +11,15 @@ use borrow.Author.Tests.{leb-true, ltb-true}
 use Rattle.meaning.specs.Limits.{leastVariables, mostVariables, leastSize, mostSize, mostFeatures, numberEnd}
 use Rattle.meaning.specs.Task.{Entry, Operator, State, Entries, IsOperator, Run, size, value}
 use Rattle.meaning.specs.Feature.{features}
-use Rattle.meaning.specs.Number.{Reason, Limit, Range, Unordered, got, number, numbersOn, numberBytes}
-use Rattle.meaning.specs.File.{inside, item, limited, rising, itemsOf, sizesOf, sizeList, header, valuesOf, featuresOf, featureList, entriesOf}
-use Rattle.meaning.specs.File.{operatorOf, operatorsOf, InLimits, Taken, bytesOf, counted, entryBytes, operatorBytes, weightBytes}
+use Rattle.meaning.specs.Number.{Reason, Limit, Range, Unordered, got, fault, number, numbersOn, numberBytes}
+use Rattle.meaning.specs.File.{inside, item, limited, rising, itemsOf, sizesOf, sizeList, header, valuesOf, Kind, plain, gapped, markOf, featureOf, featuresOf, featureList, entriesOf}
+use Rattle.meaning.specs.File.{operatorOf, operatorsOf, InLimits, Taken, bytesOf, counted, entryBytes, operatorBytes, weightBytes, numbersFor, listBytes, markBytes}
 use Rattle.theory.specs.Search.{and-left, and-right}
 use Rattle.theory.specs.Run.{run-none, run-more, run-wider}
-use Rattle.theory.specs.Reading.{got-value, got-next, on-got, item-read}
-use Rattle.theory.specs.Spent.{Bytes, Gives, gives-known, gives-then, gives-map, gives-give, gives-tested}
+use Rattle.theory.specs.Reading.{got-value, got-next, on-got, item-read, test-passed}
+use Rattle.theory.specs.Spent.{Bytes, Gives, gives-known, gives-then, gives-map, gives-give, gives-tested, gives-still}
 use Rattle.theory.specs.NumberBack.{number-gives}
-use Rattle.theory.specs.ReadBack.{entry-apart}
+use Rattle.theory.specs.ReadBack.{entry-apart, saidAs, numbers-none, numbers-more, numbers-length}
 
 -- ---- the bytes that were read are those that are written
 
@@ -144,21 +145,63 @@ module _ (bytes : List ℕ) where
 
   -- ---- features
 
-  pub features-said : (k low high least : ℕ) → low ≤ high → least ≤ high
-      → Gives bytes (featuresOf k low high least) (λ fs l. (length fs ≡ k) × Run (max low least) fs high × Exact bytes (bytesOf numberBytes) fs l)
+  -- A feature in its range, with the bytes of the number that stands for it.
+  abbrev FeatureSaid : Kind → ℕ → ℕ → ℕ → ℕ → List ℕ → Type 0
+  FeatureSaid kind low high least f l = (max low least ≤ f) × (f < high) × Exact bytes (λ g. numberBytes (saidAs kind least g)) f l
+
+  pub feature-said : (kind : Kind) (low high least : ℕ) → Gives bytes (featureOf kind low high least) (FeatureSaid kind low high least)
+  unfolding featureOf
+  feature-said plain low high least = gives-known _ (rising-said low high least) (λ f l k. (k .0, k .1, k .2 .1))
+  feature-said gapped low high least = gives-still (λ place n s middle. cond (inside low high (least + n)) (got (least + n) middle) (fault Range place)) _ number-said
+      (λ n l place middle f next said e.
+      let (passed, z) = test-passed (inside low high (least + n)) (got (least + n) middle) Range place f next e in
+      (subst (λ g. FeatureSaid gapped low high least g l) (got-value z) (known n l passed (said .1)), got-next z))
+    where
+      known : (n : ℕ) (l : List ℕ) → inside low high (least + n) ≡ true → Exact bytes numberBytes n l → FeatureSaid gapped low high least (least + n) l
+      known n l passed exact =
+          let above : low ≤ least + n = leb-true low (least + n) (and-left (leb low (least + n)) (ltb (least + n) high) passed) in
+          let under : least + n < high = ltb-true (least + n) high (and-right (leb low (least + n)) (ltb (least + n) high) passed) in
+          let back : n ≡ least + n - least = omega arith in
+          (omega arith, under, λ small. exact small ∙ ap numberBytes back)
+
+  -- The bytes of several features, where the first has to be `least` or more.
+  abbrev listedAs : Kind → ℕ → List ℕ → List ℕ
+  listedAs kind least fs = bytesOf numberBytes (numbersFor kind least fs)
+
+  exact-feature : (kind : Kind) (least f : ℕ) (fs l m : List ℕ) → Exact bytes (λ g. numberBytes (saidAs kind least g)) f l → Exact bytes (listedAs kind (suc f)) fs m
+      → Exact bytes (listedAs kind least) (f ∷ fs) (l ++ m)
+  unfolding bytesOf
+  exact-feature kind least f fs l m h k small = rw (numbers-more kind least f fs) (ap₂ _++_ (h small) (k small))
+
+  exact-no-feature : (kind : Kind) (least : ℕ) → Exact bytes (listedAs kind least) [] []
+  unfolding bytesOf
+  exact-no-feature kind least small = rw (numbers-none kind least)
+
+  features-said : (kind : Kind) (k low high least : ℕ) → low ≤ high → least ≤ high
+      → Gives bytes (featuresOf kind k low high least) (λ fs l. (length fs ≡ k) × Run (max low least) fs high × Exact bytes (listedAs kind least) fs l)
   unfolding featuresOf
-  features-said zero low high least h k = gives-give _ (refl, run-none (max low least) high (omega arith), exact-none bytes numberBytes)
-  features-said (suc k) low high least h m = gives-then _ _ (rising-said low high least) (λ f l g.
-      gives-map (_∷_ f) _ (features-said k low high (suc f) h (g .1)) (λ fs n r. (
+  features-said kind zero low high least h k = gives-give _ (refl, run-none (max low least) high (omega arith), exact-no-feature kind least)
+  features-said kind (suc k) low high least h m = gives-then _ _ (feature-said kind low high least) (λ f l g.
+      gives-map (_∷_ f) _ (features-said kind k low high (suc f) h (g .1)) (λ fs n r. (
         ap suc (r .0),
         run-more (max low least) high f fs (g .0) (run-wider (max low (suc f)) high (suc f) high fs (omega arith) (omega arith) (r .1)),
-        exact-more bytes numberBytes f fs l n (g .2 .1) (r .2),
+        exact-feature kind least f fs l n (g .2) (r .2),
       )))
 
-  pub feature-list-said : (low high : ℕ) → low ≤ high → Gives bytes (featureList low high) (λ fs l. Run low fs high × Exact bytes weightBytes fs l)
-  unfolding featureList weightBytes
-  feature-list-said low high h = gives-then _ _ number-said (λ k l g. gives-known _ (features-said k low high 0 h (omega arith)) (λ fs m r.
-      (run-wider (max low 0) high low high fs (omega arith) (omega arith) (r .1), exact-counted bytes numberBytes k fs l m (r .0) (g .1) (r .2))))
+  exact-list : (kind : Kind) (k : ℕ) (fs l m : List ℕ) → length fs ≡ k → Exact bytes numberBytes k l → Exact bytes (listedAs kind 0) fs m → Exact bytes (listBytes kind) fs (l ++ m)
+  unfolding listBytes weightBytes counted
+  exact-list kind k fs l m e h r small = ap₂ _++_ (h small ∙ ap numberBytes (sym (numbers-length kind 0 fs ∙ e))) (r small)
+
+  pub feature-list-said : (kind : Kind) (low high : ℕ) → low ≤ high → Gives bytes (featureList kind low high) (λ fs l. Run low fs high × Exact bytes (listBytes kind) fs l)
+  unfolding featureList
+  feature-list-said kind low high h = gives-then _ _ number-said (λ k l g. gives-known _ (features-said kind k low high 0 h (omega arith)) (λ fs m r.
+      (run-wider (max low 0) high low high fs (omega arith) (omega arith) (r .1), exact-list kind k fs l m (r .0) (g .1) (r .2))))
+
+  -- The mark of a file's kind.
+  pub mark-said : (kind : Kind) → Gives bytes (markOf kind) (Exact bytes (λ _. markBytes kind))
+  unfolding markOf
+  mark-said plain = gives-give _ (λ small. refl)
+  mark-said gapped = gives-map (λ n. tt) _ (item-said 0 1 Range) (λ n l h small. let z : n ≡ 0 = omega (arith, h .1) in h .2 .1 small ∙ ap numberBytes z)
 
   -- ---- operators
 

@@ -9,16 +9,16 @@ use native.Mathlib.Omega.{arith}
 use lib.ListN.{length, getD, take, drop, replicate, length-append, length-replicate, List·getD-append as getD-append}
 use lib.Seq.{length-take-le, getD-take, take-append-seam}
 use lib.Dec.{eqb, leb, ltb}
-use borrow.Author.Tests.{ltb-true, ltb-false, lt-ltb, eqb-true, eqb-false}
-use Rattle.meaning.specs.Limits.{leastVariables, mostVariables, leastSize, mostSize, leastPartialSize, mostPartialSize, leastSide, mostSide, group, mostGroups, numberEnd}
+use borrow.Author.Tests.{le-leb, ltb-true, ltb-false, lt-ltb, eqb-true, eqb-false, ne-eqb}
+use Rattle.meaning.specs.Limits.{leastVariables, mostVariables, leastSize, mostSize, leastPartialSize, mostPartialSize, leastSide, mostSide, mostFeatures, group, mostGroups, numberEnd}
 use Rattle.meaning.specs.Sets.{listed, allOf}
 use Rattle.meaning.specs.Task.{Task, size}
 use Rattle.meaning.specs.Feature.{atoms, features}
 use Rattle.meaning.specs.Pair.{closed, holds}
 use Rattle.meaning.specs.Number.{Reason, Ends, Padded, Endless, Limit, Range, Unordered, LeftOver, Outgrown, Held, Unclosed, Small, Malformed, Gaps, Unequal, hasPlace}
 use Rattle.meaning.specs.Number.{Read, got, fault, onRead, groups, number, numbersOn, groupsRead, bytesRead, numberBytes}
-use Rattle.meaning.specs.File.{Parser, give, then, inside, item, judge, limited, rising, ended, itemsOf, sizesOf, sizeList, header, valuesOf, featuresOf, featureList, entriesOf}
-use Rattle.meaning.specs.File.{operatorOf, operatorsOf, taskOf, judgedPairs, judgedTask, judgedWeights}
+use Rattle.meaning.specs.File.{Parser, give, then, inside, item, judge, limited, rising, ended, itemsOf, sizesOf, sizeList, header, valuesOf, Kind, plain, gapped, markOf, kindBy, kindOf, featureOf, featuresOf, featureList, entriesOf}
+use Rattle.meaning.specs.File.{operatorOf, operatorsOf, bodyOf, partsOf, taskAs, taskOf, judgedPairs, judgedTask, judgedWeightsAs}
 use Rattle.meaning.specs.Bay.{side, sidesOf, bayOf, slotCount, baySizes, oneGap, equalLots, judgedLots, judgedBay}
 use Rattle.meaning.specs.Partial.{Partial, builtTask, partialHeader, goalOf, partialOf, judgedPartial}
 use Rattle.theory.specs.Truth.{on, off, test, clash}
@@ -524,6 +524,9 @@ module _ {A B : Type 0} {first : Parser A} (rest : A → Parser B) (going : Goin
 going-same : {A : Type 0} {parser other : Parser A} → ((bytes : List ℕ) (place : ℕ) → parser bytes place ≡ other bytes place) → Going other → Going parser
 going-same h g = subst Going (sym (fun-ext (λ bytes. fun-ext (h bytes)))) g
 
+pointing-same : {A : Type 0} {parser other : Parser A} → ((bytes : List ℕ) (place : ℕ) → parser bytes place ≡ other bytes place) → Pointing other → Pointing parser
+pointing-same h p = subst Pointing (sym (fun-ext (λ bytes. fun-ext (h bytes)))) p
+
 on-same : {A B : Type 0} (r : Read A) (f g : A → ℕ → Read B) → ((a : A) (next : ℕ) → r ≡ got a next → f a next ≡ g a next) → onRead r f ≡ onRead r g
 on-same (got a next) f g h = h a next refl
 on-same (fault reason place) f g h = refl
@@ -588,16 +591,19 @@ going-sizes least most (suc w) fine h =
     subst (λ k. Going (limited (sizesOf least most (suc w)) fine (λ _. k))) z (going-limited least Limit fit (suc most) (replicate w (suc most)) fine)
 
 -- "v; sizes": the last is v numbers behind v, of which there is one at least.
-going-header : (least most : ℕ) (fine : List ℕ → Bool) → Going (limited (sizeList least most) fine length)
+filled : (v : ℕ) → Given (item (inside leastVariables (suc mostVariables)) Limit) v → 1 ≤ v
+filled v given = let (bytes, place, next, e) = given in item-said bytes leastVariables (suc mostVariables) Limit .gives place v next e .known .0
+
+header-later : (least most : ℕ) (fine : List ℕ → Bool) (bytes : List ℕ) (place : ℕ) → limited (sizeList least most) fine length bytes place
+    ≡ then (item (inside leastVariables (suc mostVariables)) Limit) (λ v. limited (sizesOf least most v) fine (λ _. v - 1)) bytes place
 unfolding sizeList
+header-later least most fine = limited-later (inside leastVariables (suc mostVariables)) Limit (sizesOf least most) fine length (λ v. v - 1) (λ bytes place v next sizes after e q.
+    omega (arith, filled v (bytes, place, next, e), sizes-said bytes least most v .gives next sizes after q .known .0))
+
+going-header : (least most : ℕ) (fine : List ℕ → Bool) → Going (limited (sizeList least most) fine length)
 going-header least most fine =
-    going-same
-    (limited-later (inside leastVariables (suc mostVariables)) Limit (sizesOf least most) fine length (λ v. v - 1) (λ bytes place v next sizes after e q.
-    omega (arith, filled v (bytes, place, next, e), sizes-said bytes least most v .gives next sizes after q .known .0)))
+    going-same (header-later least most fine)
     (going-then _ (going-item (inside leastVariables (suc mostVariables)) Limit fit) (λ v given. going-sizes least most v fine (filled v given)))
-  where
-    filled : (v : ℕ) → Given (item (inside leastVariables (suc mostVariables)) Limit) v → 1 ≤ v
-    filled v given = let (bytes, place, next, e) = given in item-said bytes leastVariables (suc mostVariables) Limit .gives place v next e .known .0
 
 -- ---- the parts of a file
 
@@ -607,14 +613,22 @@ going-values sizes = going-items 0 Range fit sizes
 going-value : (bound : ℕ) → Going (item (inside 0 bound) Range)
 going-value bound = going-item (inside 0 bound) Range fit
 
-going-features : (k low high least : ℕ) → Going (featuresOf k low high least)
-unfolding featuresOf
-going-features zero low high least = going-give []
-going-features (suc k) low high least = going-then _ (going-rising low high least) (λ f _. going-then _ (going-features k low high (suc f)) (λ fs _. going-give (f ∷ fs)))
+going-feature : (kind : Kind) (low high least : ℕ) → Going (featureOf kind low high least)
+unfolding featureOf
+going-feature plain low high least = going-rising low high least
+going-feature gapped low high least =
+    going-same (λ bytes place. sym (on-on (number bytes place) (λ n next. got (least + n) next) _))
+    (one-going (one-tested (then number (λ n. give (least + n))) (inside low high) Range (one-map number (λ n. least + n) one-number) fit))
 
-going-feature-list : (low high : ℕ) → Going (featureList low high)
+going-features : (kind : Kind) (k low high least : ℕ) → Going (featuresOf kind k low high least)
+unfolding featuresOf
+going-features kind zero low high least = going-give []
+going-features kind (suc k) low high least =
+    going-then _ (going-feature kind low high least) (λ f _. going-then _ (going-features kind k low high (suc f)) (λ fs _. going-give (f ∷ fs)))
+
+going-feature-list : (kind : Kind) (low high : ℕ) → Going (featureList kind low high)
 unfolding featureList
-going-feature-list low high = going-then _ going-number (λ k _. going-features k low high 0)
+going-feature-list kind low high = going-then _ going-number (λ k _. going-features kind k low high 0)
 
 going-entries : (sizes : List ℕ) (k least : ℕ) → Going (entriesOf sizes k least)
 unfolding entriesOf
@@ -630,6 +644,12 @@ unfolding operatorsOf operatorOf
 going-operators sizes zero = going-give []
 going-operators sizes (suc k) = going-then _ (going-then _ (going-item (inside 1 (suc (length sizes))) Range fit) (λ n _. going-entries sizes n 0)) (λ o _.
     going-then _ (going-operators sizes k) (λ os _. going-give (o ∷ os)))
+
+-- The mark of a file's kind.
+going-mark : (kind : Kind) → Going (markOf kind)
+unfolding markOf
+going-mark plain = going-give tt
+going-mark gapped = one-going (one-map (item (inside 0 1) Range) (λ _. tt) (one-item (inside 0 1) Range fit))
 
 -- A goal value that the mark says is there, or none.
 going-marked : (there : Bool) (d : ℕ) → Going (cond there (item (inside 0 d) Range) (give d))
@@ -662,15 +682,45 @@ pointing-ended a = pointing-none (λ bytes place reason there f. by (leb (length
     by true bytes place reason there e h = not-got (sym e)
     by false bytes place reason there e h = clash h (ap hasPlace (sym (reason-same e)))
 
-pointing-task : Pointing taskOf
-unfolding taskOf header
-pointing-task =
-    pointing-then _ (going-header leastSize mostSize _) (λ sizes _.
+pointing-body : (kind : Kind) (sizes : List ℕ) → Pointing (bodyOf kind sizes)
+unfolding bodyOf
+pointing-body kind sizes =
     pointing-then _ (going-values sizes) (λ start _.
     pointing-then _ (going-values sizes) (λ goal _.
-    pointing-then _ (going-feature-list (atoms sizes) (features sizes)) (λ pairs _.
+    pointing-then _ (going-feature-list kind (atoms sizes) (features sizes)) (λ pairs _.
     pointing-then _ going-number (λ k _.
-    pointing-then _ (going-operators sizes k) (λ operators _. pointing-ended _))))))
+    pointing-then _ (going-operators sizes k) (λ operators _. pointing-ended _)))))
+
+-- What stands behind the first number of a task file: 0 is the mark of the new kind, and another is how many sizes there are.
+few : List ℕ → Bool
+few sizes = leb (features sizes) mostFeatures
+
+behind-first : ℕ → Parser Task
+behind-first zero = partsOf gapped
+behind-first (suc w) = then (limited (sizesOf leastSize mostSize (suc w)) few (λ _. suc w - 1)) (bodyOf plain)
+
+pointing-behind : (n : ℕ) → Pointing (behind-first n)
+unfolding behind-first partsOf header few
+pointing-behind zero = pointing-then _ (going-header leastSize mostSize _) (λ sizes _. pointing-body gapped sizes)
+pointing-behind (suc w) = pointing-then _ (going-sizes leastSize mostSize (suc w) _ (omega arith)) (λ sizes _. pointing-body plain sizes)
+
+-- Either kind of task file is read by its first number.
+first-decides : (bytes : List ℕ) (place : ℕ) → taskOf bytes place ≡ then (item (inside 0 (suc mostVariables)) Limit) behind-first bytes place
+unfolding taskOf kindOf taskAs markOf partsOf header few behind-first item
+first-decides bytes place = by (number bytes place) refl
+  where
+    by : (r : Read ℕ) → number bytes place ≡ r → taskAs (kindBy r) bytes place ≡ then (item (inside 0 (suc mostVariables)) Limit) behind-first bytes place
+    by (fault reason there) e = rw (header-later leastSize mostSize few bytes place, e) refl
+    by (got zero next) e = rw e refl
+    by (got (suc w) next) e = rw (ne-eqb (suc w) 0 (omega arith), header-later leastSize mostSize few bytes place, e, le-leb leastVariables (suc w) (omega arith), le-leb 0 (suc w) (omega arith)) (pick (ltb (suc w) (suc mostVariables)))
+      where
+        pick : (b : Bool) → onRead (onRead (cond b (got (suc w) next) (fault Limit place)) (λ v m. limited (sizesOf leastSize mostSize v) few (λ _. v - 1) bytes m)) (λ sizes m. bodyOf plain sizes bytes m)
+            ≡ onRead (cond b (got (suc w) next) (fault Limit place)) (λ v m. behind-first v bytes m)
+        pick true = refl
+        pick false = refl
+
+pointing-task : Pointing taskOf
+pointing-task = pointing-same first-decides (pointing-then _ (going-item (inside 0 (suc mostVariables)) Limit fit) (λ n _. pointing-behind n))
 
 pointing-partial : Pointing partialOf
 unfolding partialOf partialHeader
@@ -679,7 +729,7 @@ pointing-partial =
     pointing-then _ (going-values (replicate (length sizes) 2)) (λ marks _.
     pointing-then _ (going-values sizes) (λ start _.
     pointing-then _ (going-goal sizes marks) (λ goal _.
-    pointing-then _ (going-feature-list (atoms sizes) (features sizes)) (λ pairs _.
+    pointing-then _ (going-feature-list plain (atoms sizes) (features sizes)) (λ pairs _.
     pointing-then _ going-number (λ k _.
     pointing-then _ (going-operators sizes k) (λ operators _. pointing-ended _)))))))
 
@@ -749,9 +799,10 @@ module _ (bytes : List ℕ) (reason : Reason) (place : ℕ) where
   unfolding judgedTask
   task-pointed e h = pointed (pointing-on judgedPairs pointing-task placeless-pairs) bytes reason place e h
 
-  pub weights-pointed : (n : ℕ) → judgedWeights n bytes ≡ fault reason place → hasPlace reason ≡ true → Pointed (judgedWeights n) bytes reason place
-  unfolding judgedWeights
-  weights-pointed n e h = pointed (pointing-then _ (going-feature-list 0 n) (λ weights _. pointing-ended weights)) bytes reason place e h
+  pub weights-pointed : (kind : Kind) (n : ℕ) → judgedWeightsAs kind n bytes ≡ fault reason place → hasPlace reason ≡ true → Pointed (judgedWeightsAs kind n) bytes reason place
+  unfolding judgedWeightsAs
+  weights-pointed kind n e h =
+      pointed (pointing-then _ (going-mark kind) (λ _ _. pointing-then _ (going-feature-list kind 0 n) (λ weights _. pointing-ended weights))) bytes reason place e h
 
   pub partial-pointed : (out : Partial → ℕ → ℕ → Bool) → judgedPartial out bytes ≡ fault reason place → hasPlace reason ≡ true → Pointed (judgedPartial out) bytes reason place
   unfolding judgedPartial

@@ -1,5 +1,5 @@
 -- The bytes of a task that can be written are read back as that task, and the bytes of a weight list as that list.
-use Prim.Native.Nat.{ℕ, suc, _+_, _<_, _≤_}
+use Prim.Native.Nat.{ℕ, suc, _+_, _-_, _<_, _≤_}
 use mathlib.Core.Path.{_≡_, refl, sym, ap, _∙_}
 use mathlib.Core.Bool.{Bool, true}
 use mathlib.Core.List.{List, [], _∷_, _++_, append-assoc, append-nil, List·Memᴰ as In, List·Memᴰ·head as here, List·Memᴰ·tail as there}
@@ -7,15 +7,16 @@ use native.Mathlib.Omega.{arith}
 use native.Mathlib.Nat.{zero-add}
 use lib.ListN.{length, getD, replicate, length-append, length-replicate, getD-replicate}
 use lib.Dec.{leb, ltb}
-use borrow.Author.Tests.{lt-ltb, le-leb}
+use borrow.Author.Tests.{lt-ltb, le-leb, ne-eqb}
 use Rattle.meaning.specs.Limits.{leastVariables, mostVariables, leastSize, mostSize, mostFeatures, numberEnd}
 use Rattle.meaning.specs.Sets.{listed}
 use Rattle.meaning.specs.Task.{Entry, Operator, Task, State, Entries, IsOperator, Run, size}
 use Rattle.meaning.specs.Feature.{atoms, features}
 use Rattle.meaning.specs.Pair.{closed}
-use Rattle.meaning.specs.Number.{Reason, Limit, Range, got, numberBytes}
-use Rattle.meaning.specs.File.{Parser, give, then, inside, item, judge, limited, rising, ended, itemsOf, sizesOf, sizeList, header, valuesOf, featuresOf, featureList, entriesOf}
-use Rattle.meaning.specs.File.{operatorOf, operatorsOf, taskOf, judgedTask, judgedWeights, InLimits, Taken, Writable, bytesOf, counted, entryBytes, operatorBytes, weightBytes, taskBytes}
+use Rattle.meaning.specs.Number.{Reason, Limit, Range, got, number, numberBytes}
+use Rattle.meaning.specs.File.{Parser, give, then, inside, item, judge, limited, rising, ended, itemsOf, sizesOf, sizeList, header, valuesOf, Kind, plain, gapped, kindOf, markOf, featureOf, featuresOf, featureList, entriesOf}
+use Rattle.meaning.specs.File.{operatorOf, operatorsOf, bodyOf, partsOf, taskAs, taskOf, judgedAs, judgedTask, judgedWeightsAs, judgedWeights, InLimits, Taken, Writable}
+use Rattle.meaning.specs.File.{bytesOf, counted, entryBytes, operatorBytes, weightBytes, gapsFrom, numbersFor, listBytes, markBytes, weightBytesAs, taskBytesAs, taskBytes}
 use Rattle.theory.specs.Search.{and-both, all-each}
 use Rattle.theory.specs.Run.{run-first, run-rest, run-length}
 use Rattle.theory.specs.Reading.{Reads, reads-give, reads-then, reads-map}
@@ -102,22 +103,50 @@ values-back sizes state m good after = items-back 0 Range sizes state m (good .f
 
 -- ---- features
 
+-- The number that stands for a feature that has to be `least` or more.
+abbrev pub saidAs : Kind → ℕ → ℕ → ℕ
+saidAs plain least f = f
+saidAs gapped least f = f - least
+
+pub numbers-more : (kind : Kind) (least f : ℕ) (fs : List ℕ) → numbersFor kind least (f ∷ fs) ≡ saidAs kind least f ∷ numbersFor kind (suc f) fs
+unfolding gapsFrom
+numbers-more plain least f fs = refl
+numbers-more gapped least f fs = refl
+
+pub numbers-none : (kind : Kind) (least : ℕ) → numbersFor kind least [] ≡ []
+unfolding gapsFrom
+numbers-none plain least = refl
+numbers-none gapped least = refl
+
+pub numbers-length : (kind : Kind) (least : ℕ) (fs : List ℕ) → length (numbersFor kind least fs) ≡ length fs
+numbers-length kind least [] = rw (numbers-none kind least)
+numbers-length kind least (f ∷ fs) = rw (numbers-more kind least f fs) (ap suc (numbers-length kind (suc f) fs))
+
+feature-back : (kind : Kind) (low high least f : ℕ) → low ≤ f → least ≤ f → f < high → f < numberEnd → (after : List ℕ)
+    → Reads (featureOf kind low high least) f (numberBytes (saidAs kind least f)) after
+unfolding featureOf
+feature-back plain low high least f h k l m after = rising-back low high least f h k l m after
+feature-back gapped low high least f h k l m after = record {
+  reads = λ before. let e : least + (f - least) ≡ f = omega arith in rw (number-back (f - least) (omega arith) after .reads before, e, inside-between low high f h l);
+}
+
 -- From the lowest and the least that is allowed to the first that is there.
-pub features-back : (from low high least : ℕ) (fs : List ℕ) → low ≤ from → least ≤ from → high ≤ numberEnd → Run from fs high → (after : List ℕ)
-    → Reads (featuresOf (length fs) low high least) fs (bytesOf numberBytes fs) after
+features-back : (kind : Kind) (from low high least : ℕ) (fs : List ℕ) → low ≤ from → least ≤ from → high ≤ numberEnd → Run from fs high → (after : List ℕ)
+    → Reads (featuresOf kind (length fs) low high least) fs (bytesOf numberBytes (numbersFor kind least fs)) after
 unfolding featuresOf bytesOf
-features-back from low high least [] h k m r after = reads-give
-features-back from low high least (f ∷ fs) h k m r after =
+features-back kind from low high least [] h k m r after = rw (numbers-none kind least) reads-give
+features-back kind from low high least (f ∷ fs) h k m r after =
     let first : from ≤ f = run-first from high f fs r in
     let rest : suc f + length fs ≤ high = run-length (suc f) high fs (run-rest from high f fs r) in
-    reads-then _ (rising-back low high least f (omega arith) (omega arith) (omega arith) (omega arith) (bytesOf numberBytes fs ++ after))
-    (reads-map (_∷_ f) (features-back (suc f) low high (suc f) fs (omega arith) (omega arith) m (run-rest from high f fs r) after))
+    rw (numbers-more kind least f fs) (
+    reads-then _ (feature-back kind low high least f (omega arith) (omega arith) (omega arith) (omega arith) (bytesOf numberBytes (numbersFor kind (suc f) fs) ++ after))
+    (reads-map (_∷_ f) (features-back kind (suc f) low high (suc f) fs (omega arith) (omega arith) m (run-rest from high f fs r) after)))
 
-pub feature-list-back : (low high : ℕ) (fs : List ℕ) → high < numberEnd → Run low fs high → (after : List ℕ) → Reads (featureList low high) fs (weightBytes fs) after
-unfolding featureList weightBytes counted
-feature-list-back low high fs m r after =
-    reads-then _ (number-back (length fs) (omega (arith, run-length low high fs r)) (bytesOf numberBytes fs ++ after))
-    (features-back low low high 0 fs (omega arith) (omega arith) (omega arith) r after)
+pub feature-list-back : (kind : Kind) (low high : ℕ) (fs : List ℕ) → high < numberEnd → Run low fs high → (after : List ℕ) → Reads (featureList kind low high) fs (listBytes kind fs) after
+unfolding featureList listBytes weightBytes counted
+feature-list-back kind low high fs m r after = rw (numbers-length kind 0 fs) (
+    reads-then _ (number-back (length fs) (omega (arith, run-length low high fs r)) (bytesOf numberBytes (numbersFor kind 0 fs) ++ after))
+    (features-back kind low low high 0 fs (omega arith) (omega arith) (omega arith) r after))
 
 -- ---- operators
 
@@ -159,30 +188,69 @@ module _ (sizes : List ℕ) (few : length sizes < numberEnd) (small : Sayable si
 
 -- ---- whole files
 
-pub task-back : (T : Task) → Writable T → Reads taskOf T (taskBytes T) []
-unfolding taskOf taskBytes counted
-task-back T good =
+mark-back : (kind : Kind) (after : List ℕ) → Reads (markOf kind) tt (markBytes kind) after
+unfolding markOf
+mark-back plain after = reads-give
+mark-back gapped after = reads-map (λ _. tt) (between-back 0 1 Range 0 (omega arith) (omega arith) (omega arith) after)
+
+task-back : (kind : Kind) (T : Task) → Writable T → Reads (taskAs kind) T (taskBytesAs kind T) []
+unfolding taskAs partsOf bodyOf taskBytesAs counted
+task-back kind T good =
     let fine = good .acceptable in
     let limits = fine .limits in
     let small = limits-sayable (T .sizes) limits in
     let few : length (T .sizes) < numberEnd = omega (arith, limits .variables) in
-    reads-then _ (header-back (T .sizes) limits (fine .taken) _)
+    reads-then _ (mark-back kind _)
+    (reads-then _ (header-back (T .sizes) limits (fine .taken) _)
     (reads-then _ (values-back (T .sizes) (T .start) small (fine .start) _)
     (reads-then _ (values-back (T .sizes) (T .goal) small (fine .goal) _)
-    (reads-then _ (feature-list-back (atoms (T .sizes)) (features (T .sizes)) (T .pairs) (omega (arith, limits .total)) (fine .pairs) _)
+    (reads-then _ (feature-list-back kind (atoms (T .sizes)) (features (T .sizes)) (T .pairs) (omega (arith, limits .total)) (fine .pairs) _)
     (reads-then _ (number-back (length (T .operators)) (good .countable) _)
-    (ended-back (λ os. record { sizes = T .sizes; start = T .start; goal = T .goal; pairs = T .pairs; operators = os }) (operators-back (T .sizes) few small (T .operators) (fine .operators) []))))))
+    (ended-back (λ os. record { sizes = T .sizes; start = T .start; goal = T .goal; pairs = T .pairs; operators = os }) (operators-back (T .sizes) few small (T .operators) (fine .operators) [])))))))
 
 -- Bytes that hold one thing and nothing else.
 pub whole : {A : Type 0} (parser : Parser A) (a : A) (bytes : List ℕ) → Reads parser a bytes [] → parser bytes 0 ≡ got a (length bytes)
 whole parser a bytes h = rw (append-nil bytes, zero-add (length bytes)) at (h .reads [])
 
-pub read-back : (T : Task) → Writable T → judgedTask (taskBytes T) ≡ got T (length (taskBytes T))
-unfolding judgedTask
-read-back T good =
+pub read-back-as : (kind : Kind) (T : Task) → Writable T → judgedAs kind (taskBytesAs kind T) ≡ got T (length (taskBytesAs kind T))
+unfolding judgedAs
+read-back-as kind T good =
     let fine = good .acceptable in
-    rw (whole taskOf T (taskBytes T) (task-back T good), fine .free, all-each (closed (T .sizes) (listed (T .pairs))) (T .operators) (fine .closed-under))
+    rw (whole (taskAs kind) T (taskBytesAs kind T) (task-back kind T good), fine .free, all-each (closed (T .sizes) (listed (T .pairs))) (T .operators) (fine .closed-under))
+
+-- The kind of a file is known by its first number, which is 0 or how many sizes there are.
+pub kind-back : (kind : Kind) (T : Task) → Writable T → kindOf (taskBytesAs kind T) 0 ≡ kind
+unfolding kindOf taskBytesAs counted
+kind-back plain T good =
+    let v = length (T .sizes) in
+    let limits = good .acceptable .limits in
+    let behind = bytesOf numberBytes (T .start) ++ (bytesOf numberBytes (T .goal) ++ (listBytes plain (T .pairs) ++ counted operatorBytes (T .operators))) in
+    rw (
+      append-assoc (numberBytes v) (bytesOf numberBytes (T .sizes)) behind,
+      number-back v (omega (arith, limits .variables)) (bytesOf numberBytes (T .sizes) ++ behind) .reads [],
+      ne-eqb v 0 (omega (arith, limits .variables)),
+    )
+kind-back gapped T good = rw (number-back 0 (omega arith) _ .reads [])
+
+-- Either kind of file is read back.
+pub read-back-either : (kind : Kind) (T : Task) → Writable T → judgedTask (taskBytesAs kind T) ≡ got T (length (taskBytesAs kind T))
+unfolding judgedTask taskOf judgedAs
+read-back-either kind T good = rw (kind-back kind T good) (read-back-as kind T good)
+
+pub read-back : (T : Task) → Writable T → judgedTask (taskBytes T) ≡ got T (length (taskBytes T))
+read-back = read-back-either plain
+
+pub weights-back-as : (kind : Kind) (n : ℕ) (weights : List ℕ) → n ≤ mostFeatures → Run 0 weights n
+    → judgedWeightsAs kind n (weightBytesAs kind weights) ≡ got weights (length (weightBytesAs kind weights))
+unfolding judgedWeightsAs weightBytesAs
+weights-back-as kind n weights h r =
+    whole (then (markOf kind) (λ _. then (featureList kind 0 n) (λ ws. then ended (λ _. give ws)))) weights (weightBytesAs kind weights)
+    (reads-then _ (mark-back kind _) (ended-back (λ l. l) (feature-list-back kind 0 n weights (omega arith) r [])))
+
+-- A weight file of the old kind.
+pub plain-weights : (weights : List ℕ) → weightBytesAs plain weights ≡ weightBytes weights
+unfolding weightBytesAs listBytes
+plain-weights weights = refl
 
 pub weights-back : (n : ℕ) (weights : List ℕ) → n ≤ mostFeatures → Run 0 weights n → judgedWeights n (weightBytes weights) ≡ got weights (length (weightBytes weights))
-unfolding judgedWeights
-weights-back n weights h r = whole _ weights (weightBytes weights) (ended-back (λ l. l) (feature-list-back 0 n weights (omega arith) r []))
+weights-back n weights h r = rw (← plain-weights weights) (weights-back-as plain n weights h r)

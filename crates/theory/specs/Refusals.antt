@@ -13,12 +13,13 @@ use Rattle.meaning.specs.Limits.{mostInput, mostProgramFeatures, faultWords, pl
 use Rattle.meaning.specs.Task.{Task}
 use Rattle.meaning.specs.Feature.{features}
 use Rattle.meaning.specs.Number.{Reason, Small, Malformed, refusal, Read, got, fault}
-use Rattle.meaning.specs.File.{taskOf, judgedTask, judgedWeights, weightBytes, taskBytes}
+use Rattle.meaning.specs.File.{Kind, other, kindOf, taskOf, judgedTask, judgedWeightsAs, weightBytes, weightBytesAs, taskBytesAs}
 use Rattle.meaning.specs.Workspace.{Content, wordsFor, wordsDue, WellFormed}
 use Rattle.meaning.specs.Answer.{Answer, done, refused, Outcome, refuses, writes, delivered, byRead, Verdict, ChecksAs, OpensAs}
 use Rattle.meaning.specs.Answer.{FindsIn, FindsBy, Finds, Judged, fine, faulty, need, Edit, editJudged, EditsIn, Edits}
 use Rattle.meaning.specs.Partial.{Partial, partialBytes, silenced, marksJudged, silencesBy, Silences}
 use Rattle.meaning.specs.Mend.{Largest, Dropped, mended, Mends, Drops, FindsFault, FaultsPairs}
+use Rattle.meaning.specs.Convert.{ConvertsWeights}
 use Rattle.meaning.specs.Place.{Part, holderOf, partWords, displayed}
 use Rattle.meaning.specs.Line.{Found, Seeks, tooLarge, Prints}
 use Rattle.theory.specs.Truth.{on, off, test}
@@ -41,8 +42,8 @@ abbrev pub openJudged : Read Task → List ℕ → Judged
 openJudged judged room = fileJudged judged (λ T. roomJudged (wordsDue (length (T .sizes)) (features (T .sizes))) room)
 
 -- "Weights are read after a fully accepted task."
-abbrev pub checkJudged : Read Task → List ℕ → Judged
-checkJudged judged weights = fileJudged judged (λ T. fileJudged (judgedWeights (features (T .sizes)) weights) (λ _. fine))
+abbrev pub checkJudged : Kind → Read Task → List ℕ → Judged
+checkJudged kind judged weights = fileJudged judged (λ T. fileJudged (judgedWeightsAs kind (features (T .sizes)) weights) (λ _. fine))
 
 -- A file, then the room: "all bytes of the file" that is written for what was read are due.
 abbrev pub buildJudged : {A : Type 0} → Read A → (A → List ℕ) → List ℕ → Judged
@@ -53,6 +54,12 @@ abbrev pub silenceJudged : List ℕ → List ℕ → List ℕ → Judged
 silenceJudged task marks room =
     fileJudged (judgedTask task)
     (λ T. unless (marksJudged T marks) (roomJudged (length (partialBytes (silenced T marks))) room))
+
+-- The task wholly, then the weights, then the room: the weight file of the other kind is due.
+abbrev pub convertWeightsJudged : Kind → List ℕ → List ℕ → List ℕ → Judged
+convertWeightsJudged kind task weights room =
+    fileJudged (judgedTask task)
+    (λ T. buildJudged (judgedWeightsAs (other kind) (features (T .sizes)) weights) (weightBytesAs kind) room)
 
 -- pair_fault: the task up to 5, then two words.
 abbrev pub faultJudged : List ℕ → List ℕ → Judged
@@ -83,7 +90,7 @@ FaultyIn workspace judged n =
 abbrev pub FaultyMend : List ℕ → List ℕ → ℕ → Type 0
 FaultyMend task room n =
     byRead (taskOf task 0)
-    (λ T. (kept : List ℕ) × Largest T kept × Faulty (roomJudged (length (taskBytes (mended T kept))) room) n)
+    (λ T. (kept : List ℕ) × Largest T kept × Faulty (roomJudged (length (taskBytesAs (kindOf task 0) (mended T kept))) room) n)
     (λ reason. n ≡ refusal reason)
 
 -- dropped: the task up to 5, then the list of what is not kept.
@@ -185,6 +192,11 @@ module _ (n : ℕ) (left : List ℕ) where
       marked fine P = delivered-refused (partialBytes P) room
       marked (faulty reason) P = refusal-alike n left room reason
 
+  pub converts-weights-refused : (kind : Kind) (task weights room : List ℕ)
+      → ConvertsWeights kind task weights room (record { answer = refused n; lent = left }) ↔ (Faulty (convertWeightsJudged kind task weights room) n × (left ≡ room))
+  converts-weights-refused kind task weights room = read-refused (judgedTask task) _ _ _ (λ first. Faulty first n × (left ≡ room))
+      (λ T. builds-refused (judgedWeightsAs (other kind) (features (T .sizes)) weights) (weightBytesAs kind) room) (refusal-alike n left room)
+
   -- What was read decides, or what was found for it.
   found-refused : {A : Type 0} (read : Read A) (room : List ℕ) (Good Fault : A → Type 0) (Bad : Reason → Type 0) → ((a : A) → Good a ↔ (Fault a × (left ≡ room)))
       → ((reason : Reason) → Bad reason ↔ ((n ≡ refusal reason) × (left ≡ room))) → byRead read Good Bad ↔ (byRead read Fault (λ reason. n ≡ refusal reason) × (left ≡ room))
@@ -194,8 +206,8 @@ module _ (n : ℕ) (left : List ℕ) where
   pub mends-refused : (task room : List ℕ) → Mends task room (record { answer = refused n; lent = left }) ↔ (FaultyMend task room n × (left ≡ room))
   mends-refused task room = found-refused (taskOf task 0) room _ _ _
       (λ T. (
-        λ h. let (f, q) = delivered-refused (taskBytes (mended T (h .0))) room .0 (h .2) in ((h .0, h .1, f), q),
-        λ h. (h .0 .0, h .0 .1, delivered-refused (taskBytes (mended T (h .0 .0))) room .1 (h .0 .2, h .1)),
+        λ h. let (f, q) = delivered-refused (taskBytesAs (kindOf task 0) (mended T (h .0))) room .0 (h .2) in ((h .0, h .1, f), q),
+        λ h. (h .0 .0, h .0 .1, delivered-refused (taskBytesAs (kindOf task 0) (mended T (h .0 .0))) room .1 (h .0 .2, h .1)),
       ))
       (refusal-alike n left room)
 
@@ -260,9 +272,9 @@ module _ {A : Type 0} (n : ℕ) where
   no-result : (a : A) → _≡_ {A = Answer A} (refused n) (done a) → ⊥
   no-result a e = let z : _≡_ {A = ℕ} 0 1 = cc in omega arith
 
-pub checks-refused : (n : ℕ) (judged : Read Task) (weights : List ℕ) → ChecksAs judged weights (refused n) ↔ Faulty (checkJudged judged weights) n
-checks-refused n judged weights = read-refused judged _ _ _ (λ first. Faulty first n)
-    (λ T. read-refused (judgedWeights (features (T .sizes)) weights) _ _ _ (λ first. Faulty first n) (λ ws. (λ h. absurd (no-result n (h .0) (h .1)), λ h. absurd h)) (number-alike n))
+pub checks-refused : (n : ℕ) (kind : Kind) (judged : Read Task) (weights : List ℕ) → ChecksAs kind judged weights (refused n) ↔ Faulty (checkJudged kind judged weights) n
+checks-refused n kind judged weights = read-refused judged _ _ _ (λ first. Faulty first n)
+    (λ T. read-refused (judgedWeightsAs kind (features (T .sizes)) weights) _ _ _ (λ first. Faulty first n) (λ ws. (λ h. absurd (no-result n (h .0) (h .1)), λ h. absurd h)) (number-alike n))
     (number-alike n)
 
 pub prints-refused : (n : ℕ) (input : List ℕ) → Prints input (refused n) ↔ Faulty (printJudged input) n
@@ -286,9 +298,9 @@ prints-refused n input = elim (test (ltb mostInput (length input))) [
 pub opens-exactly : (judged : Read Task) (room : List ℕ) → RefusesExactly (OpensAs judged room) room (Faulty (openJudged judged room))
 opens-exactly judged room = refuses-exactly (opens-only judged room) (λ n left. opens-refused n left judged room)
 
-pub checks-exactly : (judged : Read Task) (weights : List ℕ) (answer : Answer Verdict) → ChecksAs judged weights answer
-    → (n : ℕ) → (answer ≡ refused n) ↔ Faulty (checkJudged judged weights) n
-checks-exactly judged weights = answers-exactly (checks-only judged weights) (λ n. checks-refused n judged weights)
+pub checks-exactly : (kind : Kind) (judged : Read Task) (weights : List ℕ) (answer : Answer Verdict) → ChecksAs kind judged weights answer
+    → (n : ℕ) → (answer ≡ refused n) ↔ Faulty (checkJudged kind judged weights) n
+checks-exactly kind judged weights = answers-exactly (checks-only kind judged weights) (λ n. checks-refused n kind judged weights)
 
 pub builds-exactly : {A : Type 0} (read : Read A) (file : A → List ℕ) (room : List ℕ)
     → RefusesExactly (λ outcome. byRead read (λ a. outcome ≡ delivered (file a) room) (λ reason. outcome ≡ refuses reason room)) room (Faulty (buildJudged read file room))

@@ -9,10 +9,10 @@ use Rattle.meaning.specs.Limits.{placeWords}
 use Rattle.meaning.specs.Feature.{features}
 use Rattle.meaning.specs.Task.{Task}
 use Rattle.meaning.specs.Number.{Reason, hasPlace, Read, got, fault}
-use Rattle.meaning.specs.File.{judgedTask, judgedWeights}
+use Rattle.meaning.specs.File.{Kind, plain, gapped, judgedTask, judgedWeightsAs}
 use Rattle.meaning.specs.Bay.{judgedBay}
 use Rattle.meaning.specs.Partial.{leftOut, judgedPartial}
-use Rattle.meaning.specs.Place.{Spot, nowhere, inTask, inWeights, spotBy, spotAlone, spotBeside, Part, ofTask, ofWeights, partAt, shown, shownPartial, shownBay, displayed, Displays, DisplaysPartial, DisplaysBay}
+use Rattle.meaning.specs.Place.{Spot, nowhere, inTask, inWeights, spotBy, spotAlone, spotBeside, Part, ofTask, ofWeights, partAt, shownAs, shown, shownPartial, shownBay, displayed, Displays, DisplaysNew, DisplaysPartial, DisplaysBay}
 use Rattle.theory.specs.Truth.{on, off, test}
 use Rattle.theory.specs.Determined.{is-only}
 use Rattle.theory.specs.Refusals.{Faulty, roomJudged, RefusesExactly, refuses-exactly, displayed-refused}
@@ -36,16 +36,16 @@ module _ (task weights : List ℕ) where
   spot-by file bytes (got a next) rest there h k = k a
   spot-by file bytes (fault reason place) rest there h k = elim (test (hasPlace reason)) [ on e ↦ rw e (there place (h reason place refl e)) | off e ↦ rw e tt ]
 
-  spot-beside : (r : Read Task) → FaultWithin task r → SpotWithin task weights (spotBeside r weights)
-  spot-beside r h = spot-by inTask task r _ (λ place l. l) h (λ T.
-      spot-by inWeights weights (judgedWeights (features (T .sizes)) weights) _ (λ place l. l)
-      (λ reason place e k. omega (arith, weights-pointed weights reason place (features (T .sizes)) e k .within)) (λ ws. tt))
+  spot-beside : (kind : Kind) (r : Read Task) → FaultWithin task r → SpotWithin task weights (spotBeside kind r weights)
+  spot-beside kind r h = spot-by inTask task r _ (λ place l. l) h (λ T.
+      spot-by inWeights weights (judgedWeightsAs kind (features (T .sizes)) weights) _ (λ place l. l)
+      (λ reason place e k. omega (arith, weights-pointed weights reason place kind (features (T .sizes)) e k .within)) (λ ws. tt))
 
-  pub spot-within : SpotWithin task weights (spotBeside (judgedTask task) weights)
-  spot-within = spot-beside (judgedTask task) (λ reason place e h. omega (arith, task-pointed task reason place e h .within))
+  pub spot-within : (kind : Kind) → SpotWithin task weights (spotBeside kind (judgedTask task) weights)
+  spot-within kind = spot-beside kind (judgedTask task) (λ reason place e h. omega (arith, task-pointed task reason place e h .within))
 
-  pub spot-partial-within : SpotWithin task weights (spotBeside (judgedPartial leftOut task) weights)
-  spot-partial-within = spot-beside (judgedPartial leftOut task) (λ reason place e h. omega (arith, partial-pointed task reason place leftOut e h .within))
+  pub spot-partial-within : SpotWithin task weights (spotBeside plain (judgedPartial leftOut task) weights)
+  spot-partial-within = spot-beside plain (judgedPartial leftOut task) (λ reason place e h. omega (arith, partial-pointed task reason place leftOut e h .within))
 
   -- Of a task file that comes alone, and of a bay file.
   pub spot-task-within : SpotWithin task weights (spotAlone (judgedTask task))
@@ -66,13 +66,13 @@ part-within task weights nowhere h = omega arith
 part-within task weights (inTask place) h = read-within task place h
 part-within task weights (inWeights place) h = read-within weights place h
 
-pub shown-within : (task weights : List ℕ) → PartWithin task weights (shown task weights)
-unfolding shown
-shown-within task weights = part-within task weights (spotBeside (judgedTask task) weights) (spot-within task weights)
+pub shown-within : (kind : Kind) (task weights : List ℕ) → PartWithin task weights (shownAs kind task weights)
+unfolding shownAs
+shown-within kind task weights = part-within task weights (spotBeside kind (judgedTask task) weights) (spot-within task weights kind)
 
 pub shown-partial-within : (partial weights : List ℕ) → PartWithin partial weights (shownPartial partial weights)
 unfolding shownPartial
-shown-partial-within partial weights = part-within partial weights (spotBeside (judgedPartial leftOut partial) weights) (spot-partial-within partial weights)
+shown-partial-within partial weights = part-within partial weights (spotBeside plain (judgedPartial leftOut partial) weights) (spot-partial-within partial weights)
 
 pub shown-bay-within : (bay : List ℕ) → PartWithin bay [] (shownBay bay)
 unfolding shownBay
@@ -86,6 +86,9 @@ displays-exactly part room = refuses-exactly (is-only (displayed part room)) (λ
 
 pub display-refuses : (task weights room : List ℕ) → RefusesExactly (Displays task weights room) room (Faulty (roomJudged placeWords room))
 display-refuses task weights = displays-exactly (shown task weights)
+
+pub display-new-refuses : (task weights room : List ℕ) → RefusesExactly (DisplaysNew task weights room) room (Faulty (roomJudged placeWords room))
+display-new-refuses task weights = displays-exactly (shownAs gapped task weights)
 
 pub display-partial-refuses : (partial weights room : List ℕ) → RefusesExactly (DisplaysPartial partial weights room) room (Faulty (roomJudged placeWords room))
 display-partial-refuses partial weights = displays-exactly (shownPartial partial weights)

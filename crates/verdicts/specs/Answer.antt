@@ -2,7 +2,7 @@
 use Prim.Native.Nat.{ℕ}
 use mathlib.Core.List.{List}
 use Rattle.meaning.specs.Number.{Small, refusal}
-use Rattle.meaning.specs.File.{judgedTask}
+use Rattle.meaning.specs.File.{plain, judgedTask}
 use Rattle.meaning.specs.Answer.{refused, Outcome, Checks}
 use Rattle.meaning.specs.Line.{tooLong, ChecksFiles, checkedSpot, filesSpot, verdictLine}
 use Rattle.theory.specs.Determined.{AtMostOne, is-only, if-only, checks-only}
@@ -13,7 +13,7 @@ abbrev pub VerdictLines : List ℕ → List ℕ → List ℕ → Outcome ℕ →
 VerdictLines task weights = LineOf (Checks task weights) (verdictLine (checkedSpot task weights))
 
 pub verdict-lines-only : (task weights room : List ℕ) → AtMostOne (VerdictLines task weights room)
-verdict-lines-only task weights room = line-of-only (Checks task weights) (verdictLine (checkedSpot task weights)) room (checks-only (judgedTask task) weights)
+verdict-lines-only task weights room = line-of-only (Checks task weights) (verdictLine (checkedSpot task weights)) room (checks-only plain (judgedTask task) weights)
 
 -- The same for the program's answer.
 abbrev pub FileLines : List ℕ → List ℕ → List ℕ → Outcome ℕ → Type 0
@@ -22,4 +22,4 @@ FileLines task weights = LineOf (ChecksFiles task weights) (verdictLine (filesSp
 pub file-lines-only : (task weights room : List ℕ) → AtMostOne (FileLines task weights room)
 file-lines-only task weights room =
     line-of-only (ChecksFiles task weights) (verdictLine (filesSpot task weights)) room
-    (if-only (tooLong task weights) _ _ (is-only (refused (refusal Small))) (checks-only (judgedTask task) weights))
+    (if-only (tooLong task weights) _ _ (is-only (refused (refusal Small))) (checks-only plain (judgedTask task) weights))

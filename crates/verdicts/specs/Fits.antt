@@ -1,6 +1,6 @@
 -- The numbers of the checker's answers are short, every line of it fits into so many bytes, and every weight file that gets a verdict is short enough for the program.
 use Prim.Native.Nat.{ℕ, _^_, _<_, _≤_}
-use mathlib.Core.Path.{_≡_, ap}
+use mathlib.Core.Path.{_≡_, refl, ap}
 use mathlib.Core.Bool.{Bool, true, false, cond}
 use mathlib.Core.List.{List, [], _∷_}
 use native.Mathlib.Omega.{arith}
@@ -10,7 +10,7 @@ use Rattle.meaning.specs.Sets.{Set, listed}
 use Rattle.meaning.specs.Task.{Task}
 use Rattle.meaning.specs.Feature.{features}
 use Rattle.meaning.specs.Number.{Reason, Small, refusal, Read, got}
-use Rattle.meaning.specs.File.{judgedTask, judgedWeights, Writable}
+use Rattle.meaning.specs.File.{Kind, plain, judgedTask, judgedWeightsAs, judgedWeights, Writable, weightBytes, listBytes}
 use Rattle.meaning.specs.Answer.{Answer, done, refused, Outcome, writes, Verdict, accepted, endsAlike, breaks, Judges, ChecksAs, Checks}
 use Rattle.meaning.specs.Place.{Spot, nowhere}
 use Rattle.meaning.specs.Line.{word, fileText, refusedLine, tooLong, ChecksFiles, checkedSpot, filesSpot, verdictLine}
@@ -39,19 +39,19 @@ verdict-short T weights accepted few h = tt
 verdict-short T weights endsAlike few h = tt
 verdict-short T weights (breaks j) few h = omega (arith, h .counted)
 
--- Whatever judged the task, if what is accepted can be written.
-pub checks-as-short : (judging : Read Task) → ((T : Task) (next : ℕ) → judging ≡ got T next → Writable T) → (weights : List ℕ) (answer : Answer Verdict)
-    → ChecksAs judging weights answer → Short answer
-checks-as-short judging writable weights =
+-- Whatever judged the task, if what is accepted can be written; weights of either kind.
+pub checks-as-short : (kind : Kind) (judging : Read Task) → ((T : Task) (next : ℕ) → judging ≡ got T next → Writable T) → (weights : List ℕ) (answer : Answer Verdict)
+    → ChecksAs kind judging weights answer → Short answer
+checks-as-short kind judging writable weights =
     let bad : Reason → Answer Verdict = λ reason. refused (refusal reason) in
     read-good Short judging _ bad
-    (λ T next e. read-good Short (judgedWeights (features (T .sizes)) weights) _ bad
+    (λ T next e. read-good Short (judgedWeightsAs kind (features (T .sizes)) weights) _ bad
     (λ ws end e' answer h. is-good Short (done (h .0)) (verdict-short T (listed ws) (h .0) (writable T next e .countable) (h .2)) answer (h .1))
     refusal-short)
     refusal-short
 
 pub checks-short : (task weights : List ℕ) (answer : Answer Verdict) → Checks task weights answer → Short answer
-checks-short task = checks-as-short (judgedTask task) (theory.accepted task)
+checks-short task = checks-as-short plain (judgedTask task) (theory.accepted task)
 
 -- ---- the longest line
 
@@ -73,7 +73,7 @@ verdict-few spot (refused number) near short = refusal-few number spot short nea
 -- Files that are no longer than any slice: their places have few enough digits, and a room as long as that is never refused.
 module _ (task weights : List ℕ) (few : length task < 10 ^ placeDigits) (few′ : length weights < 10 ^ placeDigits) where
   pub checked-near : ShortSpot (checkedSpot task weights)
-  checked-near = spot-short task weights few few′ (checkedSpot task weights) (spot-within task weights)
+  checked-near = spot-short task weights few few′ (checkedSpot task weights) (spot-within task weights plain)
 
   pub line-few : (answer : Answer Verdict) → Checks task weights answer → length (verdictLine (checkedSpot task weights) answer) ≤ verdictBytes
   line-few answer h = verdict-few (checkedSpot task weights) answer checked-near (checks-short task weights answer h)
@@ -103,6 +103,10 @@ abbrev NotTooLong : List ℕ → Answer Verdict → Type 0
 NotTooLong weights (done v) = length weights ≤ mostWeights
 NotTooLong weights (refused number) = Unit {0}
 
+list-length : (fs : List ℕ) → length (listBytes plain fs) ≡ length (weightBytes fs)
+unfolding listBytes
+list-length fs = refl
+
 weights-short : (task weights : List ℕ) → Bytes weights → (answer : Answer Verdict) → Checks task weights answer → NotTooLong weights answer
 weights-short task weights bytes =
     let bad : Reason → Answer Verdict = λ reason. refused (refusal reason) in
@@ -118,7 +122,8 @@ weights-short task weights bytes =
         omega (
           arith,
           ap length (theory.weights-bytes weights n ws end e' bytes),
-          pairs-few 0 n ws (theory.accepted task T next e .acceptable .limits .total) (theory.weights-accepted weights n ws end e'),
+          list-length ws,
+          pairs-few plain 0 n ws (theory.accepted task T next e .acceptable .limits .total) (theory.weights-accepted weights n ws end e'),
         )
 
 -- So the limit takes no verdict away.

@@ -35,7 +35,7 @@ fn put_verdict(text: &mut [u8], verdict: Verdict, task: &[u8], weights: &[u8]) -
         Verdict::Refused(number) => text::put_refused(
             text,
             number,
-            locating::spot(task, weights),
+            locating::spot(task, false, weights),
             b" in task",
             b" in weights",
         ),

@@ -1,6 +1,6 @@
 -- The members of a set, increasing, found one after the other by the next member; and the members of a set in words.
 use Prim.Native.Nat.{ℕ, zero, suc, _+_, _*_, _<_, _≤_}
-use mathlib.Core.Path.{_≡_, refl, ap, sym, _∙_}
+use mathlib.Core.Path.{_≡_, refl, ap, sym, _∙_, fun-ext}
 use mathlib.Core.Bool.{true, false, cond}
 use mathlib.Core.List.{List, [], _∷_, _++_, append-nil, append-assoc}
 use native.Mathlib.Omega.{arith}
@@ -12,9 +12,12 @@ use lib.Seq.{getD-append-add}
 use borrow.Author.Tests.{ltb-false}
 use Rattle.meaning.specs.Sets.{Set, flat, listed}
 use Rattle.meaning.specs.Limits.{wordBits}
-use Rattle.meaning.specs.Workspace.{has}
+use Rattle.meaning.specs.Task.{Run}
+use Rattle.meaning.specs.Workspace.{has, packed}
 use Rattle.theory.specs.Truth.{on, off, test, less, same, more, order}
-use Rattle.theory.specs.Run.{members, run-members, run-length, run-same, listed-members}
+use Rattle.theory.specs.Run.{members, run-members, run-in, run-length, run-same, listed-members}
+use Rattle.theory.specs.Search.{listed-in}
+use Rattle.theory.specs.Words.{packed-holds}
 use Rattle.words.specs.Part.{has-past}
 use Rattle.words.specs.Next.{Next, Clear, Empty, has-take}
 
@@ -89,6 +92,15 @@ listed-in-words words f = listed-members (wordBits * length words) (has words) f
 pub members-same : (n : ℕ) (a : Set) (words : List ℕ) → ((f : ℕ) → listed (members n a) f ≡ has words f) → members n a ≡ membersIn words
 members-same n a words h =
     run-same 0 n 0 (wordBits * length words) _ _ (run-members n a) (run-members (wordBits * length words) (has words)) (λ f. h f ∙ sym (listed-in-words words f))
+
+-- Words that have the numbers of an increasing list have its numbers as members.
+pub members-are : (lo hi : ℕ) (l words : List ℕ) → Run lo l hi → has words ≡ listed l → membersIn words ≡ l
+members-are lo hi l words r e =
+    run-same 0 (wordBits * length words) lo hi _ _ (run-members (wordBits * length words) (has words)) r (λ f. listed-in-words words f ∙ ap (λ s. s f) e)
+
+-- The words of an increasing list below n have its numbers, and no others.
+pub run-has : (lo n : ℕ) (l : List ℕ) → Run lo l n → has (packed n (listed l)) ≡ listed l
+run-has lo n l r = fun-ext (λ f. packed-holds n (listed l) f (λ k. elim (test (listed l f)) [ on e ↦ absurd (omega (arith, run-in lo n l f r (listed-in l f e))) | off e ↦ e ]))
 
 -- Where words have nothing from n on, their members are those below n.
 pub members-below : (n : ℕ) (words : List ℕ) → ((f : ℕ) → n ≤ f → has words f ≡ false) → members n (has words) ≡ membersIn words

@@ -5,6 +5,7 @@ pub mod Widths
 pub mod Longest
 pub mod Front
 pub mod Remains
+pub mod TaskFile
 pub mod Copied
 pub mod Judging
 pub mod Walk

@@ -8,14 +8,14 @@ use Rattle.meaning.specs.Limits.{mostVariables, mostFeatures, mostGroups, numbe
 use Rattle.meaning.specs.Task.{Operator, Task, IsOperator, Run}
 use Rattle.meaning.specs.Feature.{atoms, features}
 use Rattle.meaning.specs.Number.{numberBytes}
-use Rattle.meaning.specs.File.{bytesOf, counted, entryBytes, operatorBytes, weightBytes, taskBytes, Writable}
+use Rattle.meaning.specs.File.{Kind, plain, bytesOf, counted, entryBytes, operatorBytes, weightBytes, listBytes, markBytes, weightBytesAs, taskBytesAs, Writable}
 use Rattle.meaning.specs.Partial.{Partial, Ordered, marksIn, namedIn, partialBytes}
 use Rattle.theory.specs.Truth.{on, off, test}
 use Rattle.theory.specs.NumberBack.{number-bytes-length}
 use Rattle.theory.specs.ReadBack.{entries-length}
 use Rattle.theory.specs.Run.{run-length}
 use Rattle.theory.specs.PartialParts.{features-built}
-use Rattle.writer.specs.Widths.{bytes-few, counted-length, numbers-few, list-few, entries-few}
+use Rattle.writer.specs.Widths.{bytes-few, counted-length, numbers-few, list-few, mark-few, features-few, entries-few}
 
 -- An operator with an entry for each of the most variables.
 abbrev longestOperator : ℕ
@@ -34,34 +34,39 @@ operators-few : (sizes : List ℕ) (os : List Operator) → length sizes ≤ mos
 operators-few sizes os few is count =
     omega (arith, counted-length operatorBytes os, number-bytes-length (length os), bytes-few operatorBytes longestOperator os (λ o m. operator-few sizes o few (is o m)))
 
-pub pairs-few : (low high : ℕ) (pairs : List ℕ) → high ≤ mostFeatures → Run low pairs high → length (weightBytes pairs) ≤ mostGroups + mostGroups * mostFeatures
-unfolding weightBytes
-pairs-few low high pairs few r = omega (arith, list-few pairs, run-length low high pairs r)
+pub pairs-few : (kind : Kind) (low high : ℕ) (pairs : List ℕ) → high ≤ mostFeatures → Run low pairs high → length (listBytes kind pairs) ≤ mostGroups + mostGroups * mostFeatures
+pairs-few kind low high pairs few r = omega (arith, features-few kind pairs, run-length low high pairs r)
+
+pub weights-few : (kind : Kind) (low high : ℕ) (weights : List ℕ) → high ≤ mostFeatures → Run low weights high → length (weightBytesAs kind weights) ≤ 1 + (mostGroups + mostGroups * mostFeatures)
+unfolding weightBytesAs
+weights-few kind low high weights few r = omega (arith, length-append (markBytes kind) (listBytes kind weights), mark-few kind, pairs-few kind low high weights few r)
 
 -- Sizes with their count, three lists of as many numbers, pairs and operators.
 abbrev pub longestFile : ℕ
 longestFile = mostGroups + 4 * mostGroups * mostVariables + (mostGroups + mostGroups * mostFeatures) + longestOperators
 
-pub task-few : (T : Task) → Writable T → length (taskBytes T) ≤ longestFile
-unfolding taskBytes
-task-few T h =
+pub task-few : (kind : Kind) (T : Task) → Writable T → length (taskBytesAs kind T) ≤ longestFile
+unfolding taskBytesAs
+task-few kind T h =
     let ok = h .acceptable in
     let operators = counted operatorBytes (T .operators) in
-    let pairs = weightBytes (T .pairs) ++ operators in
+    let pairs = listBytes kind (T .pairs) ++ operators in
     let goal = bytesOf numberBytes (T .goal) ++ pairs in
     omega (
       arith,
+      length-append (markBytes kind) (counted numberBytes (T .sizes) ++ (bytesOf numberBytes (T .start) ++ goal)),
       length-append (counted numberBytes (T .sizes)) (bytesOf numberBytes (T .start) ++ goal),
       length-append (bytesOf numberBytes (T .start)) goal,
       length-append (bytesOf numberBytes (T .goal)) pairs,
-      length-append (weightBytes (T .pairs)) operators,
+      length-append (listBytes kind (T .pairs)) operators,
+      mark-few kind,
       list-few (T .sizes),
       numbers-few (T .start),
       numbers-few (T .goal),
       ok .start .full,
       ok .goal .full,
       ok .limits .variables,
-      pairs-few (atoms (T .sizes)) (features (T .sizes)) (T .pairs) (ok .limits .total) (ok .pairs),
+      pairs-few kind (atoms (T .sizes)) (features (T .sizes)) (T .pairs) (ok .limits .total) (ok .pairs),
       operators-few (T .sizes) (T .operators) (ok .limits .variables .1) (ok .operators) (h .countable),
     )
 
@@ -79,7 +84,7 @@ named-few (d ∷ ds) [] = omega arith
 named-few (d ∷ ds) (g ∷ gs) = elim (test (ltb g d)) [ on e ↦ rw e (omega (arith, named-few ds gs)) | off e ↦ rw e (omega (arith, named-few ds gs)) ]
 
 pub partial-few : (P : Partial) → Ordered P → length (P .operators) < numberEnd → length (partialBytes P) ≤ longestFile
-unfolding partialBytes
+unfolding partialBytes listBytes
 partial-few P ok count =
     let marks = marksIn (P .sizes) (P .goal) in
     let values = namedIn (P .sizes) (P .goal) in
@@ -102,6 +107,6 @@ partial-few P ok count =
       named-few (P .sizes) (P .goal),
       ok .start .full,
       ok .variables,
-      pairs-few (atoms (P .sizes)) (features (P .sizes)) (P .pairs) (omega (arith, features-built (P .sizes), ok .total)) (ok .pairs),
+      pairs-few plain (atoms (P .sizes)) (features (P .sizes)) (P .pairs) (omega (arith, features-built (P .sizes), ok .total)) (ok .pairs),
       operators-few (P .sizes) (P .operators) (ok .variables .1) (ok .operators) count,
     )

@@ -1,6 +1,6 @@
 -- The weight file of a set of features in words: 3 where a feature is out of range, and otherwise 8 or the file; 4 is never given.
 use Prim.Native.Nat.{ℕ, suc, _+_, _*_, _≤_}
-use mathlib.Core.Path.{_≡_, refl, sym, _∙_}
+use mathlib.Core.Path.{_≡_, refl, sym, ap, _∙_}
 use mathlib.Core.Logic.{_⊎_, inl, inr}
 use mathlib.Core.Bool.{false}
 use mathlib.Core.List.{List, [], _∷_}
@@ -12,9 +12,10 @@ use Rattle.meaning.specs.Limits.{mostFeatures, wordBits}
 use Rattle.meaning.specs.Number.{Range}
 use Rattle.meaning.specs.Task.{Run}
 use Rattle.meaning.specs.Workspace.{wordsFor, has}
-use Rattle.meaning.specs.File.{weightBytes}
+use Rattle.meaning.specs.File.{plain, weightBytes, weightBytesAs}
 use Rattle.meaning.specs.Answer.{fine, faulty, refuses, delivered}
 use Rattle.theory.specs.Truth.{on, off, test}
+use Rattle.theory.specs.ReadBack.{plain-weights}
 use Rattle.theory.specs.Run.{run-first, run-rest, run-length, run-outside, run-members}
 use Rattle.words.specs.Part.{has-past, has-drop}
 use Rattle.words.specs.Next.{Empty}
@@ -80,3 +81,7 @@ module _ (words : List ℕ) where
   -- Nothing stands in the words behind the most.
   pub in-range-behind : InRange words → Empty (drop mostWords words)
   in-range-behind h f = has-drop mostWords words f ∙ h (mostWords * wordBits + f) (omega arith)
+
+  -- Few words have no feature out of range, so the room decides.
+  pub set-delivered : FewWords words → (room : List ℕ) → delivered (weightBytesAs plain (membersIn words)) room ≡ weightsWritten (membersIn words) room
+  set-delivered few room = ap (λ file. delivered file room) (plain-weights (membersIn words)) ∙ sym (weights-delivered (membersIn words) room (in-range-fine (few-in-range few)))

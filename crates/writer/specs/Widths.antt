@@ -8,11 +8,12 @@ use native.Mathlib.Numerals.{add-one}
 use lib.ListN.{length, getD, drop, length-append, drop-of-length-le}
 use lib.Seq.{drop-cons}
 use Rattle.meaning.specs.Limits.{mostGroups, numberEnd}
-use Rattle.meaning.specs.Number.{numberBytes}
+use Rattle.meaning.specs.Number.{groupBytes, numberBytes}
 use Rattle.meaning.specs.Task.{Entry}
-use Rattle.meaning.specs.File.{bytesOf, counted, entryBytes, operatorBytes}
+use Rattle.meaning.specs.File.{Kind, plain, gapped, bytesOf, counted, entryBytes, operatorBytes, weightBytes, numbersFor, listBytes, markBytes}
 use Rattle.meaning.specs.Answer.{operatorIn}
 use Rattle.theory.specs.Flat.{getD-table}
+use Rattle.theory.specs.ReadBack.{numbers-length}
 use Rattle.theory.specs.NumberBack.{number-bytes-length}
 use Rattle.theory.specs.Slices.{entryIn, entriesIn, length-held}
 use Rattle.writer.specs.Parts.{Triples}
@@ -48,6 +49,23 @@ numbers-few l = bytes-few numberBytes mostGroups l (λ n _. number-bytes-length 
 
 pub list-few : (l : List ℕ) → length (counted numberBytes l) ≤ mostGroups + mostGroups * length l
 list-few l = omega (arith, counted-length numberBytes l, number-bytes-length (length l) .1, numbers-few l)
+
+-- The mark of a kind, and a list of features in a file of a kind.
+pub mark-few : (kind : Kind) → length (markBytes kind) ≤ 1
+unfolding numberBytes groupBytes
+mark-few plain = omega arith
+mark-few gapped = omega arith
+
+module _ (kind : Kind) (fs : List ℕ) where
+  pub features-split : listBytes kind fs ≡ numberBytes (length fs) ++ bytesOf numberBytes (numbersFor kind 0 fs)
+  unfolding listBytes weightBytes counted
+  features-split = ap (λ n. numberBytes n ++ bytesOf numberBytes (numbersFor kind 0 fs)) (numbers-length kind 0 fs)
+
+  pub features-length : length (listBytes kind fs) ≡ length (numberBytes (length fs)) + length (bytesOf numberBytes (numbersFor kind 0 fs))
+  features-length = part-length (numberBytes (length fs)) (bytesOf numberBytes (numbersFor kind 0 fs)) features-split
+
+  pub features-few : length (listBytes kind fs) ≤ mostGroups + mostGroups * length fs
+  features-few = omega (arith, features-length, number-bytes-length (length fs) .1, numbers-few (numbersFor kind 0 fs), numbers-length kind 0 fs)
 
 -- As many bytes as four lists of numbers have at most, each as long as a number can count.
 abbrev pub fourLists : ℕ

@@ -6,14 +6,16 @@ ghost use Prim.Native.Nat.{_+_, _<_, _≤_};
 ghost use lib.ListN.{length, take, drop};
 ghost use Rattle.meaning.specs.Limits.{numberEnd};
 ghost use Rattle.meaning.specs.Number.{refusal as refusalNumber, numberBytes};
-ghost use Rattle.meaning.specs.File.{bytesOf, counted, entryBytes, operatorBytes};
-ghost use Rattle.meaning.specs.Answer.{refused};
+ghost use Rattle.meaning.specs.File.{kindIf, bytesOf, counted, entryBytes, operatorBytes, numbersFor, listBytes, markBytes, weightBytesAs};
+ghost use Rattle.meaning.specs.Answer.{refused, delivered};
+ghost use Rattle.theory.specs.ReadBack.{saidAs};
 ghost use Rattle.theory.specs.Slices.{entryOf, entriesIn};
 ghost use Rattle.number.specs.Answers.{reasonOf};
 ghost use Rattle.words.specs.Members.{membersIn};
 ghost use Rattle.writer.specs.Answer.{writtenOf, outcomeOf};
 ghost use Rattle.writer.specs.Parts.{Numbers, Countable, Triples, FewWords};
 ghost use Rattle.writer.specs.Front.{Front, frontBytes};
+ghost use Rattle.writer.specs.TaskFile.{fileBytes};
 ghost use Rattle.writer.specs.Weights.{judgedOf, weightsJudged, weightsWritten};
 use limits::MOST_FEATURES;
 use limits::MOST_WORDS;
@@ -155,79 +157,148 @@ pub fn write_operator(
     next
 }
 
-// How many bytes the members of a set have, without their count.
-fn members_width(words: &[u64]) -> usize
+// The number that stands for a feature that is `least` or more, in a file of a kind.
+fn number_for(gapped: bool, feature: usize, least: usize) -> usize
+    requires { ⌜ least ≤ feature ⌝ }
+    ensures { λ r. ⌜ r ≡ saidAs (kindIf gapped) least feature ⌝ }
+{
+    if gapped {
+        return feature - least;
+    }
+    feature
+}
+
+// How many bytes the members of a set have in a file of a kind, without their count.
+fn members_width(gapped: bool, words: &[u64]) -> usize
     requires { ⌜ FewWords (now words) ⌝ }
-    ensures { λ r. ⌜ r ≡ length (bytesOf numberBytes (membersIn (now (words .entry)))) ⌝ }
+    ensures { λ r. ⌜ r ≡ length (bytesOf numberBytes (numbersFor (kindIf gapped) 0 (membersIn (now (words .entry))))) ⌝ }
 {
     let mut sum = 0;
+    let mut least = 0;
     let mut f = words::next_member(words, 0);
     while f < words.len() * WORD_BITS {
-        sum += number::width(f);
-        f = words::next_member(words, f + 1);
+        sum += number::width(number_for(gapped, f, least));
+        least = f + 1;
+        f = words::next_member(words, least);
     }
     sum
 }
 
 // Writes the members of a set from a place on, increasing, without their count, and answers the place after them.
-fn write_members(room: &mut [u8], at: usize, words: &[u64]) -> usize
-    requires { ⌜ FewWords (now words) × (at + length (bytesOf numberBytes (membersIn (now words))) ≤ length (now room)) ⌝ }
-    ensures after { λ r. ⌜ r ≡ at + length (bytesOf numberBytes (membersIn (now (words .entry)))) ⌝ }
-    ensures written { λ r. ⌜ now (room .exit) ≡ take at (now (room .entry)) ++ (bytesOf numberBytes (membersIn (now (words .entry))) ++ drop r (now (room .entry))) ⌝ }
+fn write_members(room: &mut [u8], at: usize, gapped: bool, words: &[u64]) -> usize
+    requires { ⌜ FewWords (now words) × (at + length (bytesOf numberBytes (numbersFor (kindIf gapped) 0 (membersIn (now words)))) ≤ length (now room)) ⌝ }
+    ensures after { λ r. ⌜ r ≡ at + length (bytesOf numberBytes (numbersFor (kindIf gapped) 0 (membersIn (now (words .entry))))) ⌝ }
+    ensures written { λ r. ⌜ now (room .exit)
+        ≡ take at (now (room .entry)) ++ (bytesOf numberBytes (numbersFor (kindIf gapped) 0 (membersIn (now (words .entry)))) ++ drop r (now (room .entry))) ⌝ }
 {
     let mut next = at;
+    let mut least = 0;
     let mut f = words::next_member(words, 0);
     while f < words.len() * WORD_BITS {
-        next = number::write_number(room, next, f);
-        f = words::next_member(words, f + 1);
+        next = number::write_number(room, next, number_for(gapped, f, least));
+        least = f + 1;
+        f = words::next_member(words, least);
     }
     next
 }
 
-// How many bytes a set of features has: its count and its members.
-pub fn set_width(words: &[u64]) -> usize
+// How many bytes a set of features has in a file of a kind: its count and its members.
+pub fn set_width(gapped: bool, words: &[u64]) -> usize
     requires { ⌜ FewWords (now words) ⌝ }
-    ensures { λ r. ⌜ r ≡ length (counted numberBytes (membersIn (now (words .entry)))) ⌝ }
+    ensures { λ r. ⌜ r ≡ length (listBytes (kindIf gapped) (membersIn (now (words .entry)))) ⌝ }
 {
-    number::width(words::count(words)) + members_width(words)
+    number::width(words::count(words)) + members_width(gapped, words)
 }
 
 // Writes a set of features from a place on, its count and its members, and answers the place after it.
-pub fn write_set(room: &mut [u8], at: usize, words: &[u64]) -> usize
-    requires { ⌜ FewWords (now words) × (at + length (counted numberBytes (membersIn (now words))) ≤ length (now room)) ⌝ }
-    ensures after { λ r. ⌜ r ≡ at + length (counted numberBytes (membersIn (now (words .entry)))) ⌝ }
-    ensures written { λ r. ⌜ now (room .exit) ≡ take at (now (room .entry)) ++ (counted numberBytes (membersIn (now (words .entry))) ++ drop r (now (room .entry))) ⌝ }
+pub fn write_set(room: &mut [u8], at: usize, gapped: bool, words: &[u64]) -> usize
+    requires { ⌜ FewWords (now words) × (at + length (listBytes (kindIf gapped) (membersIn (now words))) ≤ length (now room)) ⌝ }
+    ensures after { λ r. ⌜ r ≡ at + length (listBytes (kindIf gapped) (membersIn (now (words .entry)))) ⌝ }
+    ensures written { λ r. ⌜ now (room .exit) ≡ take at (now (room .entry)) ++ (listBytes (kindIf gapped) (membersIn (now (words .entry))) ++ drop r (now (room .entry))) ⌝ }
 {
     let next = number::write_number(room, at, words::count(words));
-    write_members(room, next, words)
+    write_members(room, next, gapped, words)
 }
 
-// How many bytes stand before the operators of a task: the sizes with their count, start, goal, and the set of its pairs.
-pub fn front_width(sizes: &[u64], start: &[u64], goal: &[u64], pairs: &[u64]) -> usize
-    requires { ⌜ Front (now sizes) (now start) (now goal) (now pairs) ⌝ }
-    ensures { λ r. ⌜ r ≡ length (frontBytes (now (sizes .entry)) (now (start .entry)) (now (goal .entry)) (membersIn (now (pairs .entry)))) ⌝ }
+// How many bytes the mark of a kind has.
+fn mark_width(gapped: bool) -> usize
+    ensures { λ r. ⌜ r ≡ length (markBytes (kindIf gapped)) ⌝ }
 {
-    list_width(sizes) + numbers_width(start) + numbers_width(goal) + set_width(pairs)
+    if gapped {
+        return number::width(0);
+    }
+    0
 }
 
-// Writes what stands before the operators of a task, and answers the place after it.
+// Writes the mark of a kind at the front, and answers the place after it.
+fn write_mark(room: &mut [u8], gapped: bool) -> usize
+    requires { ⌜ length (markBytes (kindIf gapped)) ≤ length (now room) ⌝ }
+    ensures after { λ r. ⌜ r ≡ 0 + length (markBytes (kindIf gapped)) ⌝ }
+    ensures written { λ r. ⌜ now (room .exit) ≡ take 0 (now (room .entry)) ++ (markBytes (kindIf gapped) ++ drop r (now (room .entry))) ⌝ }
+{
+    if gapped {
+        return number::write_number(room, 0, 0);
+    }
+    0
+}
+
+// How many bytes stand before the operators of a task file: the mark of its kind, the sizes with their count, start, goal, and the set of its pairs.
+pub fn front_width(gapped: bool, sizes: &[u64], start: &[u64], goal: &[u64], pairs: &[u64]) -> usize
+    requires { ⌜ Front (now sizes) (now start) (now goal) (now pairs) ⌝ }
+    ensures { λ r. ⌜ r ≡ length (frontBytes (kindIf gapped) (now (sizes .entry)) (now (start .entry)) (now (goal .entry)) (membersIn (now (pairs .entry)))) ⌝ }
+{
+    mark_width(gapped)
+        + list_width(sizes)
+        + numbers_width(start)
+        + numbers_width(goal)
+        + set_width(gapped, pairs)
+}
+
+// Writes what stands before the operators of a task file, and answers the place after it.
 pub fn write_front(
     room: &mut [u8],
+    gapped: bool,
     sizes: &[u64],
     start: &[u64],
     goal: &[u64],
     pairs: &[u64],
 ) -> usize
     requires { ⌜ Front (now sizes) (now start) (now goal) (now pairs)
-        × (length (frontBytes (now sizes) (now start) (now goal) (membersIn (now pairs))) ≤ length (now room)) ⌝ }
-    ensures after { λ r. ⌜ r ≡ length (frontBytes (now (sizes .entry)) (now (start .entry)) (now (goal .entry)) (membersIn (now (pairs .entry)))) ⌝ }
+        × (length (frontBytes (kindIf gapped) (now sizes) (now start) (now goal) (membersIn (now pairs))) ≤ length (now room)) ⌝ }
+    ensures after { λ r. ⌜ r ≡ length (frontBytes (kindIf gapped) (now (sizes .entry)) (now (start .entry)) (now (goal .entry)) (membersIn (now (pairs .entry)))) ⌝ }
     ensures written { λ r. ⌜ now (room .exit)
-        ≡ frontBytes (now (sizes .entry)) (now (start .entry)) (now (goal .entry)) (membersIn (now (pairs .entry))) ++ drop r (now (room .entry)) ⌝ }
+        ≡ frontBytes (kindIf gapped) (now (sizes .entry)) (now (start .entry)) (now (goal .entry)) (membersIn (now (pairs .entry))) ++ drop r (now (room .entry)) ⌝ }
 {
-    let second = write_list(room, 0, sizes);
+    let first = write_mark(room, gapped);
+    let second = write_list(room, first, sizes);
     let third = write_numbers(room, second, start);
     let fourth = write_numbers(room, third, goal);
-    write_set(room, fourth, pairs)
+    write_set(room, fourth, gapped, pairs)
+}
+
+// Writes a task file from its parts, if the room is long enough for all of it: so many operators as they stand in another file.
+pub fn write_task(
+    own: &[u8],
+    count: usize,
+    gapped: bool,
+    sizes: &[u64],
+    start: &[u64],
+    goal: &[u64],
+    pairs: &[u64],
+    room: &mut [u8],
+) -> Written
+    requires { ⌜ Front (now sizes) (now start) (now goal) (now pairs) × (count < numberEnd) ⌝ }
+    ensures { λ r. ⌜ outcomeOf r (now (room .exit))
+        ≡ delivered (fileBytes (kindIf gapped) count (now (own .entry)) (now (sizes .entry)) (now (start .entry)) (now (goal .entry)) (now (pairs .entry))) (now (room .entry)) ⌝ }
+{
+    let front = front_width(gapped, sizes, start, goal, pairs);
+    let operators = number::width(count) + own.len();
+    if room.len() < front + operators {
+        return refuse(Reason::Small);
+    }
+    let second = write_front(room, gapped, sizes, start, goal, pairs);
+    let third = number::write_number(room, second, count);
+    Written::Done(write_bytes(room, third, own))
 }
 
 // Judges a list of features in list order: each feature's range, then its order.
@@ -265,15 +336,16 @@ pub fn write_weights(weights: &[u64], room: &mut [u8]) -> Written
     }
 }
 
-// Writes the weight file of a set whose words are few enough that each feature is in range, if it has room.
-fn deliver_set(words: &[u64], room: &mut [u8]) -> Written
+// Writes the weight file of a kind of a set whose words are few enough that each feature is in range, if it has room.
+pub fn deliver_set(words: &[u64], gapped: bool, room: &mut [u8]) -> Written
     requires { ⌜ FewWords (now words) ⌝ }
-    ensures { λ r. ⌜ outcomeOf r (now (room .exit)) ≡ weightsWritten (membersIn (now (words .entry))) (now (room .entry)) ⌝ }
+    ensures { λ r. ⌜ outcomeOf r (now (room .exit)) ≡ delivered (weightBytesAs (kindIf gapped) (membersIn (now (words .entry)))) (now (room .entry)) ⌝ }
 {
-    if room.len() < set_width(words) {
+    if room.len() < mark_width(gapped) + set_width(gapped, words) {
         return refuse(Reason::Small);
     }
-    Written::Done(write_set(room, 0, words))
+    let next = write_mark(room, gapped);
+    Written::Done(write_set(room, next, gapped, words))
 }
 
 // Writes the weight file of a set of features in words, as the finder leaves them. Any words are taken.
@@ -281,10 +353,10 @@ pub fn weight_file(words: &[u64], room: &mut [u8]) -> Written
     ensures { λ r. ⌜ outcomeOf r (now (room .exit)) ≡ weightsWritten (membersIn (now (words .entry))) (now (room .entry)) ⌝ }
 {
     if words.len() <= MOST_WORDS {
-        return deliver_set(words, room);
+        return deliver_set(words, false, room);
     }
     if !words::is_empty(&words[MOST_WORDS..]) {
         return refuse(Reason::Range);
     }
-    deliver_set(&words[..MOST_WORDS], room)
+    deliver_set(&words[..MOST_WORDS], false, room)
 }

@@ -2,9 +2,10 @@
 
 use crate::lent::{Item, Lent};
 use crate::library;
-use crate::tally::{answer, shown, Comparison, Outcome, Tally};
+use crate::tally::{answer, shown, Comparison, Outcome, Tally, OF_NEW_KIND};
 use reference::bay::read_bay;
 use reference::calls;
+use reference::kinds::{kind_of, Kind};
 use reference::limits::BEFORE;
 use reference::places::{read_bay_file, read_both, read_both_partial, Fault, File, Part};
 use reference::workspace::Record;
@@ -22,14 +23,31 @@ pub struct Both<'a> {
 type Inputs<'a> = &'a dyn Fn() -> Vec<(&'static str, String)>;
 
 /// Runs a library call on guarded memory; also tells whether the guards stand.
-fn guarded<Kind: Item>(
-    memory: &[Kind],
-    call: impl FnOnce(&mut Lent<Kind>) -> u64,
-) -> (Outcome<Kind>, bool) {
+fn guarded<Kept: Item>(
+    memory: &[Kept],
+    call: impl FnOnce(&mut Lent<Kept>) -> u64,
+) -> (Outcome<Kept>, bool) {
     let mut lent = Lent::new(memory);
     let number = call(&mut lent);
     let memory = lent.contents().to_vec();
     (Outcome { number, memory }, lent.guards_stand())
+}
+
+/// An outcome's answer.
+fn plainly<Kept>(outcome: &Outcome<Kept>) -> String {
+    answer(outcome.number)
+}
+
+/// The same words, with the task's kind behind them where it is the new one.
+fn by_kind<Kept>(
+    task: &[u8],
+    words: impl Fn(&Outcome<Kept>) -> String,
+) -> impl Fn(&Outcome<Kept>) -> String {
+    let behind = match kind_of(task) {
+        Kind::Old => "",
+        Kind::New => OF_NEW_KIND,
+    };
+    move |outcome| words(outcome) + behind
 }
 
 /// The line's first word, with the next where it is refused or rejected; a place isn't told, but
@@ -99,17 +117,17 @@ fn fault_answer(outcome: &Outcome<u64>) -> String {
 }
 
 impl Both<'_> {
-    fn judge<Kind: Item>(
+    fn judge<Kept: Item>(
         &mut self,
         kind: &'static str,
         inputs: Inputs,
-        expected: &Outcome<Kind>,
-        found: &Outcome<Kind>,
+        expected: &Outcome<Kept>,
+        found: &Outcome<Kept>,
         outside_kept: bool,
     ) {
         let comparison = Comparison {
             kind,
-            answer: answer(expected.number),
+            answer: plainly(expected),
             source: &self.source,
             inputs,
             outside_kept,
@@ -121,17 +139,22 @@ impl Both<'_> {
     fn judged(
         &mut self,
         kind: &'static str,
-        names: [&'static str; 2],
-        [one, other]: [&[u8]; 2],
+        [(name, one), (other_name, other)]: [(&'static str, &[u8]); 2],
         reference: fn(&[u8], &[u8]) -> u64,
         library: fn(&Lent<u8>, &Lent<u8>) -> u64,
+        words: impl Fn(&Outcome<u8>) -> String,
     ) -> u64 {
         let expected = Outcome::<u8>::of(&[], |_| reference(one, other));
         let lent = (Lent::new(one), Lent::new(other));
         let found = Outcome::of(&[], |_| library(&lent.0, &lent.1));
-        let kept = lent.0.still_holds(one) && lent.1.still_holds(other);
-        let inputs = || vec![(names[0], shown(one)), (names[1], shown(other))];
-        self.judge(kind, &inputs, &expected, &found, kept);
+        let comparison = Comparison {
+            kind,
+            answer: words(&expected),
+            source: &self.source,
+            inputs: &|| vec![(name, shown(one)), (other_name, shown(other))],
+            outside_kept: lent.0.still_holds(one) && lent.1.still_holds(other),
+        };
+        self.tally.judge(&comparison, &expected, &found);
         expected.number
     }
 
@@ -144,8 +167,7 @@ impl Both<'_> {
         reference: fn(&[From], &mut [Into]) -> u64,
         library: fn(&Lent<From>, &mut Lent<Into>) -> u64,
     ) -> Outcome<Into> {
-        let words = |outcome: &Outcome<Into>| answer(outcome.number);
-        self.filled_in_words(kind, (name, input), room, reference, library, words)
+        self.filled_in_words(kind, (name, input), room, reference, library, plainly)
     }
 
     /// The same, with answers in words of their own.
@@ -204,18 +226,23 @@ impl Both<'_> {
     }
 
     pub fn check(&mut self, task: &[u8], weights: &[u8]) -> u64 {
-        let names = ["task", "weights"];
-        self.judged(
-            "check",
-            names,
-            [task, weights],
-            calls::check,
-            library::check,
-        )
+        let (reference, library) = (calls::check, library::check);
+        let words = by_kind(task, plainly);
+        let files = [("task", task), ("weights", weights)];
+        self.judged("check", files, reference, library, words)
+    }
+
+    pub fn check_new(&mut self, task: &[u8], weights: &[u8]) -> u64 {
+        let (reference, library) = (calls::check_new, library::check_new);
+        let words = by_kind(task, plainly);
+        let files = [("task", task), ("weights", weights)];
+        self.judged("check_new", files, reference, library, words)
     }
 
     pub fn open(&mut self, task: &[u8], room: &[u64]) -> Outcome<u64> {
-        self.filled("open", ("task", task), room, calls::open, library::open)
+        let (reference, library) = (calls::open, library::open);
+        let words = by_kind(task, plainly);
+        self.filled_in_words("open", ("task", task), room, reference, library, words)
     }
 
     pub fn find(&mut self, workspace: &[u64], room: &[u64]) -> Outcome<u64> {
@@ -281,8 +308,8 @@ impl Both<'_> {
 
     pub fn line(&mut self, input: &[u8], room: &[u8]) -> Outcome<u8> {
         let (reference, library) = (calls::line, library::line);
-        let input = ("input", input);
-        self.filled_in_words("line", input, room, reference, library, line_answer)
+        let words = by_kind(input, line_answer);
+        self.filled_in_words("line", ("input", input), room, reference, library, words)
     }
 
     pub fn weight_file(&mut self, words: &[u64], room: &[u8]) -> Outcome<u8> {
@@ -293,7 +320,8 @@ impl Both<'_> {
     pub fn check_line(&mut self, task: &[u8], weights: &[u8], room: &[u8]) -> Outcome<u8> {
         let (reference, library) = (calls::check_line, library::check_line);
         let files = [("task", task), ("weights", weights)];
-        self.written_in_words("check_line", files, room, reference, library, line_answer)
+        let words = by_kind(task, line_answer);
+        self.written_in_words("check_line", files, room, reference, library, words)
     }
 
     pub fn open_partial(&mut self, partial: &[u8], room: &[u64]) -> Outcome<u64> {
@@ -308,15 +336,15 @@ impl Both<'_> {
     }
 
     pub fn check_partial(&mut self, partial: &[u8], weights: &[u8]) -> u64 {
-        let names = ["partial", "weights"];
         let (reference, library) = (calls::check_partial, library::check_partial);
-        self.judged(
-            "check_partial",
-            names,
-            [partial, weights],
-            reference,
-            library,
-        )
+        let files = [("partial", partial), ("weights", weights)];
+        self.judged("check_partial", files, reference, library, plainly)
+    }
+
+    pub fn check_partial_new(&mut self, partial: &[u8], weights: &[u8]) -> u64 {
+        let (reference, library) = (calls::check_partial_new, library::check_partial_new);
+        let files = [("partial", partial), ("weights", weights)];
+        self.judged("check_partial_new", files, reference, library, plainly)
     }
 
     pub fn build_partial(&mut self, partial: &[u8], room: &[u8]) -> Outcome<u8> {
@@ -344,34 +372,66 @@ impl Both<'_> {
     pub fn silence(&mut self, task: &[u8], marks: &[u8], room: &[u8]) -> Outcome<u8> {
         let (reference, library) = (calls::silence, library::silence);
         let files = [("task", task), ("marks", marks)];
-        let words = |outcome: &Outcome<u8>| answer(outcome.number);
+        let words = by_kind(task, plainly);
         self.written_in_words("silence", files, room, reference, library, words)
     }
 
     pub fn mend(&mut self, task: &[u8], room: &[u8]) -> Outcome<u8> {
         let (reference, library) = (calls::mend, library::mend);
-        let words = where_due(task.len(), "unchanged");
+        let words = by_kind(task, where_due(task.len(), "unchanged"));
         self.filled_in_words("mend", ("task", task), room, reference, library, words)
     }
 
     pub fn dropped(&mut self, task: &[u8], room: &[u8]) -> Outcome<u8> {
         let (reference, library) = (calls::dropped, library::dropped);
         // A count of 0 is one byte; with any pair there are two or more.
-        let words = where_due(1, "nothing");
+        let words = by_kind(task, where_due(1, "nothing"));
         self.filled_in_words("dropped", ("task", task), room, reference, library, words)
     }
 
     pub fn pair_fault(&mut self, task: &[u8], room: &[u64]) -> Outcome<u64> {
         let (reference, library) = (calls::pair_fault, library::pair_fault);
+        let words = by_kind(task, fault_answer);
         let task = ("task", task);
-        self.filled_in_words("pair_fault", task, room, reference, library, fault_answer)
+        self.filled_in_words("pair_fault", task, room, reference, library, words)
+    }
+
+    pub fn convert_to_new(&mut self, task: &[u8], room: &[u8]) -> Outcome<u8> {
+        let (reference, library) = (calls::to_new, library::to_new);
+        self.filled("to_new", ("task", task), room, reference, library)
+    }
+
+    pub fn convert_to_old(&mut self, task: &[u8], room: &[u8]) -> Outcome<u8> {
+        let (reference, library) = (calls::to_old, library::to_old);
+        self.filled("to_old", ("task", task), room, reference, library)
+    }
+
+    pub fn weights_to_new(&mut self, task: &[u8], weights: &[u8], room: &[u8]) -> Outcome<u8> {
+        let (reference, library) = (calls::weights_to_new, library::weights_to_new);
+        let files = [("task", task), ("weights", weights)];
+        let words = by_kind(task, plainly);
+        self.written_in_words("weights_to_new", files, room, reference, library, words)
+    }
+
+    pub fn weights_to_old(&mut self, task: &[u8], weights: &[u8], room: &[u8]) -> Outcome<u8> {
+        let (reference, library) = (calls::weights_to_old, library::weights_to_old);
+        let files = [("task", task), ("weights", weights)];
+        let words = by_kind(task, plainly);
+        self.written_in_words("weights_to_old", files, room, reference, library, words)
     }
 
     pub fn display(&mut self, task: &[u8], weights: &[u8], room: &[u64]) -> Outcome<u64> {
         let (reference, library) = (calls::display, library::display);
         let files = [("task", task), ("weights", weights)];
-        let words = shown_answer(read_both(task, weights));
+        let words = by_kind(task, shown_answer(read_both(Kind::Old, task, weights)));
         self.written_in_words("display", files, room, reference, library, words)
+    }
+
+    pub fn display_new(&mut self, task: &[u8], weights: &[u8], room: &[u64]) -> Outcome<u64> {
+        let (reference, library) = (calls::display_new, library::display_new);
+        let files = [("task", task), ("weights", weights)];
+        let words = by_kind(task, shown_answer(read_both(Kind::New, task, weights)));
+        self.written_in_words("display_new", files, room, reference, library, words)
     }
 
     pub fn display_partial(
@@ -382,7 +442,7 @@ impl Both<'_> {
     ) -> Outcome<u64> {
         let (reference, library) = (calls::display_partial, library::display_partial);
         let files = [("partial", partial), ("weights", weights)];
-        let words = shown_answer(read_both_partial(partial, weights));
+        let words = shown_answer(read_both_partial(Kind::Old, partial, weights));
         self.written_in_words("display_partial", files, room, reference, library, words)
     }
 

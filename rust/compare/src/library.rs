@@ -139,6 +139,54 @@ extern "C" {
         room: *mut u64,
         room_length: usize,
     ) -> u64;
+    fn florumeja_to_new(
+        task: *const u8,
+        task_length: usize,
+        room: *mut u8,
+        room_length: usize,
+    ) -> u64;
+    fn florumeja_to_old(
+        task: *const u8,
+        task_length: usize,
+        room: *mut u8,
+        room_length: usize,
+    ) -> u64;
+    fn florumeja_weights_to_new(
+        task: *const u8,
+        task_length: usize,
+        weights: *const u8,
+        weights_length: usize,
+        room: *mut u8,
+        room_length: usize,
+    ) -> u64;
+    fn florumeja_weights_to_old(
+        task: *const u8,
+        task_length: usize,
+        weights: *const u8,
+        weights_length: usize,
+        room: *mut u8,
+        room_length: usize,
+    ) -> u64;
+    fn florumeja_check_new(
+        task: *const u8,
+        task_length: usize,
+        weights: *const u8,
+        weights_length: usize,
+    ) -> u64;
+    fn florumeja_check_partial_new(
+        partial: *const u8,
+        partial_length: usize,
+        weights: *const u8,
+        weights_length: usize,
+    ) -> u64;
+    fn florumeja_display_new(
+        task: *const u8,
+        task_length: usize,
+        weights: *const u8,
+        weights_length: usize,
+        room: *mut u64,
+        room_length: usize,
+    ) -> u64;
 }
 
 /// A call that reads two slices of bytes.
@@ -308,4 +356,32 @@ pub fn display_partial(partial: &Lent<u8>, weights: &Lent<u8>, room: &mut Lent<u
 
 pub fn display_bay(bay: &Lent<u8>, room: &mut Lent<u64>) -> u64 {
     filled(florumeja_display_bay, bay, room)
+}
+
+pub fn to_new(task: &Lent<u8>, room: &mut Lent<u8>) -> u64 {
+    filled(florumeja_to_new, task, room)
+}
+
+pub fn to_old(task: &Lent<u8>, room: &mut Lent<u8>) -> u64 {
+    filled(florumeja_to_old, task, room)
+}
+
+pub fn weights_to_new(task: &Lent<u8>, weights: &Lent<u8>, room: &mut Lent<u8>) -> u64 {
+    written(florumeja_weights_to_new, task, weights, room)
+}
+
+pub fn weights_to_old(task: &Lent<u8>, weights: &Lent<u8>, room: &mut Lent<u8>) -> u64 {
+    written(florumeja_weights_to_old, task, weights, room)
+}
+
+pub fn check_new(task: &Lent<u8>, weights: &Lent<u8>) -> u64 {
+    judged(florumeja_check_new, task, weights)
+}
+
+pub fn check_partial_new(partial: &Lent<u8>, weights: &Lent<u8>) -> u64 {
+    judged(florumeja_check_partial_new, partial, weights)
+}
+
+pub fn display_new(task: &Lent<u8>, weights: &Lent<u8>, room: &mut Lent<u64>) -> u64 {
+    written(florumeja_display_new, task, weights, room)
 }

@@ -16,7 +16,7 @@ mod tally;
 use groups::{Group, GROUPS};
 use run::{run_all, run_case, Choice, Plan, FIRST_SEED};
 use std::process::ExitCode;
-use tally::{Tally, DUE, DUE_OF_DEAR};
+use tally::{Tally, DUE, DUE_OF_DEAR, DUE_OF_NEW_KIND, OF_NEW_KIND};
 
 /// What the arguments ask for.
 enum Wish {
@@ -58,6 +58,12 @@ fn wish(arguments: &[String]) -> Option<Wish> {
     }
 }
 
+/// Asks for the answers that are due to files of either kind.
+fn demand_all(tally: &mut Tally) {
+    tally.demand(&DUE, "");
+    tally.demand(&DUE_OF_NEW_KIND, OF_NEW_KIND);
+}
+
 fn main() -> ExitCode {
     let arguments: Vec<String> = std::env::args().skip(1).collect();
     let Some(wish) = wish(&arguments) else {
@@ -71,9 +77,9 @@ fn main() -> ExitCode {
         Wish::All(plan) => {
             println!("seeds from {FIRST_SEED:#018x}");
             run_all(&mut tally, plan);
-            tally.demand(&DUE);
+            demand_all(&mut tally);
             if plan.choice == Choice::All {
-                tally.demand(&DUE_OF_DEAR);
+                tally.demand(&DUE_OF_DEAR, "");
             }
         }
         Wish::One(group, seed) => run_case(&mut tally, group, seed),
@@ -101,7 +107,7 @@ mod tests {
     fn no_difference_without_a_fault() {
         let mut tally = silent();
         run_all(&mut tally, QUICK);
-        tally.demand(&DUE);
+        demand_all(&mut tally);
         assert_eq!(tally.failed(), 0);
         assert!(tally.passed() > 5_000, "{}", tally.passed());
     }
@@ -109,8 +115,9 @@ mod tests {
     #[test]
     fn what_was_never_met_is_a_difference() {
         let mut tally = silent();
-        tally.demand(&DUE);
-        let due: usize = DUE.iter().map(|(_, answers)| answers.len()).sum();
+        demand_all(&mut tally);
+        let due = DUE.iter().chain(&DUE_OF_NEW_KIND);
+        let due: usize = due.map(|(_, answers)| answers.len()).sum();
         assert_eq!(tally.failed(), due);
     }
 

@@ -6,7 +6,7 @@ use std::collections::BTreeMap;
 use std::fmt::Write;
 
 /// The kinds of comparison, in the order of the report.
-pub const KINDS: [&str; 23] = [
+pub const KINDS: [&str; 30] = [
     "check",
     "open",
     "find",
@@ -30,10 +30,20 @@ pub const KINDS: [&str; 23] = [
     "display",
     "display_partial",
     "display_bay",
+    "to_new",
+    "to_old",
+    "weights_to_new",
+    "weights_to_old",
+    "check_new",
+    "check_partial_new",
+    "display_new",
 ];
 
+/// What stands behind an answer to a task file of the new kind.
+pub const OF_NEW_KIND: &str = " of new kind";
+
 /// Answers that a run of many groups has to meet, or it says nothing of them.
-pub const DUE: [(&str, &[&str]); 21] = [
+pub const DUE: [(&str, &[&str]); 32] = [
     ("check", FORMS),
     ("check", &["far operator"]),
     ("open", FORMS),
@@ -134,6 +144,64 @@ pub const DUE: [(&str, &[&str]); 21] = [
             "refused 8",
         ],
     ),
+    ("to_new", &["done", "refused 6", "refused 7"]),
+    ("to_new", AS_READ),
+    ("to_old", &["done", "refused 6", "refused 7"]),
+    ("to_old", AS_READ),
+    ("weights_to_new", &["done", "refused 6", "refused 7"]),
+    ("weights_to_new", AS_READ),
+    ("weights_to_old", &["done", "refused 6", "refused 7"]),
+    ("weights_to_old", AS_READ),
+    ("check_new", VERDICTS),
+    ("check_partial_new", VERDICTS),
+    ("display_new", SHOWN_BY_GAPS),
+];
+
+/// Answers that it has to meet to task files of the new kind.
+pub const DUE_OF_NEW_KIND: [(&str, &[&str]); 17] = [
+    ("check", VERDICTS),
+    ("check_new", VERDICTS),
+    ("open", &["done", "refused 6", "refused 7"]),
+    ("open", AS_READ),
+    (
+        "line",
+        &[
+            "line separated",
+            "line none",
+            "line refused 1 at",
+            "line refused 12 at",
+            "line refused 13 at",
+            "line refused 2 at",
+            "line refused 3 at",
+            "line refused 4 at",
+            "line refused 5",
+            "line refused 6",
+            "line refused 7",
+            "line refused 8",
+        ],
+    ),
+    (
+        "check_line",
+        &[
+            "line accepted",
+            "line refused 3 at in task",
+            "line refused 3 at in weights",
+        ],
+    ),
+    ("silence", &["done", "refused 6", "refused 7"]),
+    ("silence", AS_READ),
+    ("mend", &["done", "unchanged"]),
+    ("mend", AS_READ),
+    ("dropped", &["done", "nothing"]),
+    ("dropped", AS_READ),
+    (
+        "pair_fault",
+        &["good", "held", "unclosed at later operator"],
+    ),
+    ("pair_fault", AS_READ),
+    ("display", SHOWN),
+    ("display_new", SHOWN_BY_GAPS),
+    ("weights_to_new", AS_READ),
 ];
 
 /// Answers that only a group has to meet of which one case takes seconds.
@@ -151,6 +219,43 @@ const AS_READ: &[&str] = &[
     "refused 3",
     "refused 4",
     "refused 5",
+    "refused 8",
+];
+
+/// Every verdict, and what is refused as it is read.
+const VERDICTS: &[&str] = &[
+    "done",
+    "alike or none",
+    "first operator",
+    "later operator",
+    "refused 1",
+    "refused 12",
+    "refused 13",
+    "refused 2",
+    "refused 3",
+    "refused 5",
+    "refused 6",
+    "refused 7",
+];
+
+/// What is shown of a task, and of weights of the new kind beside it, which are never unordered.
+const SHOWN_BY_GAPS: &[&str] = &[
+    "nothing",
+    "1 in task",
+    "1 at end of task",
+    "12 in task",
+    "13 in task",
+    "2 in task",
+    "3 in task",
+    "4 in task",
+    "5 nowhere",
+    "6 nowhere",
+    "7 nowhere",
+    "1 in weights",
+    "1 at end of weights",
+    "12 in weights",
+    "13 in weights",
+    "3 in weights",
     "refused 8",
 ];
 
@@ -308,11 +413,11 @@ impl Tally {
     }
 
     /// Counts each answer that is due and was never met as a difference.
-    pub fn demand(&mut self, due: &[(&'static str, &[&str])]) {
+    pub fn demand(&mut self, due: &[(&'static str, &[&str])], behind: &str) {
         for (kind, answers) in due.iter().copied() {
             let count = self.counts.entry(kind).or_default();
-            for answer in answers {
-                if !count.answers.contains_key(*answer) {
+            for answer in answers.iter().map(|answer| format!("{answer}{behind}")) {
+                if !count.answers.contains_key(&answer) {
                     count.failed += 1;
                     if !self.silent {
                         println!("{kind}: never answered {answer}");

@@ -2,15 +2,18 @@
 
 use crate::bay::read_bay;
 use crate::feature_set::{words_for, FeatureSet};
+use crate::kinds::{kind_of, Kind};
 use crate::limits::NOW;
 use crate::line::{check_line as checker_line, line as finder_line};
 use crate::mending::{dropped as dropped_pairs, first_fault, mended, PairFault};
 use crate::partial::{read_built, silenced, LeftOut};
-use crate::places::{read_bay_file, read_both, read_both_partial, shown, File, Part};
+use crate::places::{
+    read_bay_file, read_both, read_both_partial, read_task_file_of, shown, Fault, File, Part,
+};
 use crate::refusal::Refusal;
 use crate::separation::{judged, judged_partial, Verdict};
 use crate::task::{read_numbers, read_task, Task};
-use crate::weights::weight_file as file_of;
+use crate::weights::{weight_file as file_of, weight_file_of};
 use crate::workspace::{Record, Workspace};
 
 /// One step between the cases of a result.
@@ -63,7 +66,11 @@ pub fn fill<Item: Copy>(room: &mut [Item], due: &[Item]) -> Result<u64, Refusal>
 }
 
 pub fn check(task: &[u8], weights: &[u8]) -> u64 {
-    settle(judged(task, weights).map(told))
+    settle(judged(Kind::Old, task, weights).map(told))
+}
+
+pub fn check_new(task: &[u8], weights: &[u8]) -> u64 {
+    settle(judged(Kind::New, task, weights).map(told))
 }
 
 /// A verdict's number.
@@ -143,7 +150,11 @@ pub fn open_partial(partial: &[u8], room: &mut [u64]) -> u64 {
 }
 
 pub fn check_partial(partial: &[u8], weights: &[u8]) -> u64 {
-    settle(judged_partial(partial, weights).map(told))
+    settle(judged_partial(Kind::Old, partial, weights).map(told))
+}
+
+pub fn check_partial_new(partial: &[u8], weights: &[u8]) -> u64 {
+    settle(judged_partial(Kind::New, partial, weights).map(told))
 }
 
 pub fn build_partial(partial: &[u8], room: &mut [u8]) -> u64 {
@@ -162,11 +173,45 @@ pub fn silence(task: &[u8], marks: &[u8], room: &mut [u8]) -> u64 {
 }
 
 pub fn mend(task: &[u8], room: &mut [u8]) -> u64 {
-    settle(read_numbers(task).and_then(|task| fill(room, &mended(&task).file())))
+    let kind = kind_of(task);
+    settle(read_numbers(task).and_then(|task| fill(room, &mended(&task).file_of(kind))))
 }
 
 pub fn dropped(task: &[u8], room: &mut [u8]) -> u64 {
     settle(read_numbers(task).and_then(|task| fill(room, &file_of(&dropped_pairs(&task)))))
+}
+
+pub fn to_new(task: &[u8], room: &mut [u8]) -> u64 {
+    settle(converted(Kind::Old, task, room))
+}
+
+pub fn to_old(task: &[u8], room: &mut [u8]) -> u64 {
+    settle(converted(Kind::New, task, room))
+}
+
+/// A task file that came in the kind that is due, written in the other one.
+fn converted(due: Kind, task: &[u8], room: &mut [u8]) -> Result<u64, Fault> {
+    let task = read_task_file_of(due, task)?;
+    Ok(fill(room, &task.file_of(due.other()))?)
+}
+
+pub fn weights_to_new(task: &[u8], weights: &[u8], room: &mut [u8]) -> u64 {
+    settle(converted_weights(Kind::Old, task, weights, room))
+}
+
+pub fn weights_to_old(task: &[u8], weights: &[u8], room: &mut [u8]) -> u64 {
+    settle(converted_weights(Kind::New, task, weights, room))
+}
+
+/// The same of weights, beside a task of either kind.
+fn converted_weights(
+    due: Kind,
+    task: &[u8],
+    weights: &[u8],
+    room: &mut [u8],
+) -> Result<u64, Fault> {
+    let (_, weights) = read_both(due, task, weights)?;
+    Ok(fill(room, &weight_file_of(due.other(), &weights))?)
 }
 
 pub fn pair_fault(task: &[u8], room: &mut [u64]) -> u64 {
@@ -193,11 +238,16 @@ fn try_pair_fault(task: &[u8], room: &mut [u64]) -> Result<u64, Refusal> {
 }
 
 pub fn display(task: &[u8], weights: &[u8], room: &mut [u64]) -> u64 {
-    settle(show(&shown(read_both(task, weights)), room))
+    settle(show(&shown(read_both(Kind::Old, task, weights)), room))
+}
+
+pub fn display_new(task: &[u8], weights: &[u8], room: &mut [u64]) -> u64 {
+    settle(show(&shown(read_both(Kind::New, task, weights)), room))
 }
 
 pub fn display_partial(partial: &[u8], weights: &[u8], room: &mut [u64]) -> u64 {
-    settle(show(&shown(read_both_partial(partial, weights)), room))
+    let read = read_both_partial(Kind::Old, partial, weights);
+    settle(show(&shown(read), room))
 }
 
 pub fn display_bay(bay: &[u8], room: &mut [u64]) -> u64 {

@@ -9,6 +9,7 @@ pub mod feature_set;
 pub mod features;
 pub mod finder;
 pub mod forced;
+pub mod kinds;
 pub mod limits;
 pub mod line;
 pub mod mending;

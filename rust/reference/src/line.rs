@@ -2,6 +2,7 @@
 
 use crate::feature_set::FeatureSet;
 use crate::features::count_features;
+use crate::kinds::Kind;
 use crate::limits::{MOST_LINE_BYTES, MOST_LINE_FEATURES};
 use crate::places::{read_task_file, Fault, File};
 use crate::refusal::Refusal;
@@ -50,7 +51,7 @@ pub fn told(found: Option<FeatureSet>) -> String {
 
 /// The checker's line with its line feed; it reads two files, so a place has its file named.
 pub fn check_line(task: &[u8], weights: &[u8]) -> String {
-    match judged(task, weights) {
+    match judged(Kind::Old, task, weights) {
         Ok(Verdict::Accepted) => "accepted\n".to_string(),
         Ok(Verdict::EndsAlike) => "rejected ends alike\n".to_string(),
         Ok(Verdict::Operator(place)) => format!("rejected operator {place}\n"),

@@ -1,5 +1,6 @@
 //! Numbers in files: groups of seven bits, low group first, shortest form, as many bytes as may be.
 
+use crate::kinds::{Kind, MARK};
 use crate::limits::{Limits, LARGEST, NOW};
 use crate::refusal::Refusal;
 use std::ops::Range;
@@ -66,19 +67,57 @@ impl<'a> Reader<'a> {
         }
     }
 
-    /// A count and so many numbers of the range, strictly increasing.
-    pub fn increasing_list(&mut self, range: &Range<usize>) -> Result<Vec<usize>, Refusal> {
+    /// The kind of the task file that begins here. A badly formed number is no mark.
+    pub fn kind(&self) -> Kind {
+        let mut ahead = Reader::within(self.limits, &self.bytes[self.place..]);
+        if ahead.number() == Ok(MARK as u64) {
+            Kind::New
+        } else {
+            Kind::Old
+        }
+    }
+
+    /// Reads what stands in front of a file of the kind that is due.
+    pub fn front(&mut self, due: Kind) -> Result<(), Refusal> {
+        if due == Kind::New && self.number()? != MARK as u64 {
+            return Err(Refusal::Range);
+        }
+        Ok(())
+    }
+
+    /// A count and so many features of the range, as files of some kind list them.
+    pub fn list(&mut self, kind: Kind, range: &Range<usize>) -> Result<Vec<usize>, Refusal> {
         // Counts have no range of their own; one that can't be met shows in what follows.
         let count = self.number()?;
         let mut list = Vec::new();
         for _ in 0..count {
-            let number = self.number_within(range, Refusal::Range)?;
-            if list.last().is_some_and(|last| number <= *last) {
-                return Err(Refusal::Order);
-            }
-            list.push(number);
+            let last = list.last().copied();
+            list.push(match kind {
+                Kind::Old => self.increasing(last, range)?,
+                Kind::New => self.behind_gap(last, range)?,
+            });
         }
         Ok(list)
+    }
+
+    /// A feature behind the last one, if there was one.
+    fn increasing(&mut self, last: Option<usize>, range: &Range<usize>) -> Result<usize, Refusal> {
+        let number = self.number_within(range, Refusal::Range)?;
+        if last.is_some_and(|last| number <= last) {
+            return Err(Refusal::Order);
+        }
+        Ok(number)
+    }
+
+    /// The same by the gap less one, which leads to a larger one whatever it is.
+    fn behind_gap(&mut self, last: Option<usize>, range: &Range<usize>) -> Result<usize, Refusal> {
+        let least = last.map_or(0, |last| last + 1);
+        let feature = least + self.number()? as usize;
+        if range.contains(&feature) {
+            Ok(feature)
+        } else {
+            Err(Refusal::Range)
+        }
     }
 
     /// The bytes of the number being read, as far as they were read. It is so until the next one

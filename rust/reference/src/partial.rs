@@ -1,6 +1,7 @@
 //! Partial task files: orders that name some variables, and the full tasks built from them.
 
 use crate::features::{count_features, Atom, Feature, Features, State};
+use crate::kinds::Kind;
 use crate::limits::{Limits, MOST_VALUES, MOST_VARIABLES, NOW};
 use crate::numbers::{encode, Reader};
 use crate::operators::{Entry, Operator, Pairing};
@@ -76,7 +77,7 @@ impl Partial {
         numbers.extend(self.marks().into_iter().map(usize::from));
         numbers.extend(&self.start);
         numbers.extend(self.goal.iter().flatten());
-        numbers.extend(tail_numbers(&self.pairs, &self.operators));
+        numbers.extend(tail_numbers(Kind::Old, &self.pairs, &self.operators));
         numbers
     }
 
@@ -159,7 +160,8 @@ pub fn partial_from(reader: &mut Reader) -> Result<Partial, Refusal> {
         });
     }
     let singles: usize = sizes.iter().sum();
-    let pairs = reader.increasing_list(&(singles..count_features(&sizes)))?;
+    // Partial files have one kind.
+    let pairs = reader.list(Kind::Old, &(singles..count_features(&sizes)))?;
     let operators = read_operators(reader, &sizes)?;
     reader.finish()?;
     Ok(Partial {

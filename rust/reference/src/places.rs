@@ -3,10 +3,11 @@
 use crate::bay::{bay_from, Bay};
 use crate::feature_set::FeatureSet;
 use crate::features::count_features;
+use crate::kinds::Kind;
 use crate::numbers::Reader;
 use crate::partial::{built_from, LeftOut};
 use crate::refusal::Refusal;
-use crate::task::{task_from, Task};
+use crate::task::{task_from, task_of_kind, Task};
 use crate::weights::weights_from;
 use std::ops::Range;
 
@@ -71,6 +72,13 @@ pub fn read_task_file(bytes: &[u8]) -> Result<Task, Fault> {
     read(File::Task, Reader::new(bytes), task_from)
 }
 
+/// Reads a task file of the kind that is due.
+pub fn read_task_file_of(due: Kind, bytes: &[u8]) -> Result<Task, Fault> {
+    read(File::Task, Reader::new(bytes), |reader| {
+        task_of_kind(due, reader)
+    })
+}
+
 /// The task that is built of a partial file.
 pub fn read_partial_file(bytes: &[u8], left_out: LeftOut) -> Result<Task, Fault> {
     read(File::Task, Reader::new(bytes), |reader| {
@@ -82,24 +90,29 @@ pub fn read_bay_file(bytes: &[u8]) -> Result<Bay, Fault> {
     read(File::Task, Reader::new(bytes), bay_from)
 }
 
-/// Reads a weight file for a task of so many features.
-pub fn read_weight_file(bytes: &[u8], count: usize) -> Result<FeatureSet, Fault> {
+/// Reads a weight file of the kind that is due for a task of so many features.
+pub fn read_weight_file(due: Kind, bytes: &[u8], count: usize) -> Result<FeatureSet, Fault> {
     read(File::Weights, Reader::new(bytes), |reader| {
-        weights_from(reader, count)
+        weights_from(due, reader, count)
     })
 }
 
 /// Reads weights for a task that was wholly judged before.
-fn beside(task: Task, weights: &[u8]) -> Result<(Task, FeatureSet), Fault> {
-    let weights = read_weight_file(weights, count_features(&task.sizes))?;
+fn beside(due: Kind, task: Task, weights: &[u8]) -> Result<(Task, FeatureSet), Fault> {
+    let weights = read_weight_file(due, weights, count_features(&task.sizes))?;
     Ok((task, weights))
 }
 
-pub fn read_both(task: &[u8], weights: &[u8]) -> Result<(Task, FeatureSet), Fault> {
-    beside(read_task_file(task)?, weights)
+/// A task of either kind, and weights of the kind that is due.
+pub fn read_both(due: Kind, task: &[u8], weights: &[u8]) -> Result<(Task, FeatureSet), Fault> {
+    beside(due, read_task_file(task)?, weights)
 }
 
 /// The task that is built by the letter, and weights for it.
-pub fn read_both_partial(partial: &[u8], weights: &[u8]) -> Result<(Task, FeatureSet), Fault> {
-    beside(read_partial_file(partial, LeftOut::ByLetter)?, weights)
+pub fn read_both_partial(
+    due: Kind,
+    partial: &[u8],
+    weights: &[u8],
+) -> Result<(Task, FeatureSet), Fault> {
+    beside(due, read_partial_file(partial, LeftOut::ByLetter)?, weights)
 }

@@ -7,7 +7,8 @@ pub enum Refusal {
     InputEnds = 1,
     /// The number of variables, a size, N, or a bay dimension breaks its limit.
     Limit = 2,
-    /// A value, variable, entry count, feature or label is outside its range.
+    /// A value, variable, entry count, feature or label is outside its range, or a file that should
+    /// be of the new kind begins with another number.
     Range = 3,
     /// Entries, pairs or weights don't increase.
     Order = 4,

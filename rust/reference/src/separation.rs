@@ -2,6 +2,7 @@
 
 use crate::feature_set::FeatureSet;
 use crate::features::Features;
+use crate::kinds::Kind;
 use crate::operators::{
     changes_from, combined_states, deviating_states, few_states, Operator, Pairing,
 };
@@ -71,14 +72,14 @@ pub fn separates(task: &Task, weights: &FeatureSet) -> bool {
     verdict(task, weights) == Verdict::Accepted
 }
 
-/// The verdict on a task file and a weight file.
-pub fn judged(task: &[u8], weights: &[u8]) -> Result<Verdict, Fault> {
-    let (task, weights) = read_both(task, weights)?;
+/// The verdict on a task file and a weight file of the kind that is due.
+pub fn judged(due: Kind, task: &[u8], weights: &[u8]) -> Result<Verdict, Fault> {
+    let (task, weights) = read_both(due, task, weights)?;
     Ok(verdict(&task, &weights))
 }
 
-/// The verdict on a partial file, built by the letter, and a weight file.
-pub fn judged_partial(partial: &[u8], weights: &[u8]) -> Result<Verdict, Fault> {
-    let (task, weights) = read_both_partial(partial, weights)?;
+/// The same on a partial file, built by the letter.
+pub fn judged_partial(due: Kind, partial: &[u8], weights: &[u8]) -> Result<Verdict, Fault> {
+    let (task, weights) = read_both_partial(due, partial, weights)?;
     Ok(verdict(&task, &weights))
 }

@@ -1,10 +1,12 @@
 //! Task files: read and judged in document 01's order, and written.
 
 use crate::features::{count_features, State};
+use crate::kinds::Kind;
 use crate::limits::{MOST_VALUES, MOST_VARIABLES};
 use crate::numbers::{encode, Reader};
 use crate::operators::{Entry, Operator, Pairing};
 use crate::refusal::Refusal;
+use std::ops::Range;
 
 /// A task as its file lists it.
 #[derive(Clone, Debug, PartialEq, Eq)]
@@ -27,25 +29,34 @@ impl Task {
         operators.filter(|(place, each)| *place == 0 || self.operators[place - 1] != **each)
     }
 
-    /// The numbers of the task file, in order.
+    /// The numbers of the task file, in order; where nothing is said of its kind, it is the old.
     pub fn numbers(&self) -> Vec<usize> {
-        let mut numbers = vec![self.sizes.len()];
-        numbers.extend(&self.sizes);
-        numbers.extend(&self.start);
-        numbers.extend(&self.goal);
-        numbers.extend(tail_numbers(&self.pairs, &self.operators));
-        numbers
+        self.numbers_of(Kind::Old)
     }
 
     pub fn file(&self) -> Vec<u8> {
-        encode(&self.numbers())
+        self.file_of(Kind::Old)
+    }
+
+    /// The numbers of the task file of some kind, in order.
+    pub fn numbers_of(&self, kind: Kind) -> Vec<usize> {
+        let mut numbers = kind.front();
+        numbers.push(self.sizes.len());
+        numbers.extend(&self.sizes);
+        numbers.extend(&self.start);
+        numbers.extend(&self.goal);
+        numbers.extend(tail_numbers(kind, &self.pairs, &self.operators));
+        numbers
+    }
+
+    pub fn file_of(&self, kind: Kind) -> Vec<u8> {
+        encode(&self.numbers_of(kind))
     }
 }
 
 /// The numbers that stand behind the states: pairs, then operators.
-pub(crate) fn tail_numbers(pairs: &[usize], operators: &[Operator]) -> Vec<usize> {
-    let mut numbers = vec![pairs.len()];
-    numbers.extend(pairs);
+pub(crate) fn tail_numbers(kind: Kind, pairs: &[usize], operators: &[Operator]) -> Vec<usize> {
+    let mut numbers = kind.list(pairs);
     numbers.push(operators.len());
     for operator in operators {
         numbers.push(operator.entries.len());
@@ -56,30 +67,53 @@ pub(crate) fn tail_numbers(pairs: &[usize], operators: &[Operator]) -> Vec<usize
     numbers
 }
 
-/// Reads a task file; the first fault in document 01's order decides.
+/// Reads a task file of either kind; the first fault in document 01's order decides.
 pub fn read_task(bytes: &[u8]) -> Result<Task, Refusal> {
     task_from(&mut Reader::new(bytes))
 }
 
 /// The same by the reader's limits.
 pub fn task_from(reader: &mut Reader) -> Result<Task, Refusal> {
-    let task = numbers_from(reader)?;
+    judged(numbers_from(reader)?)
+}
+
+/// Reads a task file of the kind that is due.
+pub fn task_of_kind(due: Kind, reader: &mut Reader) -> Result<Task, Refusal> {
+    judged(numbers_of_kind(due, reader)?)
+}
+
+/// A task whose pairs are judged too.
+fn judged(task: Task) -> Result<Task, Refusal> {
     judge_pairs(&task)?;
     Ok(task)
 }
 
-/// Reads a task file up to its last byte; pairs aren't judged yet.
+/// Reads a task file of either kind up to its last byte; pairs aren't judged yet.
 pub fn read_numbers(bytes: &[u8]) -> Result<Task, Refusal> {
     numbers_from(&mut Reader::new(bytes))
 }
 
 /// The same by the reader's limits.
 pub fn numbers_from(reader: &mut Reader) -> Result<Task, Refusal> {
+    numbers_of_kind(reader.kind(), reader)
+}
+
+/// Reads a task file of the kind that is due up to its last byte.
+fn numbers_of_kind(due: Kind, reader: &mut Reader) -> Result<Task, Refusal> {
+    reader.front(due)?;
+    numbers_behind_front(reader, |reader, range| reader.list(due, range))
+}
+
+/// Reads what stands behind a task file's front; pairs of some range are read as is said.
+pub fn numbers_behind_front<Listing>(reader: &mut Reader, list: Listing) -> Result<Task, Refusal>
+where
+    Listing: FnOnce(&mut Reader, &Range<usize>) -> Result<Vec<usize>, Refusal>,
+{
     let sizes = read_sizes(reader)?;
     let start = read_state(reader, &sizes)?;
     let goal = read_state(reader, &sizes)?;
     let singles: usize = sizes.iter().sum();
-    let pairs = reader.increasing_list(&(singles..count_features(&sizes)))?;
+    let pairs = list(reader, &(singles..count_features(&sizes)))?;
     let operators = read_operators(reader, &sizes)?;
     reader.finish()?;
     Ok(Task {

@@ -1,6 +1,7 @@
 //! The hand-written cases of the program `cases`: the reference answers each as its line says.
 
 use reference::calls;
+use reference::kinds::Kind;
 use reference::line::check_line;
 use reference::places::{read_both, File};
 
@@ -30,7 +31,8 @@ fn words(result: u64) -> String {
 
 /// What the line adds to a number that has a place.
 fn place(task: &[u8], weights: &[u8]) -> String {
-    match read_both(task, weights).err().and_then(|fault| fault.part) {
+    let fault = read_both(Kind::Old, task, weights).err();
+    match fault.and_then(|fault| fault.part) {
         Some(part) if part.file == File::Task => format!(" at {} in task", part.bytes.start),
         Some(part) => format!(" at {} in weights", part.bytes.start),
         None => String::new(),

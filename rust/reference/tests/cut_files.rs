@@ -2,6 +2,7 @@
 
 use reference::calls;
 use reference::features::count_features;
+use reference::kinds::Kind;
 use reference::places::{read_bay_file, read_both, read_both_partial, read_task_file, Fault, File};
 use reference::sample::bays::{bay, mislabel, shapes};
 use reference::sample::damage::damaged_file;
@@ -10,7 +11,7 @@ use reference::sample::tasks::{
     accepted_task, loose_task, loose_weights, sizes, MEDIUM, NUMBER_EDGES, SMALL,
 };
 use reference::sample::Generator;
-use reference::weights::weight_numbers;
+use reference::weights::weight_numbers_of;
 use std::collections::BTreeMap;
 use std::ops::Range;
 
@@ -80,18 +81,18 @@ fn assert_met(met: &Met, due: &[(u64, bool)]) {
 
 const ROUNDS: usize = 6_000;
 
-#[test]
-fn tasks() {
-    let mut generator = Generator::new(0x9B01);
+/// Task files of some kind: whole ones, and damaged ones that may be of the other kind.
+fn tasks_of(kind: Kind, seed: u64) {
+    let mut generator = Generator::new(seed);
     let mut met = Met::new();
     for _ in 0..ROUNDS {
         let scale = generator.choose(&[SMALL, SMALL, MEDIUM]);
         let sizes = sizes(&mut generator, scale);
         let task = loose_task(&mut generator, &sizes, 4);
         let file = if generator.once_in(10) {
-            task.file()
+            task.file_of(kind)
         } else {
-            damaged_file(&mut generator, &task.numbers())
+            damaged_file(&mut generator, &task.numbers_of(kind))
         };
         hold(&mut met, File::Task, &file, read_task_file);
     }
@@ -101,19 +102,45 @@ fn tasks() {
 }
 
 #[test]
-fn weights() {
-    let mut generator = Generator::new(0x9B02);
+fn tasks() {
+    tasks_of(Kind::Old, 0x9B01);
+}
+
+#[test]
+fn tasks_of_the_new_kind() {
+    tasks_of(Kind::New, 0x9B06);
+}
+
+/// Weight files of some kind beside accepted tasks.
+fn weights_of(kind: Kind, seed: u64) -> Met {
+    let mut generator = Generator::new(seed);
     let mut met = Met::new();
     for _ in 0..ROUNDS {
         let scale = generator.choose(&[SMALL, MEDIUM]);
         let sizes = sizes(&mut generator, scale);
         let task = accepted_task(&mut generator, &sizes, 2);
         let weights = loose_weights(&mut generator, task.pairing().features.count());
-        let file = damaged_file(&mut generator, &weight_numbers(&weights));
+        let file = damaged_file(&mut generator, &weight_numbers_of(kind, &weights));
         let task = task.file();
-        hold(&mut met, File::Weights, &file, |cut| read_both(&task, cut));
+        hold(&mut met, File::Weights, &file, |cut| {
+            read_both(kind, &task, cut)
+        });
     }
+    met
+}
+
+#[test]
+fn weights() {
+    let met = weights_of(Kind::Old, 0x9B02);
     let placed = [1, 3, 4, 12, 13].map(|number| (number, true));
+    assert_met(&met, &[&placed[..], &[(0, false), (5, false)]].concat());
+}
+
+/// Without 4.
+#[test]
+fn weights_of_the_new_kind() {
+    let met = weights_of(Kind::New, 0x9B07);
+    let placed = [1, 3, 12, 13].map(|number| (number, true));
     assert_met(&met, &[&placed[..], &[(0, false), (5, false)]].concat());
 }
 
@@ -130,7 +157,7 @@ fn partial_files() {
             damaged_file(&mut generator, &partial.numbers())
         };
         hold(&mut met, File::Task, &file, |cut| {
-            read_both_partial(cut, &[0])
+            read_both_partial(Kind::Old, cut, &[0])
         });
     }
     let placed = [1, 2, 3, 4, 12, 13].map(|number| (number, true));
@@ -182,7 +209,7 @@ fn long_numbers() {
         let mut weights = features_near_the_border(&mut generator, count + 2);
         weights.insert(0, weights.len());
         let file = damaged_file(&mut generator, &weights);
-        let read = |cut: &[u8]| read_both(&task, cut);
+        let read = |cut: &[u8]| read_both(Kind::Old, &task, cut);
         hold(&mut met_in_weights, File::Weights, &file, read);
     }
     let placed = [1, 3, 4, 12, 13].map(|number| (number, true));

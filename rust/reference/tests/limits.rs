@@ -3,6 +3,7 @@
 
 use reference::bay::bay_from;
 use reference::features::count_features;
+use reference::kinds::Kind;
 use reference::limits::{Limits, BEFORE, LARGEST, NOW};
 use reference::numbers::{encode, Reader};
 use reference::operators::{Entry, Operator};
@@ -100,7 +101,9 @@ fn weights() {
         let numbers = weight_numbers(&loose_weights(&mut generator, count));
         let file = perhaps_damaged(&mut generator, &numbers);
         met.hold(&file, |reader| {
-            read(File::Weights, reader, |reader| weights_from(reader, count))
+            read(File::Weights, reader, |reader| {
+                weights_from(Kind::Old, reader, count)
+            })
         });
     }
     // A number of three bytes is out of range here, so nothing is accepted by today's limits alone.

@@ -1,6 +1,7 @@
 //! Where files are at fault and what is shown of them, worked out by hand.
 
 use reference::calls::{self, done};
+use reference::kinds::Kind;
 use reference::line::{check_line, line};
 use reference::operators::{Entry, Operator};
 use reference::partial::Partial;
@@ -70,7 +71,12 @@ fn assert_tasks(head: &[u8], cases: &[Case]) {
         let (tail, number, place, shown) = *case;
         let task = joined(head, tail);
         for weights in [&[1, 2][..], &[], &[0x80, 0x00], &[1, 8]] {
-            assert_fault(read_both(&task, weights), File::Task, &task, case);
+            assert_fault(
+                read_both(Kind::Old, &task, weights),
+                File::Task,
+                &task,
+                case,
+            );
             let words = (done(0), place, shown.len());
             assert_eq!(display(&task, weights), words, "{task:x?}");
             assert_eq!(calls::check(&task, weights), REFUSED + number);
@@ -97,7 +103,10 @@ fn counts_and_sizes() {
             (&[0x82, 0x82, 0x82], 13, 0, &[0x82, 0x82, 0x82]),
             (&[0x82, 0x82, 0x82, 0x01], 13, 0, &[0x82, 0x82, 0x82]),
             (&[0x80, 0x80, 0x80, 0x00, 7], 13, 0, &[0x80, 0x80, 0x80]),
-            (&[0, 9], 2, 0, &[0]),
+            // A mark is no count; behind it the file goes on.
+            (&[0], 1, 1, &[]),
+            (&[0, 0], 2, 1, &[0]),
+            (&[0, 2], 1, 2, &[]),
             (&[65, 9], 2, 0, &[65]),
             (&[0x82, 0x01, 9], 2, 0, &[0x82, 0x01]),
             (&[0x82, 0x82, 0x01], 2, 0, &[0x82, 0x82, 0x01]),
@@ -389,7 +398,12 @@ fn weights() {
     ];
     for case in &cases {
         let (weights, number, place, shown) = *case;
-        assert_fault(read_both(&plain(), weights), File::Weights, weights, case);
+        assert_fault(
+            read_both(Kind::Old, &plain(), weights),
+            File::Weights,
+            weights,
+            case,
+        );
         let words = (IN_WEIGHTS, place, shown.len());
         assert_eq!(display(&plain(), weights), words, "{weights:x?}");
         assert_eq!(calls::check(&plain(), weights), REFUSED + number);
@@ -486,7 +500,7 @@ fn partial_files() {
     for case in &cases {
         let (partial, number, place, shown) = *case;
         for weights in [&[0][..], &[], &[1, 15]] {
-            let read = read_both_partial(partial, weights);
+            let read = read_both_partial(Kind::Old, partial, weights);
             assert_fault(read, File::Task, partial, case);
             let words = (done(0), place, shown.len());
             assert_eq!(display_partial(partial, weights), words, "{partial:x?}");
@@ -668,7 +682,7 @@ fn room() {
 /// Too many bytes are refused before any number is read, so no place is said.
 #[test]
 fn lines_of_long_input() {
-    assert_eq!(line(&[0; 8_192]), "refused 2 at 0\n");
+    assert_eq!(line(&[0; 8_192]), "refused 2 at 1\n");
     assert_eq!(line(&[0; 8_193]), "refused 8\n");
     let mut full = joined(&HEAD, &[0, 0xFF, 0x7F]);
     full.extend([1, 0, 0, 1].repeat(2_045));

@@ -115,9 +115,11 @@ fn task_refusal(bytes: &[u8]) -> u64 {
 
 #[test]
 fn task_numbers_are_judged_as_read() {
-    let judged: [(&[u8], u64); 44] = [
+    let judged: [(&[u8], u64); 45] = [
         (&[], 1),
-        (&[0], 2),
+        // The mark of the new kind, behind which the variables are due.
+        (&[0], 1),
+        (&[0, 0], 2),
         (&[65], 2),
         (&[0x80, 0x00], 12),
         (&[0x80, 0x01], 2),
@@ -245,7 +247,7 @@ fn weights_are_read_after_the_task() {
     ];
     for (weights, expected) in judged {
         assert_eq!(calls::check(&plain(), weights), expected, "{weights:?}");
-        assert_eq!(calls::check(&[0], weights), REFUSED + 2);
+        assert_eq!(calls::check(&[65], weights), REFUSED + 2);
     }
 }
 
@@ -483,7 +485,8 @@ fn line_judges_bytes_first_and_features_last() {
     assert_eq!(line(&full), "separated 1 2\n");
     assert_eq!(line(&task_of_length(8_193)), "refused 8\n");
     assert_eq!(line(&vec![0; 8_193]), "refused 8\n");
-    assert_eq!(line(&vec![0; 8_192]), "refused 2 at 0\n");
+    // The first 0 is the mark of the new kind.
+    assert_eq!(line(&vec![0; 8_192]), "refused 2 at 1\n");
     let wide = |sizes: &[usize], pairs: Vec<usize>| Task {
         sizes: sizes.to_vec(),
         start: vec![0; sizes.len()],

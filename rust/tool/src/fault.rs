@@ -183,7 +183,7 @@ pub fn refusal_words(number: u32) -> String {
     let meaning = match number {
         1 => "input ends inside what is due",
         2 => "the count of variables, a size, the count of features, or a bay dimension breaks its limit",
-        3 => "a value, variable, entry count, feature, label or mark is outside its range, or a list of new values or marks has the wrong length",
+        3 => "a value, variable, entry count, feature, label or mark is outside its range, a list of new values or marks has the wrong length, or a new file does not begin with 0",
         4 => "entries, pairs or weights do not increase",
         5 => "bytes are left over",
         6 => "the start holds a listed pair",

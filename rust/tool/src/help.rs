@@ -21,9 +21,13 @@ pub fn tool() -> String {
          florumeja --version shows the version. In the folder of the sources ./florumeja install\n\
          PREFIX installs the tool and the library.\n\
          \n\
-         Exit status: 0 IMPOSSIBLE (or separated, accepted, opened, built, silenced, mended),\n\
-         1 no proof (or none, rejected), 2 refused or an error. In scripts take care that 0\n\
-         means IMPOSSIBLE.\n",
+         A task file is of the old kind, or of the new one, which begins with 0 and takes\n\
+         fewer bytes for a long list of pairs. Each command that reads a TASK takes either, by its\n\
+         first number; convert makes the one of the other.\n\
+         \n\
+         Exit status: 0 IMPOSSIBLE (or separated, accepted, opened, built, silenced, mended,\n\
+         converted), 1 no proof (or none, rejected), 2 refused or an error. In scripts take\n\
+         care that 0 means IMPOSSIBLE.\n",
         table(names.collect())
     )
 }

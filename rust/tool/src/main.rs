@@ -15,6 +15,7 @@ mod help;
 mod json;
 mod keeping;
 mod library;
+mod notation;
 mod numbers;
 mod output;
 mod pair_list;

@@ -1,4 +1,5 @@
 -- `florumeja_check`: the value fits, so that the number says the answer.
+use Rattle.meaning.specs.File.{plain}
 use Rattle.florumeja.specs.Fits.{checks-fit}
 use borrow.Author.Needs.{needs}
 use Rattle.florumeja.proofs.florumeja_check.Statement.{statement}
@@ -8,7 +9,7 @@ check-requires : tie.Need-check-requires
 check-requires c κs = search needs
 
 verdict-number-requires : tie.Need-verdict-number-requires
-verdict-number-requires c κs = checks-fit _ _ _ (c .check .ensures)
+verdict-number-requires c κs = checks-fit plain _ _ _ (c .check .ensures)
 
 returns : tie.Need-returns
 returns c = search needs

@@ -34,7 +34,7 @@ placed-requires : tie.Need-placed-requires
 placed-requires c κs = search needs
 
 returns : tie.Need-returns
-returns c = weights-spot (known (c .before .before)) _ _ (c .weights-spot .ensures)
+returns c = weights-spot (known (c .before .before)) _ _ _ (c .weights-spot .ensures)
 
 returns-2 : tie.Need-returns-2
 returns-2 c = fault-spot inTask _ _ _ _ _ (judged-refused _ _ _ _ _ _ (c .before .before .before .before .before .judge .ensures) (c .before .before .reason .given .1)) (c .placed .ensures)

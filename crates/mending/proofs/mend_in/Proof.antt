@@ -23,7 +23,7 @@ abbrev start : tie.After-fill-kept → tie.Start
 start c = c .before .before .before .before .before .before
 
 abbrev filled : tie.After-goal → tie.After-fill-kept
-filled c = c .before .before .before .before .before .before
+filled c = c .before .before .before .before .before .before .before
 
 small : (c : tie.After-fill-kept) → Bytes (start c .args .task .now)
 small c i = omega (arith, c .before .before .before .before .before .shared-slice-known .given i)
@@ -37,26 +37,29 @@ long c = c .fill-kept .kept .1 .1 .1 .1 .1 .1 .0 ∙ start c .pre .1
 fill-kept-requires : tie.Need-fill-kept-requires
 fill-kept-requires c κs = search needs
 
-sub-write-mended : tie.Need-sub-write-mended
-sub-write-mended c = at-within (start (c .before .before) .pre .0 .1)
+sub-write-task : tie.Need-sub-write-task
+sub-write-task c = at-within (start (c .before .before) .pre .0 .1)
 
-part-write-mended-start : tie.Need-part-write-mended-start
-part-write-mended-start c = let s = start (c .before .before) in omega (arith, at-within (s .pre .0 .1))
+part-write-task-start : tie.Need-part-write-task-start
+part-write-task-start c = let s = start (c .before .before) in omega (arith, at-within (s .pre .0 .1))
 
-part-write-mended-end : tie.Need-part-write-mended-end
-part-write-mended-end c = search needs
+part-write-task-end : tie.Need-part-write-task-end
+part-write-task-end c = search needs
+
+is-gapped-requires : tie.Need-is-gapped-requires
+is-gapped-requires c κs = search needs
 
 sizes-requires : tie.Need-sizes-requires
-sizes-requires c κs = headed-sizes (room (start (c .before .before .before)))
+sizes-requires c κs = headed-sizes (room (start (c .before .before .before .before)))
 
 start-requires : tie.Need-start-requires
-start-requires c κs = room (start (c .before .before .before .before))
+start-requires c κs = room (start (c .before .before .before .before .before))
 
 goal-requires : tie.Need-goal-requires
-goal-requires c κs = room (start (c .before .before .before .before .before))
+goal-requires c κs = room (start (c .before .before .before .before .before .before))
 
-write-mended-requires : tie.Need-write-mended-requires
-write-mended-requires c κs = let g = c .before .before in let k = filled g in
+write-task-requires : tie.Need-write-task-requires
+write-task-requires c κs = let g = c .before .before in let k = filled g in
     mended-front (start k .pre .0 .1) _ _ _ (words k) (g .before .before .sizes .ensures) (g .before .start .ensures) (g .goal .ensures) (long k)
 
 same-length : tie.Need-same-length
@@ -70,21 +73,22 @@ returns c =
     let g = c .before .before .before .before .before in
     let k = filled g in
     let a = start k .args in
-    mends-so (start k .pre .0 .1) _ _ _ (words k) (g .before .before .sizes .ensures) (g .before .start .ensures) (g .goal .ensures) (long k) (small k) (k .fill-kept .ensures) _ (a .room .now) _
-    (lent-behind (a .task .now) (a .at) (a .at) refl) (c .before .before .write-mended .ensures)
+    mends-so (start k .pre .0 .1) _ _ _ (words k) (g .before .before .sizes .ensures) (g .before .start .ensures) (g .goal .ensures) (long k) (small k) (k .fill-kept .ensures) _ (g .before .before .before .is-gapped .ensures) _ (a .room .now) _
+    (lent-behind (a .task .now) (a .at) (a .at) refl) (c .before .before .write-task .ensures)
 
 pub mend-in-spec : {M : Type 1} → statement M
 mend-in-spec =
     tie.close
     (tie.spec
     fill-kept-requires
-    sub-write-mended
-    part-write-mended-start
-    part-write-mended-end
+    sub-write-task
+    part-write-task-start
+    part-write-task-end
+    is-gapped-requires
     sizes-requires
     start-requires
     goal-requires
-    write-mended-requires
+    write-task-requires
     same-length
     same-length-2
     returns)

@@ -35,7 +35,7 @@ same-length c = search needs
 returns : tie.Need-returns
 unfolding partialFrontOf
 returns c = let t = c .before .before .before .before .before in let a = start t .args in
-    header-behind partialStatesOf (a .bytes .now) (a .at) _ _ _ (known t) _ _ (c .before .before .read-behind .ensures)
+    header-behind partialStatesOf (a .bytes .now) (a .at) _ _ _ (known t) _ _ _ (c .before .before .read-behind .ensures)
 
 same-length-2 : tie.Need-same-length-2
 same-length-2 c = search needs
@@ -43,7 +43,7 @@ same-length-2 c = search needs
 returns-2 : tie.Need-returns-2
 unfolding partialFrontOf
 returns-2 c = let a = c .before .before .before .before .before .before .before .before .before .args in
-    states-unread partialStatesOf (a .bytes .now) (a .at) (a .header .now) _ _ _ _ (c .before .before .before .before .before .read-states .ensures) (c .before .reason .given .1)
+    states-unread partialStatesOf (a .bytes .now) (a .at) (a .header .now) _ _ _ _ _ (c .before .before .before .before .before .read-states .ensures) (c .before .reason .given .1)
 
 pub read-front-spec : {M : Type 1} → statement M
 read-front-spec =

@@ -52,7 +52,7 @@ same-length c = search needs
 
 returns : tie.Need-returns
 returns c = let t = c .before .before .before .before .before in
-    header-got _ _ _ _ (counted (total t)) _ _ (t .before .before .before .before .read-pairs .ensures) _ (t .next .given .1) _ _ _ refl
+    header-got _ _ _ _ _ (counted (total t)) _ _ (t .before .before .before .before .read-pairs .ensures) _ (t .next .given .1) _ _ _ refl
     (sym (c .before .before .before .number-at .ensures) ∙ ap numberOf (c .before .operators .given .1))
 
 same-length-2 : tie.Need-same-length-2
@@ -60,14 +60,14 @@ same-length-2 c = search needs
 
 returns-2 : tie.Need-returns-2
 returns-2 c = let t = c .before .before .before .before .before in
-    count-unread _ _ _ _ (counted (total t)) _ _ (t .before .before .before .before .read-pairs .ensures) _ (t .next .given .1) _ _
+    count-unread _ _ _ _ _ (counted (total t)) _ _ (t .before .before .before .before .read-pairs .ensures) _ (t .next .given .1) _ _
     (sym (c .before .before .before .number-at .ensures) ∙ ap numberOf (c .before .reason .given .1))
 
 same-length-3 : tie.Need-same-length-3
 same-length-3 c = search needs
 
 returns-3 : tie.Need-returns-3
-returns-3 c = pairs-unread _ _ _ _ (counted (c .before .before .before .before .before .before .before)) _ _ (c .before .before .before .before .before .read-pairs .ensures) _ _ (c .before .reason2 .given .1)
+returns-3 c = pairs-unread _ _ _ _ _ (counted (c .before .before .before .before .before .before .before)) _ _ (c .before .before .before .before .before .read-pairs .ensures) _ _ (c .before .reason2 .given .1)
 
 pub read-behind-spec : {M : Type 1} → statement M
 read-behind-spec =

@@ -32,10 +32,10 @@ same-length c = search needs
 
 returns : tie.Need-returns
 returns c = let t = c .before .before .before .before .before in
-    list-read _ _ _ _ _ _ _ _ _ (start t .pre .0) (start t .pre .1) (sym (t .before .before .number-at .ensures) ∙ ap numberOf (t .count .given .1)) (c .before .before .features-at .ensures)
+    list-read _ _ _ _ _ _ _ _ _ _ (start t .pre .0) (start t .pre .1) (sym (t .before .before .number-at .ensures) ∙ ap numberOf (t .count .given .1)) (c .before .before .features-at .ensures)
 
 returns-2 : tie.Need-returns-2
-returns-2 c = answer-fault _ _ _ _ _ (list-fault _ _ _ _ _ _ (sym (c .before .before .before .number-at .ensures) ∙ ap numberOf (c .before .reason .given .1)))
+returns-2 c = answer-fault _ _ _ _ _ (list-fault _ _ _ _ _ _ _ (sym (c .before .before .before .number-at .ensures) ∙ ap numberOf (c .before .reason .given .1)))
 
 pub read-features-spec : {M : Type 1} → statement M
 read-features-spec =

@@ -34,7 +34,7 @@ same-length c = search needs
 returns : tie.Need-returns
 unfolding frontOf
 returns c = let t = c .before .before .before .before .before in let a = start t .args in
-    header-behind statesOf (a .bytes .now) (a .at) _ _ _ (known t) _ _ (c .before .before .read-behind .ensures)
+    header-behind statesOf (a .bytes .now) (a .at) _ _ _ (known t) _ _ _ (c .before .before .read-behind .ensures)
 
 same-length-2 : tie.Need-same-length-2
 same-length-2 c = search needs
@@ -42,7 +42,7 @@ same-length-2 c = search needs
 returns-2 : tie.Need-returns-2
 unfolding frontOf
 returns-2 c = let a = c .before .before .before .before .before .before .before .before .before .args in
-    states-unread statesOf (a .bytes .now) (a .at) (a .header .now) _ _ _ _ (c .before .before .before .before .before .read-states .ensures) (c .before .reason .given .1)
+    states-unread statesOf (a .bytes .now) (a .at) (a .header .now) _ _ _ _ _ (c .before .before .before .before .before .read-states .ensures) (c .before .reason .given .1)
 
 pub read-header-spec : {M : Type 1} → statement M
 read-header-spec =

@@ -50,7 +50,7 @@ same-length : tie.Need-same-length
 same-length c = search needs
 
 returns : tie.Need-returns
-returns c = let t = c .before .before .before .before in pairs-put _ _ (start t .pre) _ (low t) _ (t .places-for .ensures) _ _ _ _ (c .before .before .read-features .ensures)
+returns c = let t = c .before .before .before .before in pairs-put _ _ (start t .pre) _ (low t) _ _ (t .places-for .ensures) _ _ _ _ (c .before .before .read-features .ensures)
 
 pub read-pairs-spec : {M : Type 1} → statement M
 read-pairs-spec =

@@ -1,46 +1,31 @@
--- `read_weights` meets its contract: each answer is one law on the list of features and the place after it.
-use Rattle.reader.specs.Header.{weights-fault, weights-over, weights-read}
+-- `read_weights` meets its contract: the list stands behind the mark.
+use mathlib.Core.Path.{sym, _∙_}
 use borrow.Author.Needs.{needs}
+use Rattle.reader.specs.Header.{weights-marked, weights-unmarked}
 use Rattle.reader.proofs.read_weights.Statement.{statement}
 use Rattle.reader.proofs.read_weights.Tie as tie
 
-read-features-requires : tie.Need-read-features-requires
-read-features-requires c κs = search needs
+read-mark-requires : tie.Need-read-mark-requires
+read-mark-requires c κs = search needs
 
-enum-known-next : tie.Need-enum-known-next
-enum-known-next c = search needs
+enum-known-at : tie.Need-enum-known-at
+enum-known-at c = search needs
+
+read-list-requires : tie.Need-read-list-requires
+read-list-requires c κs = search needs
+
+enum-known-reason : tie.Need-enum-known-reason
+enum-known-reason c = search needs
 
 same-length : tie.Need-same-length
 same-length c = search needs
 
 returns : tie.Need-returns
-returns c = let t = c .before .before in weights-over _ _ _ _ _ (t .before .before .before .before .read-features .ensures) _ (t .next .given .1) (c .if1 .taken)
-
-enum-known-reason : tie.Need-enum-known-reason
-enum-known-reason c = search needs
-
-same-length-2 : tie.Need-same-length-2
-same-length-2 c = search needs
+returns c = let t = c .before .before .before .before .before in
+    weights-marked _ _ _ _ _ _ _ (sym (t .at .given .1) ∙ t .before .before .read-mark .ensures) (c .before .before .read-list .ensures)
 
 returns-2 : tie.Need-returns-2
-returns-2 c = let t = c .before .before in weights-read _ _ _ _ _ (t .before .before .before .before .read-features .ensures) _ (t .next .given .1) (c .if1 .left)
-
-same-length-3 : tie.Need-same-length-3
-same-length-3 c = search needs
-
-returns-3 : tie.Need-returns-3
-returns-3 c = weights-fault _ _ _ _ _ (c .before .before .before .before .before .read-features .ensures) _ _ (c .before .reason .given .1)
+returns-2 c = weights-unmarked _ _ _ _ _ _ _ (sym (c .before .reason .given .1) ∙ c .before .before .before .read-mark .ensures)
 
 pub read-weights-spec : {M : Type 1} → statement M
-read-weights-spec =
-    tie.close
-    (tie.spec
-    read-features-requires
-    enum-known-next
-    same-length
-    returns
-    enum-known-reason
-    same-length-2
-    returns-2
-    same-length-3
-    returns-3)
+read-weights-spec = tie.close (tie.spec read-mark-requires enum-known-at read-list-requires enum-known-reason same-length returns returns-2)

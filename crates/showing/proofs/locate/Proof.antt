@@ -1,6 +1,6 @@
 -- `locate`: the part at the spot that was found.
 use mathlib.Core.Path.{ap, _∙_}
-use Rattle.meaning.specs.Place.{partAt, shown}
+use Rattle.meaning.specs.Place.{partAt, shownAs}
 use borrow.Author.Needs.{needs}
 use Rattle.showing.proofs.locate.Statement.{statement}
 use Rattle.showing.proofs.locate.Tie as tie
@@ -12,7 +12,7 @@ part-at-requires : tie.Need-part-at-requires
 part-at-requires c κs = search needs
 
 returns : tie.Need-returns
-unfolding shown
+unfolding shownAs
 returns c = c .part-at .ensures ∙ ap (partAt _ _) (c .before .spot .ensures)
 
 pub locate-spec : {M : Type 1} → statement M

@@ -6,7 +6,7 @@ use native.Mathlib.Omega.{arith}
 use lib.ListN.{length}
 use borrow.Author.Needs.{needs}
 use Rattle.meaning.specs.Number.{Small}
-use Rattle.meaning.specs.File.{operatorBytes, counted, taskBytes}
+use Rattle.meaning.specs.File.{plain, operatorBytes, counted, taskBytes}
 use Rattle.words.specs.Members.{membersIn}
 use Rattle.writer.specs.Answer.{refused-so}
 use Rattle.writer.specs.Front.{Front, frontBytes}
@@ -21,7 +21,7 @@ abbrev file : tie.Start → List ℕ
 file s = taskBytes (taskIn (s .args .near .now) (s .args .start .now) (s .args .goal .now))
 
 abbrev front : tie.Start → List ℕ
-front s = frontBytes (s .args .sizes .now) (s .args .start .now) (s .args .goal .now) (membersIn (s .args .pairs .now))
+front s = frontBytes plain (s .args .sizes .now) (s .args .start .now) (s .args .goal .now) (membersIn (s .args .pairs .now))
 
 abbrev last : tie.Start → List ℕ
 last s = counted operatorBytes (operatorsIn (s .args .near .now) (s .args .start .now))

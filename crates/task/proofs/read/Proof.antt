@@ -1,8 +1,12 @@
--- `read`: a file that is judged up to 5.
+-- `read`: a file of the kind that its first number says, judged up to 5.
 use borrow.Author.Needs.{needs}
-use Rattle.task.specs.Rest.{judgedBy}
+use Rattle.task.specs.Rest.{either-read}
+use Rattle.task.specs.Answer.{answer-same}
 use Rattle.task.proofs.read.Statement.{statement}
 use Rattle.task.proofs.read.Tie as tie
+
+is-gapped-requires : tie.Need-is-gapped-requires
+is-gapped-requires c κs = search needs
 
 judge-by-requires : tie.Need-judge-by-requires
 judge-by-requires c κs = search needs
@@ -11,8 +15,7 @@ same-length : tie.Need-same-length
 same-length c = search needs
 
 returns : tie.Need-returns
-unfolding judgedBy
-returns c = search needs
+returns c = answer-same _ _ _ _ (either-read _ _ (c .before .before .before .before .is-gapped .ensures)) (c .before .before .judge-by .ensures)
 
 pub read-spec : {M : Type 1} → statement M
-read-spec = tie.close (tie.spec judge-by-requires same-length returns)
+read-spec = tie.close (tie.spec is-gapped-requires judge-by-requires same-length returns)

@@ -6,9 +6,10 @@ use lib.ListN.{length}
 use borrow.Author.Needs.{needs}
 use Rattle.meaning.specs.Limits.{wordBits}
 use Rattle.meaning.specs.Number.{numberBytes}
+use Rattle.meaning.specs.File.{kindIf}
 use Rattle.meaning.specs.Workspace.{has}
 use Rattle.words.specs.Members.{membersIn, members-few}
-use Rattle.writer.specs.Widths.{counted-length, list-few}
+use Rattle.writer.specs.Widths.{features-length, features-few}
 use Rattle.writer.proofs.set_width.Statement.{statement}
 use Rattle.writer.proofs.set_width.Tie as tie
 
@@ -26,11 +27,12 @@ members-width-requires c κs = search needs
 add-result : tie.Need-add-result
 add-result c =
     let words = c .before .before .before .before .args .words .now in
-    omega (arith, c .before .before .before .before .pre, c .before .width .ensures, c .members-width .ensures, ap (λ n. length (numberBytes n)) (c .before .before .count .ensures), counted-length numberBytes (membersIn words), list-few (membersIn words), members-few (has words) (wordBits * length words))
+    let kind = kindIf (c .before .before .before .before .args .gapped) in
+    omega (arith, c .before .before .before .before .pre, c .before .width .ensures, c .members-width .ensures, ap (λ n. length (numberBytes n)) (c .before .before .count .ensures), features-length kind (membersIn words), features-few kind (membersIn words), members-few (has words) (wordBits * length words))
 
 returns : tie.Need-returns
 returns c =
-    omega (arith, c .before .width .ensures, c .members-width .ensures, ap (λ n. length (numberBytes n)) (c .before .before .count .ensures), counted-length numberBytes (membersIn (c .before .before .before .before .args .words .now)))
+    omega (arith, c .before .width .ensures, c .members-width .ensures, ap (λ n. length (numberBytes n)) (c .before .before .count .ensures), features-length (kindIf (c .before .before .before .before .args .gapped)) (membersIn (c .before .before .before .before .args .words .now)))
 
 pub set-width-spec : {M : Type 1} → statement M
 set-width-spec =

@@ -1,6 +1,7 @@
 -- `weight_file` refuses words that have a feature out of range, and otherwise delivers the set of the words that can have one in range.
 use mathlib.Core.Path.{refl, sym, ap, _∙_, subst}
 use native.Mathlib.Omega.{arith}
+use lib.ListN.{take}
 use lib.Seq.{length-take-le}
 use borrow.Author.Needs.{needs}
 use borrow.Author.Tests.{not-true, not-false}
@@ -12,7 +13,7 @@ use Rattle.writer.specs.Answer.{refused-so}
 use Rattle.writer.specs.Copied.{lent-behind}
 use Rattle.writer.specs.Weights.{weightsWritten}
 use Rattle.writer.specs.Judging.{weights-refused}
-use Rattle.writer.specs.Sets.{mostWords, outside-range, in-range-behind}
+use Rattle.writer.specs.Sets.{mostWords, outside-range, in-range-behind, set-delivered}
 use Rattle.writer.proofs.weight_file.Statement.{statement}
 use Rattle.writer.proofs.weight_file.Tie as tie
 
@@ -27,7 +28,9 @@ same-length : tie.Need-same-length
 same-length c = search needs
 
 returns : tie.Need-returns
-returns c = search needs
+returns c =
+    let s = c .before .before .before .before .before .before .before in
+    c .before .before .deliver-set .ensures ∙ set-delivered (s .args .words .now) (omega (arith, c .before .before .before .before .if1 .taken)) (s .args .room .now)
 
 sub-is-empty : tie.Need-sub-is-empty
 sub-is-empty c = search needs
@@ -65,7 +68,8 @@ returns-3 c =
     let a = start (c .before .before .before .before .before .before) .args in
     let words = a .words .now in
     let empty = subst Empty (lent-behind words mostWords mostWords refl) (c .before .before .before .before .before .before .is-empty .ensures .yes (not-false _ (c .before .before .before .before .before .if2 .left))) in
-    c .before .before .deliver-set2 .ensures ∙ ap (λ l. weightsWritten l (a .room .now)) (members-front mostWords words empty)
+    c .before .before .deliver-set2 .ensures ∙ set-delivered (take mostWords words) (omega (arith, length-take-le mostWords words (omega arith))) (a .room .now)
+    ∙ ap (λ l. weightsWritten l (a .room .now)) (members-front mostWords words empty)
 
 pub weight-file-spec : {M : Type 1} → statement M
 weight-file-spec =

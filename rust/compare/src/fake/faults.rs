@@ -1,6 +1,6 @@
 //! Faults to plant, one at a time.
 
-use super::limits::{Bound, Files, BOUNDS};
+use super::limits::{Bound, Files, BOUNDS, OF_EITHER_KIND};
 use std::cell::Cell;
 
 /// A fault that the comparison has to find.
@@ -9,6 +9,8 @@ pub enum Fault {
     Nothing,
     /// Some files are read by another limit than is due.
     By(Files, Bound),
+    /// Some task files are taken in the old kind alone.
+    OldKindAlone(Files),
     /// The checker takes weights although the ends are alike.
     AcceptsAlike,
     /// The checker's place leaves idle operators out.
@@ -453,11 +455,95 @@ pub enum Fault {
     ForgettingUnsettled,
     /// An added operator's new slots aren't settled.
     EditUnsettled,
+    /// The first pair of a gap list counts from the first two-variable feature.
+    FirstPairFromSingles,
+    /// Gaps are read as they are, not as less one.
+    GapsReadWhole,
+    /// Sums of gaps are kept in sixteen bits.
+    GapSumsInSixteenBits,
+    /// A gap list of pairs may begin with single atoms.
+    SinglesInGapLists,
+    /// A gap list may lead one past its range.
+    GapsOnePast,
+    /// A gap that leads past the range is refused as one that doesn't increase.
+    PastRangeUnordered,
+    /// A gap list is judged by its range once it is read to its end.
+    RangeAtListEnd,
+    /// Where a mark is due, a badly formed number is refused as another number.
+    MarkByFirstByte,
+    /// Where a mark is due, another number is refused 2.
+    MarkRefusedAsLimit,
+    /// Where an old task is due, a mark is refused 3.
+    OldRefusedAsRange,
+    /// A task file of the new kind is taken where it should be made.
+    ToNewTakesEither,
+    /// A task file of the old kind is taken where it should be made.
+    ToOldTakesEither,
+    /// Weights of the old kind are taken where new ones are due.
+    WeightsOfEitherKind,
+    /// Weights are read in the kind of the task.
+    WeightKindOfTask,
+    /// Beside a partial file weights are always read as old ones.
+    PartialTakesOldWeights,
+    /// What is shown of weights is always of old ones.
+    ShownAsOldWeights,
+    /// Places in files of the new kind count from behind the mark.
+    MarkUncounted,
+    /// A task file of the new kind is written without its mark.
+    MarkUnwritten,
+    /// A task file of the old kind is written behind a mark.
+    MarkKept,
+    /// Gaps are written as they are, not less one.
+    GapsWrittenWhole,
+    /// The first pair of a gap list is written from the first two-variable feature.
+    FirstWrittenFromSingles,
+    /// A file of the old kind is written with the gaps of the new one.
+    GapsLeft,
+    /// A weight file of the new kind is written without its mark.
+    WeightMarkUnwritten,
+    /// The mark of a weight file is written behind the count.
+    WeightMarkBehindCount,
+    /// A weight file of the old kind is written behind a mark.
+    WeightMarkKept,
+    /// A converted file has no third groups.
+    ConversionCutsNumbers,
+    /// Converting needs room for the file that came.
+    ConversionRoomAsCame,
+    /// Converting needs one byte more than is due.
+    ConversionRoomOneMore,
+    /// Room that is too short for a converted file is filled as far as it goes.
+    ConversionFillsShortRoom,
+    /// The byte behind a converted file is cleared.
+    ConversionClearsBehind,
+    /// A refused conversion clears the room.
+    ConversionSpoilsRefused,
+    /// No room is refused before a file to convert is judged.
+    ConversionRoomFirst,
+    /// No room is refused before the pairs of a task to convert are judged.
+    ConversionRoomBeforePairs,
+    /// The pairs of a task to convert aren't judged.
+    ConversionTakesUnclosed,
+    /// Badly formed numbers of a file to convert are refused 1, as before.
+    ConversionFormsAsBefore,
+    /// Weights to convert are judged before the task.
+    WeightsConvertedFirst,
+    /// Weights to convert may be features of any task.
+    WeightsConvertedWidely,
+    /// A mended file is always of the old kind.
+    MendingWritesOld,
+    /// A mended gap list keeps the gaps that came.
+    MendingKeepsGaps,
+    /// The dropped pairs of a task of the new kind are told by their gaps.
+    DroppedByGaps,
+    /// What is made of a task of the new kind by silencing has its mark.
+    SilencingKeepsMark,
+    /// What is made of a task of the new kind by silencing lists its pairs by gaps.
+    SilencingByGaps,
 }
 
 use Fault::*;
 
-const FAULTS: [Fault; 222] = [
+const FAULTS: [Fault; 264] = [
     AcceptsAlike,
     CountsLiveOperators,
     LastOperator,
@@ -680,6 +766,48 @@ const FAULTS: [Fault; 222] = [
     LastPartialSettlingLeftOut,
     ForgettingUnsettled,
     EditUnsettled,
+    FirstPairFromSingles,
+    GapsReadWhole,
+    GapSumsInSixteenBits,
+    SinglesInGapLists,
+    GapsOnePast,
+    PastRangeUnordered,
+    RangeAtListEnd,
+    MarkByFirstByte,
+    MarkRefusedAsLimit,
+    OldRefusedAsRange,
+    ToNewTakesEither,
+    ToOldTakesEither,
+    WeightsOfEitherKind,
+    WeightKindOfTask,
+    PartialTakesOldWeights,
+    ShownAsOldWeights,
+    MarkUncounted,
+    MarkUnwritten,
+    MarkKept,
+    GapsWrittenWhole,
+    FirstWrittenFromSingles,
+    GapsLeft,
+    WeightMarkUnwritten,
+    WeightMarkBehindCount,
+    WeightMarkKept,
+    ConversionCutsNumbers,
+    ConversionRoomAsCame,
+    ConversionRoomOneMore,
+    ConversionFillsShortRoom,
+    ConversionClearsBehind,
+    ConversionSpoilsRefused,
+    ConversionRoomFirst,
+    ConversionRoomBeforePairs,
+    ConversionTakesUnclosed,
+    ConversionFormsAsBefore,
+    WeightsConvertedFirst,
+    WeightsConvertedWidely,
+    MendingWritesOld,
+    MendingKeepsGaps,
+    DroppedByGaps,
+    SilencingKeepsMark,
+    SilencingByGaps,
 ];
 
 /// The faults that show only behind as many operators as a number counts, or among as many features
@@ -706,13 +834,14 @@ impl Fault {
     }
 }
 
-/// All faults, those of limits last.
+/// All faults, those of kinds and limits last.
 pub fn faults() -> Vec<Fault> {
     let by = |(files, bounds): &(Files, &'static [Bound])| {
         let files = *files;
         bounds.iter().map(move |bound| By(files, *bound))
     };
     let mut faults = FAULTS.to_vec();
+    faults.extend(OF_EITHER_KIND.map(OldKindAlone));
     faults.extend(BOUNDS.iter().flat_map(by));
     faults
 }

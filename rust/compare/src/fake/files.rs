@@ -2,12 +2,14 @@
 
 use super::faults::{planted, planted_fault, Fault::*};
 use super::forms::misread;
+use super::kinds::task_from;
 use super::limits::{read_both, reader, Files};
 use super::settling::spoil_opening;
 use reference::calls::{broken, denied, done, refused};
 use reference::feature_set::FeatureSet;
 use reference::features::{Atom, Feature};
 use reference::forced::slots;
+use reference::kinds::Kind;
 use reference::limits::{BEFORE, NOW};
 use reference::numbers::Reader;
 use reference::operators::{
@@ -15,7 +17,7 @@ use reference::operators::{
 };
 use reference::refusal::Refusal;
 use reference::separation::{keeps_by_changes, verdict, Verdict};
-use reference::task::{read_numbers, task_from, Task};
+use reference::task::{read_numbers, Task};
 use reference::weights::read_weights;
 use reference::workspace::{words_due, Workspace};
 use std::ops::{Range, RangeInclusive};
@@ -63,7 +65,7 @@ pub fn without_left_over(bytes: &[u8]) -> &[u8] {
 
 /// The task of a file, read as leniently as the planted fault says.
 fn lenient_task(bytes: &[u8]) -> Result<Task, Refusal> {
-    let read = |bytes: &[u8]| task_from(&mut reader(Files::Tasks, bytes));
+    let read = |bytes: &[u8]| task_from(Files::Tasks, &mut reader(Files::Tasks, bytes));
     let read = match planted_fault() {
         LongForms => read(&shortened(bytes, 2..=3)),
         NeedlessSecondPasses => read(&shortened(bytes, 2..=2)),
@@ -102,14 +104,14 @@ pub fn numbers_of(bytes: &[u8]) -> Vec<usize> {
     numbers
 }
 
-pub fn check(task: &[u8], weights: &[u8]) -> u64 {
+pub fn check(due: Kind, task: &[u8], weights: &[u8]) -> u64 {
     if planted(WeightsFirst) {
-        if let Err(refusal) = read_weights(weights, NOW.features) {
+        if let Err(refusal) = read_weights(due, weights, NOW.features) {
             return refused(refusal);
         }
     }
     let files = [(Files::Tasks, task), (Files::Weights, weights)];
-    let (task, weights) = match read_both(files) {
+    let (task, weights) = match read_both(due, files) {
         Ok(both) => both,
         Err(fault) => return refused(misread([task, weights], &fault)),
     };

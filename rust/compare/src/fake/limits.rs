@@ -1,13 +1,14 @@
 //! Files read by limits that haven't moved, or that have moved too far.
 
 use super::faults::{planted_fault, Fault};
+use super::kinds::{kind_beside, task_from, weights_from};
 use reference::feature_set::FeatureSet;
 use reference::features::count_features;
+use reference::kinds::Kind;
 use reference::limits::{Limits, BEFORE, NOW};
 use reference::numbers::Reader;
 use reference::places::{self, File};
-use reference::task::{task_from, Task};
-use reference::weights::weights_from;
+use reference::task::Task;
 
 /// What is read, and by which calls.
 #[derive(Clone, Copy, Debug, PartialEq, Eq)]
@@ -28,6 +29,10 @@ pub enum Files {
     Shown,
     ShownPartials,
     ShownBays,
+    /// Task files to convert, and those beside weights to convert.
+    Converted,
+    /// Weight files to convert.
+    ConvertedWeights,
 }
 
 /// A limit that isn't the rules'.
@@ -65,7 +70,7 @@ const OF_SLOTS: &[Bound] = &[
 ];
 
 /// The limits that decide about what is read.
-pub const BOUNDS: [(Files, &[Bound]); 10] = [
+pub const BOUNDS: [(Files, &[Bound]); 12] = [
     (Tasks, OF_FEATURES),
     (Weights, OF_NUMBERS),
     (Bays, OF_SLOTS),
@@ -76,7 +81,12 @@ pub const BOUNDS: [(Files, &[Bound]); 10] = [
     (Shown, OF_FEATURES),
     (ShownPartials, OF_FEATURES),
     (ShownBays, OF_SLOTS),
+    (Converted, OF_FEATURES),
+    (ConvertedWeights, OF_NUMBERS),
 ];
+
+/// The task files that may be of either kind.
+pub const OF_EITHER_KIND: [Files; 6] = [Tasks, Silenced, Mended, Printed, Shown, Converted];
 
 impl Bound {
     fn limits(self) -> Limits {
@@ -103,14 +113,18 @@ pub fn reader(files: Files, bytes: &[u8]) -> Reader<'_> {
     }
 }
 
-/// A task and weights for it, each read by the limit that is planted for it.
+/// A task and weights for it of the kind that is due, each read by the limit that is planted for it.
 pub fn read_both(
+    due: Kind,
     [(of_task, task), (of_weights, weights)]: [(Files, &[u8]); 2],
 ) -> Result<(Task, FeatureSet), places::Fault> {
-    let task = places::read(File::Task, reader(of_task, task), task_from)?;
+    let due = kind_beside(due, task);
+    let task = places::read(File::Task, reader(of_task, task), |reader| {
+        task_from(of_task, reader)
+    })?;
     let count = count_features(&task.sizes);
     let weights = places::read(File::Weights, reader(of_weights, weights), |reader| {
-        weights_from(reader, count)
+        weights_from(due, reader, count)
     })?;
     Ok((task, weights))
 }

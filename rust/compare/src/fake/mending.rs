@@ -2,14 +2,16 @@
 
 use super::faults::{planted, planted_fault, Fault::*};
 use super::files::without_left_over;
+use super::kinds::{mended_numbers, numbers_from};
 use super::limits::{reader, Files};
 use super::written::written_file;
 use reference::calls::{done, fill, held, settle, unclosed};
 use reference::features::Feature;
+use reference::kinds::{kind_of, Kind};
 use reference::mending::{first_fault, PairFault};
 use reference::operators::{Operator, Pairing};
 use reference::refusal::Refusal;
-use reference::task::{numbers_from, Task};
+use reference::task::Task;
 
 /// The listed pairs of an operator's after atoms, whatever excuses them.
 fn of_afters(pairing: &Pairing, operator: &Operator) -> Vec<usize> {
@@ -96,7 +98,7 @@ fn drops(task: &Task) -> Vec<usize> {
 
 /// A task to mend, read by the planted limit.
 fn read(bytes: &[u8]) -> Result<Task, Refusal> {
-    numbers_from(&mut reader(Files::Mended, bytes))
+    numbers_from(Files::Mended, &mut reader(Files::Mended, bytes))
 }
 
 /// A task to mend, judged as the planted fault says.
@@ -131,16 +133,17 @@ fn delivered(file: Result<Vec<u8>, Refusal>, room: &mut [u8]) -> u64 {
 }
 
 fn mended_file(bytes: &[u8], room: &[u8]) -> Result<Vec<u8>, Refusal> {
-    let mut task = judged(bytes, room)?;
+    let came = judged(bytes, room)?;
     if planted(MendingRoomAsCame) && room.len() < bytes.len() {
         return Err(Refusal::Room);
     }
-    let drops = drops(&task);
-    let count = task.pairs.len();
+    let drops = drops(&came);
+    let mut task = came.clone();
     task.pairs.retain(|pair| !drops.contains(pair));
-    let mut numbers = task.numbers();
+    let kind = kind_of(bytes);
+    let mut numbers = mended_numbers(&came, &task, kind);
     if planted(MendingCountAsCame) {
-        numbers[1 + 3 * task.sizes.len()] = count;
+        numbers[kind.front().len() + 1 + 3 * task.sizes.len()] = came.pairs.len();
     }
     Ok(written_file(MendingCutsNumbers, &numbers))
 }
@@ -168,7 +171,10 @@ fn dropped_file(bytes: &[u8], room: &[u8]) -> Result<Vec<u8>, Refusal> {
     if planted(DroppedWithoutLast) && drops.len() > 1 {
         drops.pop();
     }
-    let numbers = [&[drops.len()], &drops[..]].concat();
+    let numbers = match (planted_fault(), kind_of(bytes)) {
+        (DroppedByGaps, Kind::New) => Kind::New.list(&drops),
+        _ => [&[drops.len()], &drops[..]].concat(),
+    };
     Ok(written_file(DroppedCutsNumbers, &numbers))
 }
 

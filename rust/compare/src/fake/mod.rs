@@ -4,6 +4,7 @@ mod bays;
 mod faults;
 mod files;
 mod forms;
+mod kinds;
 mod limits;
 mod mending;
 mod partials;
@@ -20,9 +21,11 @@ use bays::build;
 use faults::{planted, Fault::*};
 use files::{check, open};
 use forms::misnumbered;
+use kinds::{convert, convert_weights};
 use mending::{dropped, mend, pair_fault};
 use partials::{build_partial, build_partial_lean, check_partial, open_partial, silence};
 use places::{display, display_bay, display_partial};
+use reference::kinds::Kind;
 use reference::workspace::Record;
 use words::{add_operator, find, replace_goal, replace_start};
 use written::{print, print_check, weight_file};
@@ -53,7 +56,8 @@ unsafe extern "C" fn florumeja_check(
     weights: *const u8,
     weights_length: usize,
 ) -> u64 {
-    let result = check(lent(task, task_length), lent(weights, weights_length));
+    let (task_bytes, weight_bytes) = (lent(task, task_length), lent(weights, weights_length));
+    let result = check(Kind::Old, task_bytes, weight_bytes);
     if planted(WritesInput) && task_length > 0 {
         task.cast_mut().write_volatile(0);
     }
@@ -209,7 +213,11 @@ unsafe extern "C" fn florumeja_check_partial(
     weights: *const u8,
     weights_length: usize,
 ) -> u64 {
-    let result = check_partial(lent(partial, partial_length), lent(weights, weights_length));
+    let result = check_partial(
+        Kind::Old,
+        lent(partial, partial_length),
+        lent(weights, weights_length),
+    );
     misnumbered(result, PartialFormsAsBefore)
 }
 
@@ -301,6 +309,7 @@ unsafe extern "C" fn florumeja_display(
     room_length: usize,
 ) -> u64 {
     let result = display(
+        Kind::Old,
         lent(task, task_length),
         lent(weights, weights_length),
         lent_for_writing(room, room_length),
@@ -338,4 +347,103 @@ unsafe extern "C" fn florumeja_display_bay(
     room_length: usize,
 ) -> u64 {
     display_bay(lent(bay, bay_length), lent_for_writing(room, room_length))
+}
+
+#[no_mangle]
+unsafe extern "C" fn florumeja_to_new(
+    task: *const u8,
+    task_length: usize,
+    room: *mut u8,
+    room_length: usize,
+) -> u64 {
+    let room = lent_for_writing(room, room_length);
+    let result = convert(Kind::Old, lent(task, task_length), room);
+    misnumbered(result, ConversionFormsAsBefore)
+}
+
+#[no_mangle]
+unsafe extern "C" fn florumeja_to_old(
+    task: *const u8,
+    task_length: usize,
+    room: *mut u8,
+    room_length: usize,
+) -> u64 {
+    let room = lent_for_writing(room, room_length);
+    let result = convert(Kind::New, lent(task, task_length), room);
+    misnumbered(result, ConversionFormsAsBefore)
+}
+
+#[no_mangle]
+unsafe extern "C" fn florumeja_weights_to_new(
+    task: *const u8,
+    task_length: usize,
+    weights: *const u8,
+    weights_length: usize,
+    room: *mut u8,
+    room_length: usize,
+) -> u64 {
+    let result = convert_weights(
+        Kind::Old,
+        lent(task, task_length),
+        lent(weights, weights_length),
+        lent_for_writing(room, room_length),
+    );
+    misnumbered(result, ConversionFormsAsBefore)
+}
+
+#[no_mangle]
+unsafe extern "C" fn florumeja_weights_to_old(
+    task: *const u8,
+    task_length: usize,
+    weights: *const u8,
+    weights_length: usize,
+    room: *mut u8,
+    room_length: usize,
+) -> u64 {
+    let result = convert_weights(
+        Kind::New,
+        lent(task, task_length),
+        lent(weights, weights_length),
+        lent_for_writing(room, room_length),
+    );
+    misnumbered(result, ConversionFormsAsBefore)
+}
+
+#[no_mangle]
+unsafe extern "C" fn florumeja_check_new(
+    task: *const u8,
+    task_length: usize,
+    weights: *const u8,
+    weights_length: usize,
+) -> u64 {
+    let (task, weights) = (lent(task, task_length), lent(weights, weights_length));
+    check(Kind::New, task, weights)
+}
+
+#[no_mangle]
+unsafe extern "C" fn florumeja_check_partial_new(
+    partial: *const u8,
+    partial_length: usize,
+    weights: *const u8,
+    weights_length: usize,
+) -> u64 {
+    let (partial, weights) = (lent(partial, partial_length), lent(weights, weights_length));
+    check_partial(Kind::New, partial, weights)
+}
+
+#[no_mangle]
+unsafe extern "C" fn florumeja_display_new(
+    task: *const u8,
+    task_length: usize,
+    weights: *const u8,
+    weights_length: usize,
+    room: *mut u64,
+    room_length: usize,
+) -> u64 {
+    display(
+        Kind::New,
+        lent(task, task_length),
+        lent(weights, weights_length),
+        lent_for_writing(room, room_length),
+    )
 }

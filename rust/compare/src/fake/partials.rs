@@ -2,11 +2,13 @@
 
 use super::faults::{planted, planted_fault, Fault::*};
 use super::files::numbers_of;
+use super::kinds::{kind_beside, task_from, weights_from};
 use super::limits::{reader, Files};
 use super::settling::spoil_partial_opening;
 use super::written::written_file;
 use reference::calls::{broken, denied, done, refused};
 use reference::features::{count_features, Atom};
+use reference::kinds::{kind_of, Kind};
 use reference::limits::{BEFORE, LARGEST, NOW};
 use reference::numbers::encode;
 use reference::operators::{Operator, Pairing};
@@ -16,8 +18,7 @@ use reference::partial::{
 use reference::refusal::Refusal;
 use reference::sample::partials::completed;
 use reference::separation::{verdict, Verdict};
-use reference::task::{judge_pairs, task_from, Task};
-use reference::weights::weights_from;
+use reference::task::{judge_pairs, Task};
 use reference::workspace::Workspace;
 
 /// A partial file, read as leniently as the planted fault says.
@@ -221,11 +222,16 @@ pub fn build_partial_lean(partial: &[u8], room: &mut [u8]) -> u64 {
     delivered(faulty_built(partial, LeftOut::Lean).map(built_file), room)
 }
 
-pub fn check_partial(partial: &[u8], weights: &[u8]) -> u64 {
-    faulty_verdict(partial, weights).unwrap_or_else(refused)
+pub fn check_partial(due: Kind, partial: &[u8], weights: &[u8]) -> u64 {
+    faulty_verdict(due, partial, weights).unwrap_or_else(refused)
 }
 
-fn faulty_verdict(bytes: &[u8], weights: &[u8]) -> Result<u64, Refusal> {
+fn faulty_verdict(due: Kind, bytes: &[u8], weights: &[u8]) -> Result<u64, Refusal> {
+    let due = if planted(PartialTakesOldWeights) {
+        Kind::Old
+    } else {
+        kind_beside(due, bytes)
+    };
     let task = faulty_built(bytes, LeftOut::ByLetter)?;
     let partial = lenient_partial(bytes)?;
     let sizes = if planted(WeightsByOwnSizes) {
@@ -233,7 +239,10 @@ fn faulty_verdict(bytes: &[u8], weights: &[u8]) -> Result<u64, Refusal> {
     } else {
         &task.sizes
     };
-    let read = |sizes| weights_from(&mut reader(Files::Weights, weights), count_features(sizes));
+    let read = |sizes| {
+        let mut reader = reader(Files::Weights, weights);
+        weights_from(due, &mut reader, count_features(sizes))
+    };
     read(sizes)?;
     let weights = read(&task.sizes)?;
     Ok(match verdict(&task, &weights) {
@@ -280,7 +289,8 @@ fn faulty_silence(task: &[u8], marks: &[u8]) -> Result<Vec<u8>, Refusal> {
     if planted(MarksBeforeTask) && marks.iter().any(|mark| *mark > 1) {
         return Err(Refusal::Range);
     }
-    let task = task_from(&mut reader(Files::Silenced, task))?;
+    let kind = kind_of(task);
+    let task = task_from(Files::Silenced, &mut reader(Files::Silenced, task))?;
     let marks = lenient_marks(marks, task.sizes.len());
     let silent = silenced(&task, &marks);
     if planted(SilencesTooLarge) && silent == Err(Refusal::Limit) {
@@ -304,5 +314,21 @@ fn faulty_silence(task: &[u8], marks: &[u8]) -> Result<Vec<u8>, Refusal> {
         numbers.splice(states..states + named, task.goal);
         return Ok(encode(&numbers));
     }
-    Ok(written_file(SilencingCutsNumbers, &partial.numbers()))
+    let numbers = silenced_numbers(kind, &partial);
+    Ok(written_file(SilencingCutsNumbers, &numbers))
+}
+
+/// The numbers of a partial file that is made of a task of some kind.
+fn silenced_numbers(kind: Kind, partial: &Partial) -> Vec<usize> {
+    let mut numbers = partial.numbers();
+    match (planted_fault(), kind) {
+        (SilencingKeepsMark, Kind::New) => numbers.insert(0, 0),
+        (SilencingByGaps, Kind::New) => {
+            let list = 1 + 3 * partial.sizes.len() + partial.goal_atoms().len();
+            let gaps = Kind::New.list(&partial.pairs);
+            numbers.splice(list..list + gaps.len(), gaps);
+        }
+        _ => {}
+    }
+    numbers
 }

@@ -6,6 +6,7 @@ use super::limits::{self, reader};
 use reference::bay::bay_from;
 use reference::calls::{done, in_weights, refused};
 use reference::features::count_features;
+use reference::kinds::{kind_of, Kind};
 use reference::limits::{MOST_LINE_BYTES, NOW};
 use reference::partial::{built_from, read_partial, LeftOut};
 use reference::places::{read, read_weight_file, Fault, File, Part};
@@ -18,6 +19,8 @@ use std::ops::Range;
 struct Files<'a> {
     task: &'a [u8],
     weights: &'a [u8],
+    /// The kind of weights that is due.
+    due: Kind,
 }
 
 impl<'a> Files<'a> {
@@ -25,6 +28,14 @@ impl<'a> Files<'a> {
         match file {
             File::Task => self.task,
             File::Weights => self.weights,
+        }
+    }
+
+    /// Whether a file is read as one of the new kind.
+    fn marked(self, file: File) -> bool {
+        match file {
+            File::Task => kind_of(self.task) == Kind::New,
+            File::Weights => self.due == Kind::New,
         }
     }
 }
@@ -46,22 +57,32 @@ fn number_before(bytes: &[u8], place: usize) -> Range<usize> {
     numbers.pop().unwrap_or(0..0)
 }
 
+/// Where the count of variables stands, or the rows of a bay.
+fn count_place(bytes: &[u8]) -> usize {
+    match kind_of(bytes) {
+        Kind::Old => 0,
+        Kind::New => 1,
+    }
+}
+
 /// Whether the last of several numbers is at fault though it is good in itself.
 fn broken_by_several(bytes: &[u8], part: &Range<usize>) -> bool {
     let last = bytes[part.start];
-    let sides = part.start == 1 && (1..=9).contains(&last);
+    let count = count_place(bytes);
+    let sides = part.start == 1 && count == 0 && (1..=9).contains(&last);
     // A single size never makes too many features.
-    let sizes = part.start > 1 && part.start == usize::from(bytes[0]);
+    let sizes = part.start > count + 1 && part.start == count + usize::from(bytes[count]);
     sides || sizes && (1..=64).contains(&last)
 }
 
 /// The part of a limit that several numbers break: sizes, or the sides of a bay.
 fn faulty_limit(bytes: &[u8], part: Range<usize>) -> Range<usize> {
     let sides = part.start == 1;
+    let count = count_place(bytes);
     match planted_fault() {
         FeaturesBehindSizes if !sides => number_at(bytes, part.end),
-        FeaturesAtCount if !sides => 0..1,
-        FeaturesAtAllSizes if !sides => 1..part.end,
+        FeaturesAtCount if !sides => count..count + 1,
+        FeaturesAtAllSizes if !sides => count + 1..part.end,
         SlotsAtRows if sides => 0..1,
         SlotsBehindSides if sides => number_at(bytes, part.end),
         _ => part,
@@ -86,8 +107,8 @@ fn part_by_reason(bytes: &[u8], refusal: Refusal, part: Range<usize>) -> Range<u
     }
 }
 
-/// What the planted fault makes of any part.
-fn faulty_part(bytes: &[u8], part: Range<usize>) -> Range<usize> {
+/// What the planted fault makes of any part of a file with a mark or without.
+fn faulty_part(bytes: &[u8], marked: bool, part: Range<usize>) -> Range<usize> {
     let (start, end) = (part.start, part.end);
     match planted_fault() {
         PlaceOneByteOn => start + 1..end + 1,
@@ -105,6 +126,7 @@ fn faulty_part(bytes: &[u8], part: Range<usize>) -> Range<usize> {
         NoLength => start..start,
         OneByteShown => start..end.min(start + 1),
         ShownToTheEnd => start..bytes.len(),
+        MarkUncounted if marked && start > 0 => start - 1..end - 1,
         _ => part,
     }
 }
@@ -112,7 +134,8 @@ fn faulty_part(bytes: &[u8], part: Range<usize>) -> Range<usize> {
 /// The part of a refusal that has a place.
 fn placed(files: Files, refusal: Refusal, part: Part) -> Part {
     let bytes = files.bytes(part.file);
-    let range = faulty_part(bytes, part_by_reason(bytes, refusal, part.bytes));
+    let range = part_by_reason(bytes, refusal, part.bytes);
+    let range = faulty_part(bytes, files.marked(part.file), range);
     let behind_task = range.start + files.task.len()..range.end + files.task.len();
     let (file, bytes) = match (planted_fault(), part.file) {
         (TaskShownInWeights, File::Task) => (File::Weights, range),
@@ -147,7 +170,7 @@ fn unplaced(files: Files, refusal: Option<Refusal>) -> Part {
 
 /// The fault that is shown, where the planted one doesn't judge the files in their order.
 fn shown_fault(files: Files, fault: Option<Fault>) -> Option<Fault> {
-    let weights = || read_weight_file(files.weights, NOW.features).err();
+    let weights = || read_weight_file(files.due, files.weights, NOW.features).err();
     let unplaced = fault.as_ref().is_some_and(|fault| fault.part.is_none());
     match planted_fault() {
         WeightsShownFirst => weights().or(fault),
@@ -217,13 +240,18 @@ fn told(files: Files, fault: Option<Fault>, room: &mut [u64]) -> u64 {
     }
 }
 
-pub fn display(task: &[u8], weights: &[u8], room: &mut [u64]) -> u64 {
-    let files = Files { task, weights };
+pub fn display(due: Kind, task: &[u8], weights: &[u8], room: &mut [u64]) -> u64 {
+    let due = if planted(ShownAsOldWeights) {
+        Kind::Old
+    } else {
+        due
+    };
+    let files = Files { task, weights, due };
     let read = [
         (limits::Files::Shown, task),
         (limits::Files::Shown, weights),
     ];
-    let fault = limits::read_both(read).err();
+    let fault = limits::read_both(due, read).err();
     told(files, shown_fault(files, fault), room)
 }
 
@@ -231,6 +259,7 @@ pub fn display_partial(partial: &[u8], weights: &[u8], room: &mut [u64]) -> u64 
     let files = Files {
         task: partial,
         weights,
+        due: Kind::Old,
     };
     told(files, shown_fault(files, partial_fault(files)), room)
 }
@@ -251,13 +280,14 @@ fn partial_fault(files: Files) -> Option<Fault> {
         Ok(partial) if planted(ShownByOwnSizes) => partial.sizes,
         _ => sizes,
     };
-    read_weight_file(files.weights, count_features(&sizes)).err()
+    read_weight_file(files.due, files.weights, count_features(&sizes)).err()
 }
 
 pub fn display_bay(bay: &[u8], room: &mut [u64]) -> u64 {
     let files = Files {
         task: bay,
         weights: &[],
+        due: Kind::Old,
     };
     let by_limits = reader(limits::Files::ShownBays, bay);
     let answer = told(files, read(File::Task, by_limits, bay_from).err(), room);

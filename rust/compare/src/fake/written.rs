@@ -1,17 +1,18 @@
 //! The lines and weight files with faults.
 
 use super::faults::{planted, planted_fault, Fault, Fault::*};
+use super::kinds::task_from;
 use super::limits::{read_both, reader, Files};
 use super::NO_ROOM;
 use reference::calls::{done, fill, refused, settle};
 use reference::feature_set::FeatureSet;
 use reference::features::count_features;
+use reference::kinds::Kind;
 use reference::limits::{BEFORE, MOST_LINE_BYTES, MOST_LINE_FEATURES, NOW};
 use reference::line;
 use reference::numbers::encode;
 use reference::places::{read, File};
 use reference::refusal::Refusal;
-use reference::task::task_from;
 use reference::weights::weight_numbers;
 use reference::workspace::Workspace;
 
@@ -50,7 +51,11 @@ fn faulty_line(input: &[u8]) -> String {
 
 /// The finder's line where other limits than are due lead to it.
 fn line_by_limits(input: &[u8]) -> Option<String> {
-    match read(File::Task, reader(Files::Printed, input), task_from) {
+    let by_limits = reader(Files::Printed, input);
+    let read = read(File::Task, by_limits, |reader| {
+        task_from(Files::Printed, reader)
+    });
+    match read {
         _ if input.len() > MOST_LINE_BYTES => None,
         Ok(task) if count_features(&task.sizes) > NOW.features => Some("refused 8\n".to_string()),
         Ok(task) if planted(LineFeaturesMoved) => {
@@ -103,7 +108,7 @@ fn faulty_file(text: String) -> String {
 
 fn faulty_check_line(task: &[u8], weights: &[u8]) -> String {
     let files = [(Files::Printed, task), (Files::Printed, weights)];
-    let text = match read_both(files) {
+    let text = match read_both(Kind::Old, files) {
         Ok(_) => line::check_line(task, weights),
         Err(fault) => line::refused_beside(&fault) + "\n",
     };

@@ -6,6 +6,7 @@ use reference::calls;
 use reference::feature_set::{words_for, FeatureSet};
 use reference::features::count_features;
 use reference::sample::damage::damaged_file;
+use reference::sample::kinds;
 use reference::sample::tasks::{
     loose_task, loose_weights, meeting_weights, operator, LIBRARY_EDGES, PAST_EDGES,
 };
@@ -57,7 +58,8 @@ pub fn weights(both: &mut Both, generator: &mut Generator) {
     if generator.once_in(2) {
         part_ends(generator, &task, &mut weights);
     }
-    both.check(&task.file(), &weight_file(&weights));
+    let file = kinds::file(generator, &task);
+    both.check(&file, &weight_file(&weights));
     // Late operators that the weights don't know make the place of the first one tell.
     let pairing = task.pairing();
     for _ in 0..generator.between(1, 4) {
@@ -67,8 +69,9 @@ pub fn weights(both: &mut Both, generator: &mut Generator) {
             task.operators.insert(place, late);
         }
     }
-    both.check(&task.file(), &weight_file(&weights));
-    check_line(both, generator, &task.file(), &weight_file(&weights));
+    let file = kinds::file(generator, &task);
+    both.check(&file, &weight_file(&weights));
+    check_line(both, generator, &file, &weight_file(&weights));
 }
 
 /// Weight files with faults, sometimes next to a faulty task file.
@@ -84,14 +87,14 @@ pub fn damaged_weights(both: &mut Both, generator: &mut Generator) {
         numbers[0] += 1;
     }
     let file = damaged_file(generator, &numbers);
-    if generator.once_in(8) {
-        let task = damaged_file(generator, &task.numbers());
-        both.check(&task, &file);
-        check_line(both, generator, &task, &file);
+    let task = if generator.once_in(8) {
+        let numbers = kinds::numbers(generator, &task);
+        damaged_file(generator, &numbers)
     } else {
-        both.check(&task.file(), &file);
-        check_line(both, generator, &task.file(), &file);
-    }
+        kinds::file(generator, &task)
+    };
+    both.check(&task, &file);
+    check_line(both, generator, &task, &file);
 }
 
 /// The room that a file's opening needs, or some where it is refused.
@@ -104,10 +107,11 @@ pub fn damaged_tasks(both: &mut Both, generator: &mut Generator) {
     let numbers = if generator.once_in(50) {
         // Too many features or just not, and values that must not be judged after too many.
         let sizes = generator.choose(&[&LIBRARY_EDGES[..], &PAST_EDGES].concat());
-        [&[sizes.len()], sizes, &[0, 1, 70]].concat()
+        kinds::fronted(generator, &[&[sizes.len()], sizes, &[0, 1, 70]].concat())
     } else {
         let sizes = some_sizes(generator);
-        loose_task(generator, &sizes, 4).numbers()
+        let task = loose_task(generator, &sizes, 4);
+        kinds::numbers(generator, &task)
     };
     let file = damaged_file(generator, &numbers);
     if generator.once_in(3) {
@@ -130,18 +134,19 @@ pub fn unclosed_tasks(both: &mut Both, generator: &mut Generator) {
         task.pairs
             .retain(|pair| !features.feature(*pair).holds(&start));
     }
+    let file = kinds::file(generator, &task);
     if generator.once_in(4) {
-        both.check(&task.file(), &[1, 0]);
+        both.check(&file, &[1, 0]);
     } else {
         let room = room(generator, words_due(&sizes));
-        both.open(&task.file(), &room);
+        both.open(&file, &room);
     }
 }
 
 /// Accepted tasks in all kinds of room, what the finder says, and what the checker says to it.
 pub fn openings(both: &mut Both, generator: &mut Generator) {
     let task = task(generator);
-    let file = task.file();
+    let file = kinds::file(generator, &task);
     let due = words_due(&task.sizes);
     let narrow = room(generator, due);
     both.open(&file, &narrow);

@@ -7,6 +7,7 @@ use reference::limits::{BEFORE, LARGEST};
 use reference::operators::{Entry, Operator};
 use reference::partial::{built_sizes, LeftOut, Partial};
 use reference::sample::handmade::hold_pair;
+use reference::sample::kinds;
 use reference::sample::partials::{accepted_partial, completed};
 use reference::sample::Generator;
 use reference::workspace::words_due;
@@ -43,7 +44,8 @@ fn judge_count(both: &mut Both, generator: &mut Generator, partial: &Partial, le
 fn silence(both: &mut Both, generator: &mut Generator, partial: &Partial) {
     let file = partial.file();
     let room = generator.bytes(file.len());
-    let written = both.silence(&completed(partial).file(), &partial.marks(), &room);
+    let task = kinds::file(generator, &completed(partial));
+    let written = both.silence(&task, &partial.marks(), &room);
     assert_eq!(written.memory, file, "silencing asks for no count");
 }
 

@@ -7,9 +7,11 @@ use super::{ample_room, check_line, room};
 use crate::both::Both;
 use reference::feature_set::words_for;
 use reference::features::count_features;
+use reference::kinds::Kind;
 use reference::limits::{BEFORE, LARGEST};
 use reference::operators::{Entry, Operator};
 use reference::sample::bays::{bay, shapes};
+use reference::sample::kinds;
 use reference::sample::tasks::{
     accepted_task, meeting_weights, operator, scaled_task, sizes, Scale, FORMER_EDGES, LARGE, TINY,
     WIDE,
@@ -48,7 +50,7 @@ pub fn many_operators(both: &mut Both, generator: &mut Generator) {
             task.operators.insert(place, late);
         }
     }
-    let file = task.file();
+    let file = kinds::file(generator, &task);
     both.check(&file, &weight_file(&weights));
     check_line(both, generator, &file, &weight_file(&weights));
     let room = ample_room(generator, words_due(&task.sizes));
@@ -59,7 +61,7 @@ pub fn many_operators(both: &mut Both, generator: &mut Generator) {
 
 /// Every call on one task.
 pub(super) fn every_call(both: &mut Both, generator: &mut Generator, task: &Task) {
-    let file = task.file();
+    let file = kinds::file(generator, task);
     let weights = meeting_weights(generator, task);
     both.check(&file, &weight_file(&weights));
     let due = words_due(&task.sizes);
@@ -102,8 +104,8 @@ fn counted(generator: &mut Generator, count: usize, pairs: &[usize]) -> Task {
 
 /// Every call that tells an operator's number, or a place behind all of them, where the last one is
 /// at fault.
-fn last_at_fault(both: &mut Both, generator: &mut Generator, count: usize) {
-    let file = counted(generator, count, &[]).file();
+fn last_at_fault(both: &mut Both, generator: &mut Generator, kind: Kind, count: usize) {
+    let file = counted(generator, count, &[]).file_of(kind);
     // The back digit's 0 parts the ends.
     let weights = [1, 2];
     both.check(&file, &weights);
@@ -112,7 +114,7 @@ fn last_at_fault(both: &mut Both, generator: &mut Generator, count: usize) {
     let words = ample_room(generator, 2);
     both.display(&file[..file.len() - 1], &weights, &words);
     // Both digits 1 is a pair that the last operator makes true.
-    let file = counted(generator, count, &[7]).file();
+    let file = counted(generator, count, &[7]).file_of(kind);
     both.pair_fault(&file, &words);
     let room = generator.bytes(file.len());
     both.mend(&file, &room);
@@ -123,13 +125,16 @@ fn last_at_fault(both: &mut Both, generator: &mut Generator, count: usize) {
 pub fn long_counts(both: &mut Both, generator: &mut Generator) {
     for counts in [[16_382, 16_383, 16_384], [65_536, 65_537, 100_000]] {
         let count = generator.choose(&counts);
-        last_at_fault(both, generator, count);
+        for kind in Kind::BOTH {
+            last_at_fault(both, generator, kind, count);
+        }
     }
 }
 
 /// As many operators as a number counts.
 pub fn operators_in_millions(both: &mut Both, generator: &mut Generator) {
-    last_at_fault(both, generator, LARGEST - 1);
+    let kind = kinds::kind(generator);
+    last_at_fault(both, generator, kind, LARGEST - 1);
 }
 
 /// Sizes of more features than there could be before, but of few enough to open many such tasks.

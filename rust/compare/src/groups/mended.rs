@@ -4,6 +4,7 @@ use super::kept::staying;
 use super::{ample_room, byte_room, scale, some_sizes};
 use crate::both::Both;
 use reference::calls::done;
+use reference::kinds::kind_of;
 use reference::mending::{dropped, mended};
 use reference::numbers::encode;
 use reference::sample::bays::shapes_within;
@@ -11,6 +12,7 @@ use reference::sample::damage::damaged_file;
 use reference::sample::handmade::{
     every_list, every_operator, handmade_bay, handmade_task, paired_sizes,
 };
+use reference::sample::kinds;
 use reference::sample::tasks::{
     sizes, Scale, FORMER_EDGES, LARGE, LIBRARY_EDGES, PAST_EDGES, SMALL, TINY, WIDE,
 };
@@ -21,7 +23,7 @@ use reference::workspace::words_due;
 use std::slice::from_ref;
 
 /// A task of some scale, mostly one that has two-variable features.
-fn handmade(generator: &mut Generator) -> Task {
+pub(super) fn handmade(generator: &mut Generator) -> Task {
     let sizes = if generator.once_in(20) {
         some_sizes(generator)
     } else {
@@ -34,7 +36,8 @@ fn handmade(generator: &mut Generator) -> Task {
 
 /// The bytes that a mended file needs, or some where it is refused.
 fn mended_length(file: &[u8]) -> usize {
-    read_numbers(file).map_or(40, |task| mended(&task).file().len())
+    let kind = kind_of(file);
+    read_numbers(file).map_or(40, |task| mended(&task).file_of(kind).len())
 }
 
 /// The bytes that the dropped pairs need, or some where the file is refused.
@@ -61,7 +64,7 @@ fn tell_fault(both: &mut Both, generator: &mut Generator, file: &[u8]) {
 
 /// Every call, in all kinds of room.
 pub(super) fn every_call(both: &mut Both, generator: &mut Generator, task: &Task) {
-    let file = task.file();
+    let file = kinds::file(generator, task);
     mend(both, generator, &file);
     tell_dropped(both, generator, &file);
     tell_fault(both, generator, &file);
@@ -69,8 +72,9 @@ pub(super) fn every_call(both: &mut Both, generator: &mut Generator, task: &Task
 
 /// What is written is a good task: it opens, nothing is at fault or dropped, and it stays as it is.
 fn mend_twice(both: &mut Both, generator: &mut Generator, task: &Task) {
-    let room = generator.bytes(mended(task).file().len());
-    let file = both.mend(&task.file(), &room).memory;
+    let kind = kinds::kind(generator);
+    let room = generator.bytes(mended(task).file_of(kind).len());
+    let file = both.mend(&task.file_of(kind), &room).memory;
     let again = both.mend(&file, &room).memory;
     assert_eq!(again, file, "a good list comes back");
     let room = generator.bytes(1);
@@ -102,7 +106,7 @@ pub fn step_by_step(both: &mut Both, generator: &mut Generator) {
     let kept = mended(&task);
     loop {
         let room = generator.words(2);
-        let fault = both.pair_fault(&task.file(), &room);
+        let fault = both.pair_fault(&kinds::file(generator, &task), &room);
         if fault.number == done(0) {
             break;
         }
@@ -115,15 +119,24 @@ pub fn step_by_step(both: &mut Both, generator: &mut Generator) {
 pub fn damaged(both: &mut Both, generator: &mut Generator) {
     let file = if generator.once_in(50) {
         let sizes = generator.choose(&[&LIBRARY_EDGES[..], &PAST_EDGES].concat());
-        encode(&[&[sizes.len()], sizes, &[0, 1, 70]].concat())
+        encode(&kinds::fronted(
+            generator,
+            &[&[sizes.len()], sizes, &[0, 1, 70]].concat(),
+        ))
     } else {
-        let numbers = handmade(generator).numbers();
+        let task = handmade(generator);
+        let numbers = kinds::numbers(generator, &task);
         damaged_file(generator, &numbers)
     };
+    some_call(both, generator, &file);
+}
+
+/// One of the calls, in all kinds of room.
+pub(super) fn some_call(both: &mut Both, generator: &mut Generator, file: &[u8]) {
     match generator.below(3) {
-        0 => mend(both, generator, &file),
-        1 => tell_dropped(both, generator, &file),
-        _ => tell_fault(both, generator, &file),
+        0 => mend(both, generator, file),
+        1 => tell_dropped(both, generator, file),
+        _ => tell_fault(both, generator, file),
     }
 }
 
@@ -186,7 +199,7 @@ pub fn every(both: &mut Both, generator: &mut Generator) {
 }
 
 fn in_rooms(both: &mut Both, generator: &mut Generator, task: &Task) {
-    let file = task.file();
+    let file = kinds::file(generator, task);
     for length in 0..mended_length(&file) + 2 {
         let room = generator.bytes(length);
         both.mend(&file, &room);
@@ -202,7 +215,7 @@ fn in_rooms(both: &mut Both, generator: &mut Generator, task: &Task) {
 }
 
 fn in_long_room(both: &mut Both, generator: &mut Generator, task: &Task) {
-    let file = task.file();
+    let file = kinds::file(generator, task);
     let room = generator.bytes(file.len());
     both.mend(&file, &room);
     let room = generator.bytes(1 + task.pairs.len());

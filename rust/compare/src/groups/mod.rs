@@ -1,9 +1,12 @@
 //! Groups of random inputs, with the number of cases that each one runs.
 
 mod bays;
+mod converted;
+mod converted_weights;
 mod edits;
 mod files;
 mod kept;
+mod kinds;
 mod large;
 mod lines;
 mod mended;
@@ -30,7 +33,7 @@ pub struct Group {
 }
 
 /// The counts make an optimised run take about two minutes.
-pub const GROUPS: [Group; 72] = [
+pub const GROUPS: [Group; 87] = [
     Group {
         name: "weights",
         cases: 40_000,
@@ -390,6 +393,81 @@ pub const GROUPS: [Group; 72] = [
         name: "settled",
         cases: 5_000,
         run: settled::opened,
+    },
+    Group {
+        name: "converted",
+        cases: 12_000,
+        run: converted::converted,
+    },
+    Group {
+        name: "damaged-converted",
+        cases: 80_000,
+        run: converted::damaged,
+    },
+    Group {
+        name: "damaged-new-tasks",
+        cases: 40_000,
+        run: converted::damaged_tasks,
+    },
+    Group {
+        name: "gap-lists-about-ranges",
+        cases: 30_000,
+        run: converted::edged,
+    },
+    Group {
+        name: "converted-weights",
+        cases: 10_000,
+        run: converted_weights::weights,
+    },
+    Group {
+        name: "damaged-converted-weights",
+        cases: 40_000,
+        run: converted_weights::damaged_weights,
+    },
+    Group {
+        name: "new-weights-beside-partials",
+        cases: 4_000,
+        run: converted_weights::beside_partials,
+    },
+    Group {
+        name: "converted-bays",
+        cases: 60,
+        run: converted::bays,
+    },
+    Group {
+        name: "wider-converted",
+        cases: 200,
+        run: converted::wider,
+    },
+    Group {
+        name: "converted-cut-at-limits",
+        cases: 2_000,
+        run: converted::cut_at_limits,
+    },
+    Group {
+        name: "many-operators-converted",
+        cases: 100,
+        run: converted::many_operators,
+    },
+    Group {
+        name: "every-small-list-converted",
+        cases: 1,
+        run: converted::every,
+    },
+    Group {
+        name: "every-small-weight-list-converted",
+        cases: 1,
+        run: converted_weights::every_weights,
+    },
+    Group {
+        name: "every-first-number",
+        cases: 1,
+        run: converted::every_first_number,
+    },
+    Group {
+        name: "converted-at-every-length",
+        cases: 2_000,
+        run: converted::every_length,
     },
 ];
 

@@ -6,11 +6,13 @@ use super::lines::print;
 use super::{ample_room, check_line, room, scale, some_sizes, task};
 use crate::both::Both;
 use reference::features::count_features;
+use reference::kinds::Kind;
 use reference::limits::LARGEST;
 use reference::numbers::encode;
 use reference::partial::built_sizes;
 use reference::sample::bays::{bay, mislabel, shapes, shapes_within};
 use reference::sample::damage::{bad_forms, damaged_file};
+use reference::sample::kinds;
 use reference::sample::partials::{
     self, accepted_partial, completed, loose_partial, PARTIAL_EDGES, PARTIAL_PAST_EDGES,
 };
@@ -19,10 +21,10 @@ use reference::sample::tasks::{
     PAST_EDGES, SMALL, TINY,
 };
 use reference::sample::Generator;
-use reference::weights::weight_numbers;
+use reference::weights::{weight_numbers, weight_numbers_of};
 
 /// Weight files to stand beside a file at fault: good ones, and all kinds of bad ones.
-const BESIDE: [&[u8]; 12] = [
+const BESIDE: [&[u8]; 18] = [
     &[0],
     &[1, 0],
     &[1, 0, 0],
@@ -35,6 +37,13 @@ const BESIDE: [&[u8]; 12] = [
     &[0x81, 0x80, 0x00],
     &[1, 0x80, 0x80],
     &[1, 0x80, 0x80, 0x80],
+    // As new ones.
+    &[0, 0],
+    &[0, 1, 0],
+    &[0, 2, 0, 0],
+    &[0, 2, 0, 0xFF, 0xFF, 0x7F],
+    &[0, 1],
+    &[0, 1, 0x80, 0x00],
 ];
 
 /// Now and then a file is whole; then its pairs are judged, or bytes left over, or its weights.
@@ -49,11 +58,16 @@ pub(super) fn perhaps_damaged(generator: &mut Generator, numbers: &[usize]) -> V
 /// Task files with faults, beside weights of all kinds, and what both programs say to them.
 pub fn tasks(both: &mut Both, generator: &mut Generator) {
     let sizes = some_sizes(generator);
-    let numbers = loose_task(generator, &sizes, 4).numbers();
+    let task = loose_task(generator, &sizes, 4);
+    let numbers = kinds::numbers(generator, &task);
     let file = perhaps_damaged(generator, &numbers);
     let weights = generator.choose(&BESIDE);
     let room = room(generator, 2);
-    both.display(&file, weights, &room);
+    if generator.once_in(2) {
+        both.display(&file, weights, &room);
+    } else {
+        both.display_new(&file, weights, &room);
+    }
     match generator.below(4) {
         0 => print(both, generator, &file),
         1 => check_line(both, generator, &file, weights),
@@ -74,7 +88,7 @@ fn some_weights(generator: &mut Generator, count: usize) -> Vec<usize> {
 /// Weight files with faults beside an accepted task.
 pub fn weights(both: &mut Both, generator: &mut Generator) {
     let task = task(generator);
-    let file = task.file();
+    let file = kinds::file(generator, &task);
     let numbers = some_weights(generator, count_features(&task.sizes));
     for _ in 0..3 {
         let weights = perhaps_damaged(generator, &numbers);
@@ -145,18 +159,20 @@ fn some_subject(generator: &mut Generator) -> Subject {
     // The features of a medium task take two bytes.
     let scale = generator.choose(&[TINY, SMALL, MEDIUM]);
     let sizes = partials::sizes(generator, scale);
-    match generator.below(5) {
+    match generator.below(6) {
         0 => task_subject(generator, &sizes),
         1 => weights_subject(generator, &sizes),
         2 => partial_subject(generator, &sizes),
         3 => partial_weights_subject(generator, &sizes),
+        4 => new_weights_subject(generator, &sizes),
         _ => bay_subject(generator),
     }
 }
 
 fn task_subject(generator: &mut Generator, sizes: &[usize]) -> Subject {
+    let task = accepted_task(generator, sizes, 4);
     Subject {
-        numbers: accepted_task(generator, sizes, 4).numbers(),
+        numbers: kinds::numbers(generator, &task),
         show: Box::new(|both, task, room| {
             both.display(task, &[1, 0], room);
         }),
@@ -164,12 +180,25 @@ fn task_subject(generator: &mut Generator, sizes: &[usize]) -> Subject {
 }
 
 fn weights_subject(generator: &mut Generator, sizes: &[usize]) -> Subject {
-    let task = accepted_task(generator, sizes, 4).file();
+    let task = accepted_task(generator, sizes, 4);
+    let task = kinds::file(generator, &task);
     let weights = loose_weights(generator, count_features(sizes));
     Subject {
         numbers: weight_numbers(&weights),
         show: Box::new(move |both, weights, room| {
             both.display(&task, weights, room);
+        }),
+    }
+}
+
+fn new_weights_subject(generator: &mut Generator, sizes: &[usize]) -> Subject {
+    let task = accepted_task(generator, sizes, 4);
+    let task = kinds::file(generator, &task);
+    let weights = loose_weights(generator, count_features(sizes));
+    Subject {
+        numbers: weight_numbers_of(Kind::New, &weights),
+        show: Box::new(move |both, weights, room| {
+            both.display_new(&task, weights, room);
         }),
     }
 }
@@ -278,7 +307,8 @@ pub fn limits(both: &mut Both, generator: &mut Generator) {
     let room = room(generator, 2);
     if generator.once_in(2) {
         let edges = [&LIBRARY_EDGES[..], &PAST_EDGES].concat();
-        let file = too_many_features(generator, edges);
+        let front = encode(&kinds::kind(generator).front());
+        let file = [front, too_many_features(generator, edges)].concat();
         both.display(&file, weights, &room);
         print(both, generator, &file);
     } else {
@@ -311,7 +341,8 @@ pub fn late_operators(both: &mut Both, generator: &mut Generator) {
     let file = damaged_end(generator, &partial.numbers());
     let room = room(generator, 2);
     both.display_partial(&file, &[1, 0], &room);
-    let file = damaged_end(generator, &completed(&partial).numbers());
+    let numbers = kinds::numbers(generator, &completed(&partial));
+    let file = damaged_end(generator, &numbers);
     both.display(&file, &[1, 0], &room);
     print(both, generator, &file);
     check_line(both, generator, &file, &[1, 0]);
@@ -325,7 +356,8 @@ pub fn late_weights(both: &mut Both, generator: &mut Generator) {
         1 => generator.choose(&LIBRARY_EDGES),
         _ => generator.choose(&FORMER_EDGES),
     };
-    let task = accepted_task(generator, sizes, 1).file();
+    let task = accepted_task(generator, sizes, 1);
+    let task = kinds::file(generator, &task);
     let numbers = some_weights(generator, count_features(sizes));
     for _ in 0..8 {
         let weights = perhaps_damaged(generator, &numbers);

@@ -7,6 +7,7 @@ use reference::calls::done;
 use reference::numbers::encode;
 use reference::partial::silenced;
 use reference::sample::damage::damaged_file;
+use reference::sample::kinds;
 use reference::sample::partials::{marks, FORMER_PARTIAL_EDGES, PARTIAL_EDGES, PARTIAL_PAST_EDGES};
 use reference::sample::tasks::{accepted_task, loose_task, operator, LIBRARY_EDGES, PAST_EDGES};
 use reference::sample::Generator;
@@ -59,7 +60,7 @@ fn with_idle(generator: &mut Generator, task: &mut Task) {
 pub fn good(both: &mut Both, generator: &mut Generator) {
     let mut task = task(generator);
     with_idle(generator, &mut task);
-    let file = task.file();
+    let file = kinds::file(generator, &task);
     let marks = marks(generator, task.sizes.len());
     silence(both, generator, &file, &marks);
     let room = generator.bytes(due(&file, &marks));
@@ -78,9 +79,10 @@ pub fn damaged(both: &mut Both, generator: &mut Generator) {
         accepted_task(generator, &sizes, 4)
     };
     let file = if generator.once_in(3) {
-        damaged_file(generator, &task.numbers())
+        let numbers = kinds::numbers(generator, &task);
+        damaged_file(generator, &numbers)
     } else {
-        task.file()
+        kinds::file(generator, &task)
     };
     let marks = bad_marks(generator, sizes.len());
     silence(both, generator, &file, &marks);
@@ -91,7 +93,8 @@ pub fn cut_at_limits(both: &mut Both, generator: &mut Generator) {
     let edges = [&LIBRARY_EDGES[..], &PAST_EDGES].concat();
     let sizes = generator.choose(&edges);
     let behind = &[0, 0, 0][..generator.below(4)];
-    let file = encode(&[&[sizes.len()], sizes, behind].concat());
+    let numbers = [&[sizes.len()], sizes, behind].concat();
+    let file = encode(&kinds::fronted(generator, &numbers));
     let marks = bad_marks(generator, sizes.len());
     silence(both, generator, &file, &marks);
 }
@@ -109,5 +112,6 @@ pub fn limits(both: &mut Both, generator: &mut Generator) {
     } else {
         marks(generator, sizes.len())
     };
-    silence(both, generator, &task.file(), &marks);
+    let file = kinds::file(generator, &task);
+    silence(both, generator, &file, &marks);
 }

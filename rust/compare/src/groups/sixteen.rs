@@ -9,6 +9,7 @@ use reference::features::count_features;
 use reference::partial::{built_sizes, LeftOut, Partial};
 use reference::sample::bays::{bay, order_weights, shapes, shuffled};
 use reference::sample::handmade::handmade_bay;
+use reference::sample::kinds;
 use reference::sample::partials::{marks, silenced_bay};
 use reference::sample::tasks::loose_weights;
 use reference::sample::Generator;
@@ -19,7 +20,7 @@ use reference::workspace::{words_due, Record};
 use std::ops::RangeInclusive;
 
 /// A shape of so many slots.
-fn shape(generator: &mut Generator, slots: RangeInclusive<usize>) -> (usize, usize) {
+pub(super) fn shape(generator: &mut Generator, slots: RangeInclusive<usize>) -> (usize, usize) {
     let mut shapes = shapes();
     shapes.retain(|(rows, columns)| slots.contains(&(rows * columns)));
     generator.choose(&shapes)
@@ -84,7 +85,7 @@ pub fn silenced(both: &mut Both, generator: &mut Generator) {
     let marks = marks(generator, task.sizes.len());
     let partial = marked(task.clone(), &marks).file();
     let room = byte_room(generator, partial.len());
-    both.silence(&task.file(), &marks, &room);
+    both.silence(&kinds::file(generator, &task), &marks, &room);
     // Forgetting operators and longer numbers don't make the file twice as long.
     let room = generator.bytes(2 * partial.len());
     both.build_partial(&partial, &room);

@@ -14,6 +14,7 @@ use reference::features::count_features;
 use reference::limits::BEFORE;
 use reference::partial::{read_built, LeftOut, Partial};
 use reference::sample::handmade::handmade_task;
+use reference::sample::kinds;
 use reference::sample::partials::{
     self, accepted_partial, completed, loose_partial, FORMER_PARTIAL_EDGES, PARTIAL_EDGES,
 };
@@ -68,9 +69,12 @@ pub fn tasks(both: &mut Both, generator: &mut Generator) {
     };
     let mut weights = wider_weights(generator, count_features(&sizes));
     part_ends(generator, &task, &mut weights);
-    let (mut file, mut weights) = (task.file(), weight_file(&weights));
+    let (mut file, mut weights) = (kinds::file(generator, &task), weight_file(&weights));
     match generator.below(4) {
-        0 => file = perhaps_damaged(generator, &task.numbers()),
+        0 => {
+            let numbers = kinds::numbers(generator, &task);
+            file = perhaps_damaged(generator, &numbers);
+        }
         1 => {
             let mut numbers = weight_numbers(&wider_weights(generator, count_features(&sizes)));
             // A feature at the end of the range, or past it.
@@ -125,7 +129,8 @@ fn build(both: &mut Both, generator: &mut Generator, file: &[u8]) {
 /// Silences what a partial file is the order of, in all kinds of room.
 fn silence(both: &mut Both, generator: &mut Generator, partial: &Partial) {
     let room = byte_room(generator, partial.file().len());
-    both.silence(&completed(partial).file(), &partial.marks(), &room);
+    let task = kinds::file(generator, &completed(partial));
+    both.silence(&task, &partial.marks(), &room);
 }
 
 /// Partial files, good and damaged, with every call that opens none.

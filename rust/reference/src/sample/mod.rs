@@ -3,6 +3,7 @@
 pub mod bays;
 pub mod damage;
 pub mod handmade;
+pub mod kinds;
 pub mod partials;
 pub mod tasks;
 pub mod workspaces;

@@ -1,14 +1,22 @@
 //! `check`: asks the proved checker about weights from anyone.
 
 use super::partial::{Reading, LEAN, PARTIAL};
-use super::{refuse, tell, Command};
-use crate::args::{Arguments, JSON};
+use super::{refuse, tell, Command, Misfit};
+use crate::args::{Arguments, Choice, JSON};
 use crate::fault::Fault;
 use crate::files;
 use crate::json::Json;
 use crate::library::Verdict;
+use crate::notation::Notation;
 use crate::output::Status;
-use std::ffi::{OsStr, OsString};
+use std::ffi::OsString;
+
+const NEW: Choice = Choice {
+    long: "--new",
+    short: None,
+    value: None,
+    help: "the weights are a new weight file, which begins with 0",
+};
 
 pub const COMMAND: Command = Command {
     name: "check",
@@ -21,26 +29,26 @@ accepted (the weights separate start from goal, so the goal cannot be reached);
 rejected ends alike (start and goal have the same parity); or rejected operator
 N (the least operator that can change the parity, counted from 0). It is the
 line that the library's own checker program prints.
-A rejection does not mean that the goal can be reached.",
+A rejection does not mean that the goal can be reached.
+
+The task is of the old kind or of the new one, by its first number. A weight
+file does not say of which kind it is, so --new says it.",
     binary: true,
-    options: &[&PARTIAL, &LEAN, &JSON],
+    options: &[&NEW, &PARTIAL, &LEAN, &JSON],
     statuses: &["accepted", "rejected"],
     run,
 };
 
 fn run(arguments: &Arguments) -> Status {
-    let reading = Reading::of(arguments);
-    match check(reading, &arguments.files[0], &arguments.files[1]) {
+    match check(arguments, &arguments.files[0], &arguments.files[1]) {
         Ok((verdict, line)) => give(arguments, verdict, &line),
         Err((name, fault)) => refuse(arguments, name, &fault),
     }
 }
 
-type Misfit<'a> = (&'a OsStr, Fault);
-
 // The verdict, and the line that says it.
 fn check<'a>(
-    reading: Reading,
+    arguments: &Arguments,
     task: &'a OsString,
     weights: &'a OsString,
 ) -> Result<(Verdict, String), Misfit<'a>> {
@@ -48,13 +56,18 @@ fn check<'a>(
         let words = "only one of the two can be standard input";
         return Err((task, Fault::Failure(words.to_string())));
     }
+    let reading = Reading::of(arguments);
+    let notation = match arguments.has(&NEW) {
+        true => Notation::New,
+        false => Notation::Old,
+    };
     let task_bytes = files::read(task).map_err(|fault| (task.as_os_str(), fault))?;
     let weight_bytes = files::read(weights).map_err(|fault| (weights.as_os_str(), fault))?;
-    let verdict = reading.check(&task_bytes, &weight_bytes);
+    let verdict = reading.check(&task_bytes, notation, &weight_bytes);
     // The task is judged first, so the weights are at fault exactly where it is taken by itself.
     verdict.map_err(|fault| match reading.judge(&task_bytes) {
         Ok(()) => {
-            let fault = reading.told_of_weights(fault, &task_bytes, &weight_bytes);
+            let fault = reading.told_of_weights(fault, &task_bytes, notation, &weight_bytes);
             (weights.as_os_str(), fault)
         }
         Err(fault) => (task.as_os_str(), fault),

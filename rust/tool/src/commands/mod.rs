@@ -3,10 +3,12 @@
 mod ask;
 mod build;
 mod check;
+mod convert;
 mod find;
 mod mend;
 mod open;
 pub mod partial;
+mod refused;
 mod report;
 mod silence;
 
@@ -19,7 +21,7 @@ use crate::output::{complain, say, say_bytes, Status};
 use crate::progress;
 use crate::words::shown;
 use partial::{LEAN, PARTIAL};
-use std::ffi::OsStr;
+use std::ffi::{OsStr, OsString};
 
 pub struct Command {
     pub name: &'static str,
@@ -45,6 +47,7 @@ pub const COMMANDS: &[Command] = &[
     build::COMMAND,
     silence::COMMAND,
     mend::COMMAND,
+    convert::COMMAND,
     open::COMMAND,
 ];
 
@@ -55,6 +58,9 @@ pub const OUTPUT: Choice = Choice {
     value: Some("FILE"),
     help: "write the result to FILE (- for standard output)",
 };
+
+/// A fault, with the name of the file that has it.
+type Misfit<'a> = (&'a OsStr, Fault);
 
 /// What does not fit on a command line, if anything.
 pub fn clash(arguments: &Arguments) -> Option<&'static str> {
@@ -70,12 +76,26 @@ pub fn clash(arguments: &Arguments) -> Option<&'static str> {
 
 /// Writes a result where the command line asks for it, and says what it is.
 fn deliver(arguments: &Arguments, bytes: &[u8], line: &str, json: &Json) -> Result<(), Fault> {
-    match arguments.value(&OUTPUT) {
-        Some(name) if files::is_standard(name) => say_bytes(bytes),
-        Some(name) => keeping::keep(&[(name, bytes)], &arguments.files)?,
-        None => {}
-    }
+    write(arguments, bytes, &[], &arguments.files)?;
     tell(arguments, line, json);
+    Ok(())
+}
+
+/// Writes a result where the command line asks for it, and other files beside it: all of them or none.
+fn write(
+    arguments: &Arguments,
+    bytes: &[u8],
+    beside: &[(&OsStr, &[u8])],
+    inputs: &[OsString],
+) -> Result<(), Fault> {
+    let output = arguments.value(&OUTPUT);
+    let file = output.filter(|name| !files::is_standard(name));
+    let kept = file.map(|name| (name, bytes)).into_iter();
+    let kept: Vec<_> = kept.chain(beside.iter().copied()).collect();
+    keeping::keep(&kept, inputs)?;
+    if output.is_some_and(files::is_standard) {
+        say_bytes(bytes);
+    }
     Ok(())
 }
 

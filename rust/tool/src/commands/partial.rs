@@ -1,9 +1,10 @@
 //! Partial files in the place of task files: the options, and what each command reads then.
 
+use super::refused;
 use crate::args::{Arguments, Choice};
 use crate::fault::Fault;
 use crate::library::{self, Verdict, Workspace, NO_WEIGHTS};
-use crate::pair_list;
+use crate::notation::Notation;
 use crate::place::{self, Kind};
 use crate::progress::{Steps, Telling};
 use crate::sizes;
@@ -75,14 +76,27 @@ impl Reading {
         workspace.map_err(|fault| self.told(fault, file))
     }
 
-    /// The verdict on weights, and the line that says it.
-    pub fn check(self, file: &[u8], weights: &[u8]) -> Result<(Verdict, String), Fault> {
+    /// The verdict on weights of this kind, and the line that says it.
+    pub fn check(
+        self,
+        file: &[u8],
+        notation: Notation,
+        weights: &[u8],
+    ) -> Result<(Verdict, String), Fault> {
         let task = self.task(file)?;
-        let verdict = match self {
-            Reading::Letter => library::check_partial(file, weights)?,
-            _ => library::check(&task, weights)?,
-        };
-        Ok((verdict, library::check_line(&task, weights)?))
+        let verdict = match (self, notation) {
+            (Reading::Letter, Notation::Old) => library::check_partial(file, weights),
+            (Reading::Letter, Notation::New) => library::check_partial_new(file, weights),
+            (_, Notation::Old) => library::check(&task, weights),
+            (_, Notation::New) => library::check_new(&task, weights),
+        }?;
+        // The line is made of old weights only.
+        let line = match notation {
+            Notation::Old => library::check_line(&task, weights),
+            Notation::New => library::converted_weights(Notation::Old, &task, weights)
+                .and_then(|weights| library::check_line(&task, &weights)),
+        }?;
+        Ok((verdict, line))
     }
 
     /// The task file that the file is, or that is built of it.
@@ -104,9 +118,7 @@ impl Reading {
     /// Says of a file that was refused where it is at fault, and what may help.
     pub fn told(self, fault: Fault, file: &[u8]) -> Fault {
         match self {
-            Reading::Task => {
-                pair_list::told(place::told(fault, Kind::Task, file).about(file), file)
-            }
+            Reading::Task => refused::task(fault, Kind::Task, file),
             _ => match place::told(fault, Kind::Partial, file).about(file) {
                 fault @ Fault::Refused(2) => fault.explained(OUTGROWN),
                 other => other.of_partial(),
@@ -115,12 +127,20 @@ impl Reading {
     }
 
     /// The same of weights for a file that was taken.
-    pub fn told_of_weights(self, fault: Fault, file: &[u8], weights: &[u8]) -> Fault {
-        let told = match (self, self.task(file)) {
-            (_, Err(fault)) => return fault,
-            (Reading::Letter, Ok(_)) => place::told(fault, Kind::PartialWeights(file), weights),
-            (_, Ok(task)) => place::told(fault, Kind::Weights(&task), weights),
-        };
-        told.about(weights)
+    pub fn told_of_weights(
+        self,
+        fault: Fault,
+        file: &[u8],
+        notation: Notation,
+        weights: &[u8],
+    ) -> Fault {
+        match (self, notation, self.task(file)) {
+            (_, _, Err(fault)) => fault,
+            (Reading::Letter, Notation::Old, Ok(_)) => {
+                refused::weights(fault, Kind::PartialWeights(file), weights)
+            }
+            // A partial file's built task has the same features.
+            (_, _, Ok(task)) => refused::weights(fault, Kind::Weights(notation, &task), weights),
+        }
     }
 }

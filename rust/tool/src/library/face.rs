@@ -112,4 +112,52 @@ extern "C" {
         room: *mut u64,
         room_length: usize,
     ) -> u64;
+    pub fn florumeja_to_new(
+        task: *const u8,
+        task_length: usize,
+        room: *mut u8,
+        room_length: usize,
+    ) -> u64;
+    pub fn florumeja_to_old(
+        task: *const u8,
+        task_length: usize,
+        room: *mut u8,
+        room_length: usize,
+    ) -> u64;
+    pub fn florumeja_weights_to_new(
+        task: *const u8,
+        task_length: usize,
+        weights: *const u8,
+        weights_length: usize,
+        room: *mut u8,
+        room_length: usize,
+    ) -> u64;
+    pub fn florumeja_weights_to_old(
+        task: *const u8,
+        task_length: usize,
+        weights: *const u8,
+        weights_length: usize,
+        room: *mut u8,
+        room_length: usize,
+    ) -> u64;
+    pub fn florumeja_check_new(
+        task: *const u8,
+        task_length: usize,
+        weights: *const u8,
+        weights_length: usize,
+    ) -> u64;
+    pub fn florumeja_check_partial_new(
+        partial: *const u8,
+        partial_length: usize,
+        weights: *const u8,
+        weights_length: usize,
+    ) -> u64;
+    pub fn florumeja_display_new(
+        task: *const u8,
+        task_length: usize,
+        weights: *const u8,
+        weights_length: usize,
+        room: *mut u64,
+        room_length: usize,
+    ) -> u64;
 }

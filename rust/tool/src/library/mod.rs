@@ -1,6 +1,7 @@
 //! The face of the proved static library: the only place where a verdict comes from.
 
 mod face;
+mod kinds;
 mod pairs;
 mod places;
 mod workspace;
@@ -8,8 +9,9 @@ mod workspace;
 use crate::fault::Fault;
 use crate::sizes;
 use face::*;
+pub use kinds::{converted, converted_weights};
 pub use pairs::{dropped, mend, pair_fault, Reason};
-pub use places::{display, display_bay, display_partial, Holder, Part, NO_WEIGHTS};
+pub use places::{display, display_bay, display_new, display_partial, Holder, Part, NO_WEIGHTS};
 pub use workspace::{words_due, Workspace, MOST_WORDS};
 
 // Room for the largest results that the rules' limits allow.
@@ -65,12 +67,29 @@ pub fn check(task: &[u8], weights: &[u8]) -> Result<Verdict, Fault> {
     verdict("check", word)
 }
 
-/// The same of a partial file's built task, by the letter.
+/// The same, and the weights are a new weight file.
+pub fn check_new(task: &[u8], weights: &[u8]) -> Result<Verdict, Fault> {
+    let (from, length) = (task.as_ptr(), task.len());
+    // SAFETY: both slices live through the call, which only reads them.
+    let word = unsafe { florumeja_check_new(from, length, weights.as_ptr(), weights.len()) };
+    verdict("check_new", word)
+}
+
+/// Asks the same about a partial file's built task, by the letter.
 pub fn check_partial(partial: &[u8], weights: &[u8]) -> Result<Verdict, Fault> {
     let (from, length) = (partial.as_ptr(), partial.len());
     // SAFETY: both slices live through the call, which only reads them.
     let word = unsafe { florumeja_check_partial(from, length, weights.as_ptr(), weights.len()) };
     verdict("check_partial", word)
+}
+
+/// The same, and the weights are a new weight file.
+pub fn check_partial_new(partial: &[u8], weights: &[u8]) -> Result<Verdict, Fault> {
+    let (from, length) = (partial.as_ptr(), partial.len());
+    // SAFETY: both slices live through the call, which only reads them.
+    let word =
+        unsafe { florumeja_check_partial_new(from, length, weights.as_ptr(), weights.len()) };
+    verdict("check_partial_new", word)
 }
 
 fn verdict(call: &str, word: u64) -> Result<Verdict, Fault> {

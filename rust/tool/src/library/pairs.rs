@@ -1,7 +1,7 @@
 //! The calls on pair lists made by hand: the mended file, what it drops, and which pair is at fault.
 
 use super::face::*;
-use super::{answer, written, Answer};
+use super::{answer, written, Answer, WEIGHT_BYTES};
 use crate::fault::Fault;
 use crate::numbers;
 
@@ -23,9 +23,10 @@ pub fn mend(task: &[u8]) -> Result<Vec<u8>, Fault> {
     file.map_err(|fault| unjudged("mend", fault))
 }
 
-/// The pairs that the mended file has no more, increasing; they are some of the task's.
+/// The pairs that the mended file has no more, increasing, as an old weight file has them, which can be
+/// longer than a new task file.
 pub fn dropped(task: &[u8]) -> Result<Vec<usize>, Fault> {
-    let list = written("dropped", task.len(), |room: &mut [u8]| {
+    let list = written("dropped", WEIGHT_BYTES, |room: &mut [u8]| {
         // SAFETY: both slices live through the call, and only the room is written.
         unsafe { florumeja_dropped(task.as_ptr(), task.len(), room.as_mut_ptr(), room.len()) }
     });

@@ -53,7 +53,24 @@ pub fn display(task: &[u8], weights: &[u8]) -> Result<Part, Fault> {
     shown("display", word, room, task, weights)
 }
 
-/// The same in a partial file, or else in weights for its built task.
+/// The same, and the weights are a new weight file.
+pub fn display_new(task: &[u8], weights: &[u8]) -> Result<Part, Fault> {
+    let mut room = [0u64; 2];
+    // SAFETY: all slices live through the call, and only the room is written.
+    let word = unsafe {
+        florumeja_display_new(
+            task.as_ptr(),
+            task.len(),
+            weights.as_ptr(),
+            weights.len(),
+            room.as_mut_ptr(),
+            room.len(),
+        )
+    };
+    shown("display_new", word, room, task, weights)
+}
+
+/// The bytes at fault in a partial file, or else in weights for its built task.
 pub fn display_partial(partial: &[u8], weights: &[u8]) -> Result<Part, Fault> {
     let mut room = [0u64; 2];
     // SAFETY: all slices live through the call, and only the room is written.

@@ -4,13 +4,15 @@ use super::cause::{Cause, Entry, Operator};
 use super::{Culprit, Pair};
 use crate::features::{Feature, Features};
 use crate::library::Reason;
+use crate::notation::Notation;
 use crate::numbers;
 
 /// A task file that the library found well formed, cut before its pair list and behind it.
 pub struct TaskFile<'a> {
+    notation: Notation,
     features: Features,
     start: Vec<usize>,
-    /// The count of variables, sizes, start and goal.
+    /// What says its kind, the count of variables, sizes, start and goal.
     front: &'a [u8],
     /// The listed pairs, increasing.
     pub pairs: Vec<usize>,
@@ -22,13 +24,15 @@ impl<'a> TaskFile<'a> {
     /// None where the bytes have no such parts.
     pub fn read(bytes: &'a [u8]) -> Option<TaskFile<'a>> {
         let mut left = bytes;
+        let notation = Notation::take_off(&mut left)?;
         let variables = numbers::take(&mut left)?;
         let sizes = numbers::take_many(&mut left, variables)?;
         let start = numbers::take_many(&mut left, variables)?;
         let _goal = numbers::take_many(&mut left, variables)?;
         let front = &bytes[..bytes.len() - left.len()];
-        let pairs = numbers::take_list(&mut left)?;
+        let pairs = notation.take_list(&mut left)?;
         Some(TaskFile {
+            notation,
             features: Features::new(sizes),
             start,
             front,
@@ -37,10 +41,10 @@ impl<'a> TaskFile<'a> {
         })
     }
 
-    /// The same file with another pair list.
+    /// The same file, of the same kind, with another pair list.
     pub fn with(&self, pairs: &[usize]) -> Vec<u8> {
         let mut bytes = self.front.to_vec();
-        numbers::put_list(&mut bytes, pairs);
+        self.notation.put_list(&mut bytes, pairs);
         bytes.extend(self.back);
         bytes
     }
@@ -151,6 +155,29 @@ mod tests {
         ];
         assert_eq!(file.with(&[128]), shorter);
         assert_eq!(TaskFile::read(&shorter).unwrap().pairs, [128]);
+    }
+
+    // The same pairs as the first of them and two gaps less one: 60 and 64.
+    #[test]
+    fn a_new_file_is_cut_in_the_same_way() {
+        let new = [
+            0, 2, 2, 64, 0, 1, 1, 0, 3, 67, 60, 64, 2, 1, 0, 0, 1, 2, 0, 1, 0, 1, 5, 63,
+        ];
+        let (file, old) = (
+            TaskFile::read(&new).unwrap(),
+            TaskFile::read(&TASK).unwrap(),
+        );
+        assert_eq!(file.sizes(), [2, 64]);
+        assert_eq!(file.pairs, [67, 128, 193]);
+        assert_eq!(file.with(&file.pairs), new);
+        assert_eq!(file.operator(1), old.operator(1));
+        let shorter = [
+            0, 2, 2, 64, 0, 1, 1, 0, 2, 67, 125, 2, 1, 0, 0, 1, 2, 0, 1, 0, 1, 5, 63,
+        ];
+        assert_eq!(file.with(&[67, 193]), shorter);
+        for length in 0..12 {
+            assert!(TaskFile::read(&new[..length]).is_none(), "{length}");
+        }
     }
 
     // There are 66 atoms, so 66 is value 0 with value 0, and 130 is value 1 with value 0.

@@ -136,7 +136,24 @@ fn the_pair_behind_a_refusal_is_told() {
          variable 1 = 1: operator 0, which takes variable 0 from 0 to 1, breaks it; all counted \
          from 0; florumeja mend TASK -o FILE writes the task without the pairs that cannot stay)"
     );
-    assert_eq!(words(&[0]), crate::fault::refusal_words(2));
+    assert_eq!(words(&[65]), crate::fault::refusal_words(2));
+}
+
+// The same pairs as the first of them and a gap.
+#[test]
+fn a_new_file_is_mended_in_its_kind() {
+    let new = |pairs: &[u8], operators: &[u8]| {
+        let front = [0, 2, 2, 2, 0, 0, 0, 1, pairs.len() as u8];
+        [&front, pairs, operators].concat()
+    };
+    // From 00 to 11, which is idle as long as 00 is exclusive; 01 stays.
+    let both = [1, 2, 0, 0, 1, 1, 0, 1];
+    let mended = mend(&new(&[4, 0, 1], &both)).unwrap();
+    assert_eq!(mended.file, new(&[5], &both));
+    let gone = mended.dropped.iter().map(|one| one.pair.number);
+    assert_eq!(gone.collect::<Vec<_>>(), [4, 7]);
+    let words = told(Fault::Refused(6), &new(&[4, 0, 1], &both)).words();
+    assert!(words.contains("pair 4, variable 0 = 0"), "{words}");
 }
 
 #[test]

@@ -2,6 +2,7 @@
 
 use super::walk::Bounds;
 use super::Kind;
+use crate::notation::Notation;
 use crate::numbers::{self, LARGEST};
 use std::ops::Range;
 
@@ -9,6 +10,8 @@ use std::ops::Range;
 const LARGEST_LEAST: usize = 2;
 /// A file that begins so has one variable, or one row, so that no total is beyond its limit.
 const ALONE: &[u8] = &[1];
+/// The same where only a new file will do.
+const NEW_ALONE: &[u8] = &[0, 1];
 
 /// The numbers that are taken at a place.
 #[derive(Clone, Copy, PartialEq, Eq, Debug)]
@@ -28,7 +31,10 @@ impl Taken {
             Bounds::Limit => trial.up_to_limit(),
             Bounds::Total(what) => {
                 let taken = trial.up_to_limit()?;
-                let front = ALONE;
+                let front = match kind {
+                    Kind::TaskIn(Notation::New) => NEW_ALONE,
+                    _ => ALONE,
+                };
                 let alone = Trial { kind, front }.up_to_limit()?;
                 let total = (taken.most() < alone.most()).then_some(*what);
                 Some(Taken { total, ..taken })

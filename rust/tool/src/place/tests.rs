@@ -3,6 +3,7 @@
 use super::walk::Bounds;
 use super::*;
 use crate::library::{self, NO_WEIGHTS};
+use crate::notation::Notation;
 
 /// Sizes 2 and 64, so that numbers stand on both sides of 128; three pairs, two operators.
 const TASK: &[u8] = &[
@@ -20,18 +21,34 @@ const LARGE: &[u8] = &[
     5, 64, 64, 64, 64, 2, 0, 0, 0, 0, 0, 1, 0, 0, 0, 0, 2, 0x80, 0x80, 1, 0x81, 0xc6, 1, 0,
 ];
 const LARGE_WEIGHTS: &[u8] = &[3, 0, 0x80, 0x80, 1, 0x81, 0xc6, 1];
+/// The same as new files: of the pairs 67, 128 and 193 the gaps less one are 60 and 64, of 16,384 and 25,345
+/// it is 8,960, and of the weights 0, 2 and 3 they are 1 and 0.
+const NEW_TASK: &[u8] = &[
+    0, 2, 2, 64, 0, 1, 1, 0, 3, 67, 60, 64, 2, 1, 0, 0, 1, 2, 0, 1, 0, 1, 5, 63,
+];
+const NEW_LARGE: &[u8] = &[
+    0, 5, 64, 64, 64, 64, 2, 0, 0, 0, 0, 0, 1, 0, 0, 0, 0, 2, 0x80, 0x80, 1, 0x80, 0x46, 0,
+];
+const NEW_WEIGHTS: &[u8] = &[0, 3, 0, 1, 0];
+const NEW_LARGE_WEIGHTS: &[u8] = &[0, 3, 0, 0xff, 0x7f, 0x80, 0x46];
 /// Document 01's case A: two variables of size 2, and no more; it is accepted.
 const SMALL: &[u8] = &[2, 2, 2, 0, 0, 0, 1, 0, 0];
 /// A partial file of which the same is true.
 const SMALL_PARTIAL: &[u8] = &[2, 2, 2, 0, 1, 0, 0, 1, 0, 0];
 
-const KINDS: [(Kind, &[u8]); 7] = [
+const KINDS: [(Kind, &[u8]); 13] = [
     (Kind::Task, TASK),
     (Kind::Task, LARGE),
+    (Kind::Task, NEW_TASK),
+    (Kind::Task, NEW_LARGE),
+    (Kind::TaskIn(Notation::Old), TASK),
+    (Kind::TaskIn(Notation::New), NEW_TASK),
     (Kind::Partial, PARTIAL),
     (Kind::Bay, BAY),
-    (Kind::Weights(SMALL), WEIGHTS),
-    (Kind::Weights(LARGE), LARGE_WEIGHTS),
+    (Kind::Weights(Notation::Old, SMALL), WEIGHTS),
+    (Kind::Weights(Notation::Old, NEW_LARGE), LARGE_WEIGHTS),
+    (Kind::Weights(Notation::New, SMALL), NEW_WEIGHTS),
+    (Kind::Weights(Notation::New, LARGE), NEW_LARGE_WEIGHTS),
     (Kind::PartialWeights(SMALL_PARTIAL), WEIGHTS),
 ];
 
@@ -53,9 +70,11 @@ fn names(kind: Kind, file: &[u8]) -> Vec<String> {
 fn refusal(kind: Kind, file: &[u8]) -> Option<Fault> {
     match kind {
         Kind::Task => library::check(file, NO_WEIGHTS).err(),
+        Kind::TaskIn(due) => library::converted(due.other(), file).err(),
         Kind::Partial => library::check_partial(file, NO_WEIGHTS).err(),
         Kind::Bay => library::build(file).err(),
-        Kind::Weights(task) => library::check(task, file).err(),
+        Kind::Weights(Notation::Old, task) => library::check(task, file).err(),
+        Kind::Weights(Notation::New, task) => library::check_new(task, file).err(),
         Kind::PartialWeights(partial) => library::check_partial(partial, file).err(),
     }
 }
@@ -67,7 +86,7 @@ fn words(kind: Kind, file: &[u8]) -> String {
 #[test]
 fn every_number_of_a_task_has_a_name() {
     let due = [
-        "the count of variables",
+        "the count of variables or the 0 of a new task file",
         "the size of variable 0",
         "the size of variable 1",
         "the start value of variable 0",
@@ -94,6 +113,42 @@ fn every_number_of_a_task_has_a_name() {
         "",
     ];
     assert_eq!(names(Kind::Task, TASK), due);
+    // Where only an old file will do, it begins with its count.
+    let old = names(Kind::TaskIn(Notation::Old), TASK);
+    assert_eq!(old[0], "the count of variables");
+    assert_eq!(old[1..], due[1..]);
+}
+
+// Behind its 0 a new task has the same numbers, but for the gaps.
+#[test]
+fn every_number_of_a_new_file_has_a_name() {
+    let old = names(Kind::TaskIn(Notation::Old), TASK);
+    let either = names(Kind::Task, NEW_TASK);
+    let new = names(Kind::TaskIn(Notation::New), NEW_TASK);
+    assert_eq!(
+        either[0],
+        "the count of variables or the 0 of a new task file"
+    );
+    assert_eq!(new[0], "the first number of a new task file");
+    let gaps = [
+        "the gap less one to the 2nd of 3 listed pairs",
+        "the gap less one to the 3rd of 3 listed pairs",
+    ];
+    for names in [&either, &new] {
+        assert_eq!(names[1..10], old[..9]);
+        assert_eq!(names[10..12], gaps);
+        assert_eq!(names[12..], old[11..]);
+    }
+    let weights = [
+        "the first number of a new weight file",
+        "the count of weights",
+        "the 1st of 3 weights",
+        "the gap less one to the 2nd of 3 weights",
+        "the gap less one to the 3rd of 3 weights",
+        "",
+    ];
+    let kind = Kind::Weights(Notation::New, SMALL);
+    assert_eq!(names(kind, NEW_WEIGHTS), weights);
 }
 
 #[test]
@@ -132,7 +187,8 @@ fn every_number_of_the_other_files_has_a_name() {
         "the 1st of 3 weights",
         "the 2nd of 3 weights",
     ];
-    assert_eq!(names(Kind::Weights(SMALL), WEIGHTS)[..3], weights);
+    let kind = Kind::Weights(Notation::Old, SMALL);
+    assert_eq!(names(kind, WEIGHTS)[..3], weights);
 }
 
 #[test]
@@ -141,7 +197,8 @@ fn a_place_that_no_number_leads_to_has_no_name() {
     assert!(walk::due(Kind::Task, TASK, TASK.len()).is_none());
     assert!(walk::due(Kind::Task, &[2, 0x80, 0, 3], 3).is_none());
     assert!(walk::due(Kind::Task, &[2, 2, 2, 0, 0, 0, 0, 0, 1, 1, 7, 0], 11).is_none());
-    assert!(walk::due(Kind::Weights(&[2, 2]), WEIGHTS, 1).is_none());
+    let kind = Kind::Weights(Notation::Old, &[2, 2]);
+    assert!(walk::due(kind, WEIGHTS, 1).is_none());
 }
 
 // The ends of a range are all that is asked of the library; here it is asked of many numbers.
@@ -272,12 +329,48 @@ fn every_mistyped_byte_is_told_with_what_is_due() {
 // and then there are 32,542, to which a sixth variable would add 287 for each of its values.
 #[test]
 fn numbers_outside_their_range_are_told() {
-    let due: [(Kind, &[u8], &str); 11] = [
+    let due: [(Kind, &[u8], &str); 17] = [
         (
             Kind::Task,
             &[65, 9],
-            "refused 2: at byte 0 stands 41, which is 65, where the count of variables is due, \
+            "refused 2: at byte 0 stands 41, which is 65, where the count of variables or the 0 of \
+             a new task file is due, from 0 to 64; bytes counted from 0",
+        ),
+        (
+            Kind::TaskIn(Notation::Old),
+            NEW_TASK,
+            "refused 2: at byte 0 stands 00, which is 0, where the count of variables is due, from \
+             1 to 64; bytes counted from 0",
+        ),
+        (
+            Kind::TaskIn(Notation::New),
+            TASK,
+            "refused 3: at byte 0 stands 02, which is 2, where the first number of a new task file \
+             is due, and only 0 will do; bytes counted from 0",
+        ),
+        (
+            Kind::Task,
+            &[0, 65],
+            "refused 2: at byte 1 stands 41, which is 65, where the count of variables is due, \
              from 1 to 64; bytes counted from 0",
+        ),
+        (
+            Kind::Task,
+            &[0, 2, 2, 2, 0, 0, 0, 1, 2, 5, 2],
+            "refused 3: at byte 10 stands 02, which is 2, where the gap less one to the 2nd of 2 \
+             listed pairs is due, from 0 to 1; bytes counted from 0",
+        ),
+        (
+            Kind::Task,
+            &[0, 2, 2, 2, 0, 0, 0, 1, 2, 7, 0],
+            "refused 3: at byte 10 stands 00, which is 0, where the gap less one to the 2nd of 2 \
+             listed pairs is due, and no number will do; bytes counted from 0",
+        ),
+        (
+            Kind::Weights(Notation::New, LARGE),
+            &[0, 2, 0x80, 0x80, 1, 0x81, 0x46],
+            "refused 3: at byte 5 stands 81 46, which is 8961, where the gap less one to the 2nd \
+             of 2 weights is due, from 0 to 8960; bytes counted from 0",
         ),
         (
             Kind::Task,
@@ -332,7 +425,7 @@ fn numbers_outside_their_range_are_told() {
              to 3, as the slots in all have a limit too; bytes counted from 0",
         ),
         (
-            Kind::Weights(LARGE),
+            Kind::Weights(Notation::Old, LARGE),
             &[2, 0x80, 0x80, 1, 0x82, 0xc6, 1],
             "refused 3: at byte 4 stands 82 c6 01, which is 25346, where the 2nd of 2 weights is \
              due, from 16385 to 25345; bytes counted from 0",
@@ -353,13 +446,25 @@ fn numbers_outside_their_range_are_told() {
 fn a_refusal_without_a_place_stays_as_it_is() {
     let mut outgrown = vec![1, 1, 0, 0, 0, 0xff, 0xff, 0x7f];
     outgrown.extend([1, 0, 0, 0].repeat(numbers::LARGEST));
-    let due: [(Kind, &[u8], u32); 7] = [
+    let due: [(Kind, &[u8], u32); 11] = [
         (Kind::Task, &[2, 2, 2, 0, 0, 0, 1, 0, 0, 7], 5),
+        (Kind::Task, &[0, 2, 2, 2, 0, 0, 0, 1, 0, 0, 7], 5),
+        (
+            Kind::TaskIn(Notation::Old),
+            &[2, 2, 2, 1, 1, 0, 0, 1, 7, 0],
+            6,
+        ),
+        (
+            Kind::TaskIn(Notation::New),
+            &[0, 2, 2, 2, 1, 1, 0, 0, 1, 7, 0],
+            6,
+        ),
+        (Kind::Weights(Notation::New, SMALL), &[0, 0, 7], 5),
         (Kind::Task, &[2, 2, 2, 1, 1, 0, 0, 1, 7, 0], 6),
         (Kind::Task, &[2, 2, 2, 0, 0, 1, 0, 1, 7, 1, 1, 0, 0, 1], 7),
         (Kind::Bay, &[1, 2, 0, 0, 0, 1], 10),
         (Kind::Bay, &[1, 3, 0, 1, 1, 0, 1, 2], 11),
-        (Kind::Weights(SMALL), &[0, 7], 5),
+        (Kind::Weights(Notation::Old, SMALL), &[0, 7], 5),
         (Kind::Partial, &outgrown, 2),
     ];
     for (kind, file, number) in due {
@@ -391,8 +496,21 @@ fn a_refusal_that_the_bytes_do_not_bear_out_is_not_passed_on() {
         }
     }
     // The task is at fault here, and not the weights.
-    let told = told(Fault::Refused(3), Kind::Weights(beyond), WEIGHTS);
+    let kind = Kind::Weights(Notation::Old, beyond);
+    let told = told(Fault::Refused(3), kind, WEIGHTS);
     assert_eq!(told.heading(), "ERROR", "{}", told.words());
+}
+
+// A file of the kind that is due is not refused for its first number.
+#[test]
+fn a_file_of_the_kind_that_is_due_has_no_fault() {
+    for (due, file) in [
+        (Notation::Old, SMALL),
+        (Notation::New, &[&[0], SMALL].concat()),
+    ] {
+        let told = told(Fault::Refused(3), Kind::TaskIn(due), file);
+        assert_eq!(told.heading(), "ERROR", "{}", told.words());
+    }
 }
 
 #[test]

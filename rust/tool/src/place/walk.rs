@@ -2,6 +2,7 @@
 
 use super::Kind;
 use crate::features;
+use crate::notation::Notation;
 use crate::numbers::{self, Form, LARGEST};
 use crate::sizes;
 use crate::words::ordinal;
@@ -51,11 +52,12 @@ impl Due {
 pub fn due(kind: Kind, file: &[u8], place: usize) -> Option<Due> {
     let mut walk = Walk { file, place, at: 0 };
     let step = match kind {
-        Kind::Task => walk.task(),
+        Kind::Task => walk.task(None),
+        Kind::TaskIn(notation) => walk.task(Some(notation)),
         Kind::Partial => walk.partial(),
         Kind::Bay => walk.bay(),
-        Kind::Weights(task) => walk.weights(&sizes::of_task(task)?),
-        Kind::PartialWeights(partial) => walk.weights(&sizes::of_built(partial)?),
+        Kind::Weights(notation, task) => walk.weights(notation, &sizes::of_task(task)?),
+        Kind::PartialWeights(partial) => walk.weights(Notation::Old, &sizes::of_built(partial)?),
     };
     match step {
         Err(Stop::Arrived(due)) => Some(due),
@@ -92,11 +94,33 @@ impl Walk<'_> {
         }
     }
 
-    fn task(&mut self) -> Step<()> {
+    fn task(&mut self, notation_due: Option<Notation>) -> Step<()> {
+        let notation = self.beginning(notation_due)?;
         let sizes = self.sizes()?;
         self.values("start", sizes.iter().enumerate())?;
         self.values("goal", sizes.iter().enumerate())?;
-        self.pairs_and_operators(&sizes)
+        self.pairs_and_operators(notation, &sizes)
+    }
+
+    // Where either kind will do, what is due first is the count of an old task or the 0 of a new one.
+    fn beginning(&mut self, notation_due: Option<Notation>) -> Step<Notation> {
+        let found = Notation::of_task(self.file).unwrap_or(Notation::Old);
+        let notation = notation_due.unwrap_or(found);
+        match notation_due {
+            None if self.place == 0 => {
+                let either = "variables or the 0 of a new task file";
+                self.number(|| Due::count_of(either, Bounds::Limit))?;
+            }
+            _ if notation == Notation::New => self.zero("task")?,
+            _ => {}
+        }
+        Ok(notation)
+    }
+
+    fn zero(&mut self, noun: &str) -> Step<()> {
+        let name = || format!("the first number of a new {noun} file");
+        self.number(|| Due::new(name(), BYTES, Bounds::Before(0..1)))?;
+        Ok(())
     }
 
     fn partial(&mut self) -> Step<()> {
@@ -106,7 +130,7 @@ impl Walk<'_> {
         let named = sizes.iter().enumerate().zip(&marks);
         let named = named.filter_map(|(one, mark)| (*mark != 0).then_some(one));
         self.values("goal", named)?;
-        self.pairs_and_operators(&sizes)
+        self.pairs_and_operators(Notation::Old, &sizes)
     }
 
     fn bay(&mut self) -> Step<()> {
@@ -122,8 +146,11 @@ impl Walk<'_> {
         Ok(())
     }
 
-    fn weights(&mut self, sizes: &[usize]) -> Step<()> {
-        self.increasing("weight", 0..features::count(sizes))
+    fn weights(&mut self, notation: Notation, sizes: &[usize]) -> Step<()> {
+        if notation == Notation::New {
+            self.zero("weight")?;
+        }
+        self.features(notation, "weight", 0..features::count(sizes))
     }
 
     fn sizes(&mut self) -> Step<Vec<usize>> {
@@ -166,9 +193,9 @@ impl Walk<'_> {
         Ok(())
     }
 
-    fn pairs_and_operators(&mut self, sizes: &[usize]) -> Step<()> {
+    fn pairs_and_operators(&mut self, notation: Notation, sizes: &[usize]) -> Step<()> {
         let pairs = features::single_count(sizes)..features::count(sizes);
-        self.increasing("listed pair", pairs)?;
+        self.features(notation, "listed pair", pairs)?;
         let count = self.count_of_list("operator")?;
         for operator in 0..count {
             self.operator(operator, sizes)?;
@@ -181,16 +208,25 @@ impl Walk<'_> {
         self.number(|| Due::count_of(&format!("{noun}s"), bounds))
     }
 
-    fn increasing(&mut self, noun: &str, range: Range<usize>) -> Step<()> {
+    fn features(&mut self, notation: Notation, noun: &str, range: Range<usize>) -> Step<()> {
         let count = self.count_of_list(noun)?;
         let mut least = range.start;
         for place in 1..=count {
-            let name = || match count {
+            let feature = || match count {
                 1 => format!("the only {noun}"),
                 _ => format!("the {} of {count} {noun}s", ordinal(place)),
             };
-            let bounds = Bounds::Before(least..range.end);
-            least = self.number(|| Due::new(name(), BYTES, bounds))? + 1;
+            least = match notation {
+                Notation::New if place > 1 => {
+                    let name = || format!("the gap less one to {}", feature());
+                    let bounds = Bounds::Before(0..range.end.saturating_sub(least));
+                    least + self.number(|| Due::new(name(), BYTES, bounds))? + 1
+                }
+                _ => {
+                    let bounds = Bounds::Before(least..range.end);
+                    self.number(|| Due::new(feature(), BYTES, bounds))? + 1
+                }
+            };
         }
         Ok(())
     }

@@ -1,4 +1,4 @@
--- `check_partial`: what is known of the task that is built goes to `weigh`; a refusal is answered by its number.
+-- `check_partial_as`: what is known of the task that is built goes to `weigh`; a refusal is answered by its number.
 use mathlib.Core.Bool.{true}
 use lib.ListN.{replicate}
 use borrow.Author.Needs.{needs}
@@ -7,8 +7,8 @@ use Rattle.meaning.specs.Partial.{leftOut, judgedPartial}
 use Rattle.meaning.specs.Workspace.{slotsAt}
 use Rattle.order.specs.Answer.{partial-accepted, partial-refused}
 use Rattle.checking.specs.Weigh.{KnownWith, partial-with, task-refused}
-use Rattle.checking.proofs.check_partial.Statement.{statement}
-use Rattle.checking.proofs.check_partial.Tie as tie
+use Rattle.checking.proofs.check_partial_as.Statement.{statement}
+use Rattle.checking.proofs.check_partial_as.Tie as tie
 
 -- What is known of the task that is built for an accepted file.
 known : (c : tie.After-variables) → let told = c .variables .given .0 in let bytes = c .before .before .before .before .before .before .before .args .partial .now in
@@ -41,10 +41,10 @@ returns : tie.Need-returns
 returns c = c .weigh .ensures _ _ (known (c .before .before .before))
 
 returns-2 : tie.Need-returns-2
-returns-2 c = task-refused _ _ _ _ (partial-refused _ _ _ _ _ (c .before .before .before .before .before .judge .ensures) _ _ (c .before .before .reason .given .1)) _ (c .refusal .ensures)
+returns-2 c = task-refused _ _ _ _ _ (partial-refused _ _ _ _ _ (c .before .before .before .before .before .judge .ensures) _ _ (c .before .before .reason .given .1)) _ (c .refusal .ensures)
 
-pub check-partial-spec : {M : Type 1} → statement M
-check-partial-spec =
+pub check-partial-as-spec : {M : Type 1} → statement M
+check-partial-as-spec =
     tie.close
     (tie.spec
     slice-aggregate-judge

@@ -1,4 +1,4 @@
--- `check`: what is known of an accepted task goes to `weigh`; a refusal is answered by its number.
+-- `check_as`: what is known of an accepted task goes to `weigh`; a refusal is answered by its number.
 use mathlib.Core.Bool.{false}
 use lib.ListN.{replicate}
 use borrow.Author.Needs.{needs}
@@ -7,8 +7,8 @@ use Rattle.meaning.specs.File.{judgedTask}
 use Rattle.meaning.specs.Workspace.{slotsAt}
 use Rattle.task.specs.Answer.{judged-accepted, judged-refused}
 use Rattle.checking.specs.Weigh.{KnownWith, task-with, task-refused}
-use Rattle.checking.proofs.check.Statement.{statement}
-use Rattle.checking.proofs.check.Tie as tie
+use Rattle.checking.proofs.check_as.Statement.{statement}
+use Rattle.checking.proofs.check_as.Tie as tie
 
 -- What is known of an accepted task.
 known : (c : tie.After-variables) → let told = c .variables .given .0 in let bytes = c .before .before .before .before .before .before .before .args .task .now in
@@ -40,10 +40,10 @@ returns : tie.Need-returns
 returns c = c .weigh .ensures _ _ (known (c .before .before .before))
 
 returns-2 : tie.Need-returns-2
-returns-2 c = task-refused _ _ _ _ (judged-refused _ _ _ _ _ _ (c .before .before .before .before .before .judge .ensures) (c .before .before .reason .given .1)) _ (c .refusal .ensures)
+returns-2 c = task-refused _ _ _ _ _ (judged-refused _ _ _ _ _ _ (c .before .before .before .before .before .judge .ensures) (c .before .before .reason .given .1)) _ (c .refusal .ensures)
 
-pub check-spec : {M : Type 1} → statement M
-check-spec =
+pub check-as-spec : {M : Type 1} → statement M
+check-as-spec =
     tie.close
     (tie.spec
     slice-aggregate-judge

@@ -1,4 +1,4 @@
--- `write_mended` refuses a room that is shorter than the whole, and otherwise writes front, count and operators.
+-- `write_task` refuses a room that is shorter than the whole, and otherwise writes front, count and operators.
 use Prim.Native.Nat.{ℕ, _+_, _*_, _≤_}
 use mathlib.Core.Path.{_≡_, sym, _∙_}
 use mathlib.Core.List.{List}
@@ -6,26 +6,27 @@ use native.Mathlib.Omega.{arith}
 use lib.ListN.{length}
 use borrow.Author.Needs.{needs}
 use Rattle.meaning.specs.Number.{Small}
+use Rattle.meaning.specs.File.{kindIf}
 use Rattle.writer.specs.Widths.{fourLists}
 use Rattle.writer.specs.Answer.{refused-so}
 use Rattle.writer.specs.Remains.{delivered-small}
-use Rattle.mending.specs.Parts.{mendedBytes, mended-length, mended-few, mended-delivered}
-use Rattle.mending.proofs.write_mended.Statement.{statement}
-use Rattle.mending.proofs.write_mended.Tie as tie
+use Rattle.writer.specs.TaskFile.{fileBytes, file-length, file-few, file-delivered}
+use Rattle.writer.proofs.write_task.Statement.{statement}
+use Rattle.writer.proofs.write_task.Tie as tie
 
 -- Where the call began, seen from the last width; the whole file, and that the widths make it up.
 abbrev start : tie.After-width → tie.Start
 start c = c .before .before .before .before .before .before .before .before
 
 abbrev file : tie.Start → List ℕ
-file s = let a = s .args in mendedBytes (a .count) (a .own .now) (a .sizes .now) (a .start .now) (a .goal .now) (a .kept .now)
+file s = let a = s .args in fileBytes (kindIf (a .gapped)) (a .count) (a .own .now) (a .sizes .now) (a .start .now) (a .goal .now) (a .pairs .now)
 
 whole : (c : tie.After-width) → length (file (start c)) ≡ c .before .front-width .result + (c .width .result + length (start c .args .own .now))
 whole c = let a = start c .args in
-    omega (arith, mended-length (a .count) (a .own .now) (a .sizes .now) (a .start .now) (a .goal .now) (a .kept .now), c .before .front-width .ensures, c .width .ensures)
+    omega (arith, file-length (kindIf (a .gapped)) (a .count) (a .own .now) (a .sizes .now) (a .start .now) (a .goal .now) (a .pairs .now), c .before .front-width .ensures, c .width .ensures)
 
 few : (c : tie.After-width) → c .before .front-width .result + (c .width .result + length (start c .args .own .now)) ≤ 2 * fourLists + length (start c .args .own .now)
-few c = let a = start c .args in omega (arith, whole c, mended-few (a .count) (a .own .now) (a .sizes .now) (a .start .now) (a .goal .now) (a .kept .now) (start c .pre .0))
+few c = let a = start c .args in omega (arith, whole c, file-few (kindIf (a .gapped)) (a .count) (a .own .now) (a .sizes .now) (a .start .now) (a .goal .now) (a .pairs .now) (start c .pre .0))
 
 -- The widths, seen from where the room is known to be long enough.
 abbrev widths : tie.Else1 → tie.After-width
@@ -72,12 +73,12 @@ returns-2 c =
     let first = second .before .before .before .before in
     let e = first .before .before in
     let a = start (widths e) .args in
-    mended-delivered (a .count) (a .own .now) (a .sizes .now) (a .start .now) (a .goal .now) (a .kept .now) (a .room .now) (fits e)
+    file-delivered (kindIf (a .gapped)) (a .count) (a .own .now) (a .sizes .now) (a .start .now) (a .goal .now) (a .pairs .now) (a .room .now) (fits e)
     _ _ (first .write-front .ensures .0) (first .write-front .ensures .1) _ _ (second .write-number .ensures .0) (second .write-number .ensures .1)
     _ _ (third .write-bytes .ensures .0) (third .write-bytes .ensures .1)
 
-pub write-mended-spec : {M : Type 1} → statement M
-write-mended-spec =
+pub write-task-spec : {M : Type 1} → statement M
+write-task-spec =
     tie.close
     (tie.spec
     front-width-requires

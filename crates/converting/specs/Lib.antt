@@ -1,0 +1,2 @@
+-- What the converters answer.
+pub mod Answer

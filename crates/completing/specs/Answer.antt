@@ -6,7 +6,6 @@ use mathlib.Core.List.{List, _++_}
 use native.Mathlib.Omega.{arith}
 use lib.ListN.{length, drop, length-append}
 use Rattle.meaning.specs.Sets.{listed}
-use Rattle.meaning.specs.Limits.{wordBits}
 use Rattle.meaning.specs.Task.{Operator, Task, State}
 use Rattle.meaning.specs.Feature.{atoms, features}
 use Rattle.meaning.specs.Number.{Reason, fault, numberBytes}
@@ -14,13 +13,12 @@ use Rattle.meaning.specs.File.{plain, bytesOf, counted, operatorBytes, taskByte
 use Rattle.meaning.specs.Workspace.{has}
 use Rattle.meaning.specs.Answer.{Outcome, refuses, delivered}
 use Rattle.meaning.specs.Partial.{Partial, forgettings, builtTask, judgedPartial, BuildsBy}
-use Rattle.theory.specs.Run.{members, members-listed, run-wider}
 use Rattle.theory.specs.Spent.{Bytes}
 use Rattle.theory.specs.Parts.{operators-said}
 use Rattle.theory.specs.BytesOf.{bytes-join}
 use Rattle.theory.specs.PartialFile.{accepted-partial}
 use Rattle.theory.specs.PartialParts.{operators-copied, forgettings-width, outFor}
-use Rattle.words.specs.Members.{membersIn}
+use Rattle.words.specs.Members.{membersIn, members-are}
 use Rattle.layout.specs.Parts.{sizesPart, startPart, goalPart, pairsPart}
 use Rattle.pairs.specs.Ready.{Listed}
 use Rattle.forgetting.specs.Kept.{keptIn, kept-forgettings}
@@ -71,13 +69,8 @@ module _ (lean : Bool) (bytes words left : List ℕ) (v n count kept at : ℕ) (
     task-goal : goal ≡ T .goal
     task-goal = goal-is ∙ known-parts (known .accepted) .2
 
-    many-words : features (T .sizes) ≤ wordBits * length pairs
-    many-words = omega (arith, ready .0 .due, ap features task-sizes)
-
     pairs-members : membersIn pairs ≡ T .pairs
-    pairs-members =
-        ap (members (wordBits * length pairs)) task-pairs
-        ∙ members-listed (atoms (T .sizes)) (wordBits * length pairs) (T .pairs) (run-wider _ _ _ _ (T .pairs) (omega arith) many-words (known .accepted .writable .acceptable .pairs))
+    pairs-members = members-are (atoms (T .sizes)) (features (T .sizes)) (T .pairs) pairs (known .accepted .writable .acceptable .pairs) task-pairs
 
     -- The forgetting operators that the header keeps are the request's.
     kept-operators : keptIn sizes (has pairs) goal lean ≡ forgotten

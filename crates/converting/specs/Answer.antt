@@ -1,17 +1,17 @@
 -- What the converters answer for a task file that was accepted, by its header and its operators, and for weights that were read.
-use Prim.Native.Nat.{ℕ, _*_, _<_, _≤_}
+use Prim.Native.Nat.{ℕ, _<_, _≤_}
 use mathlib.Core.Path.{_≡_, refl, ap, _∙_}
 use mathlib.Core.Bool.{Bool, true, false, not}
 use mathlib.Core.List.{List}
 use native.Mathlib.Omega.{arith}
 use lib.ListN.{length, drop}
 use Rattle.meaning.specs.Sets.{listed}
-use Rattle.meaning.specs.Limits.{wordBits, mostFeatures, numberEnd}
-use Rattle.meaning.specs.Task.{Task, Run}
+use Rattle.meaning.specs.Limits.{mostFeatures, numberEnd}
+use Rattle.meaning.specs.Task.{Task}
 use Rattle.meaning.specs.Feature.{atoms, features}
 use Rattle.meaning.specs.Number.{Reason, got, fault}
-use Rattle.meaning.specs.File.{Kind, kindIf, other, judgedTask, judgedAs, judgedWeightsAs, Writable, weightBytesAs, taskBytesAs}
-use Rattle.meaning.specs.Workspace.{wordsFor, has, packed}
+use Rattle.meaning.specs.File.{Kind, kindIf, other, judgedTask, judgedAs, judgedWeightsAs, Writable, weightBytesAs}
+use Rattle.meaning.specs.Workspace.{has}
 use Rattle.meaning.specs.Answer.{Outcome, refuses, delivered, byRead}
 use Rattle.meaning.specs.Convert.{Converts, ConvertsWeights}
 use Rattle.theory.specs.Words.{length-packed}

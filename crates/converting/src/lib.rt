@@ -4,7 +4,7 @@ ghost use mathlib.Core.List.{List};
 ghost use Prim.Native.Nat.{ℕ, _≤_};
 ghost use lib.ListN.{replicate};
 ghost use Rattle.meaning.specs.Limits.{mostFeatures};
-ghost use Rattle.meaning.specs.File.{kindIf, other, judgedAs, judgedWeightsAs};
+ghost use Rattle.meaning.specs.File.{kindIf, other, judgedAs};
 ghost use Rattle.meaning.specs.Workspace.{wordsFor};
 ghost use Rattle.meaning.specs.Convert.{Converts, ConvertsToNew, ConvertsToOld, ConvertsWeights, ConvertsWeightsToNew, ConvertsWeightsToOld};
 ghost use Rattle.task.specs.Answer.{AcceptedAs};

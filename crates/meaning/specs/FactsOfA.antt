@@ -15,7 +15,7 @@ use Rattle.meaning.specs.Weight.{Separates}
 use Rattle.meaning.specs.Number.{Malformed, Small, groups, number}
 use Rattle.meaning.specs.File.{item, judge, ended, itemsOf, sizeList, header, limited, featureOf, featuresOf, featureList, operatorsOf, kindOf, markOf, bodyOf, partsOf, taskAs, taskOf, judgedTask}
 use Rattle.meaning.specs.Workspace.{Content, wordsFor, packed, wordsOf, WellFormed}
-use Rattle.meaning.specs.Answer.{Answer, done, refused, Outcome, refuses, Opens, Finding, separated, SeparatesIn, FindsIn, Finds}
+use Rattle.meaning.specs.Answer.{Answer, done, Outcome, refuses, Opens, Finding, separated, SeparatesIn, FindsIn, Finds}
 use Rattle.meaning.specs.Line.{Found, nothing, separating, Says}
 use Rattle.meaning.specs.Facts.{pairOfTwo, state-none, state-more}
 

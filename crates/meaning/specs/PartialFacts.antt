@@ -12,7 +12,7 @@ use Rattle.meaning.specs.Feature.{sumOf, pairsOf, atoms, features, pairS
 use Rattle.meaning.specs.Pair.{paired, possible, clashing, stuck, idle, clashingAfter, uncovered, closed, holds}
 use Rattle.meaning.specs.Number.{Limit, Range, LeftOver, Held, Unclosed, Outgrown, refusal, got, fault, groups, number, numbersOn, groupBytes, numberBytes}
 use Rattle.meaning.specs.File.{item, judge, rising, ended, itemsOf, sizeList, header, limited, featureOf, featuresOf, featureList, entriesOf, operatorOf, operatorsOf, kindOf, markOf, bodyOf, partsOf, taskAs, taskOf, judgedTask}
-use Rattle.meaning.specs.File.{bytesOf, counted, entryBytes, operatorBytes, weightBytes, listBytes, taskBytesAs, taskBytes}
+use Rattle.meaning.specs.File.{bytesOf, counted, entryBytes, operatorBytes, weightBytes, listBytes, taskBytesAs}
 use Rattle.meaning.specs.Answer.{done, Outcome, fine, faulty, valuesJudged}
 use Rattle.meaning.specs.Partial.{Partial, named, eachPair, builtPairs, forgettings, builtTask, againstGoal, leftOut, leftOutLean, partialHeader, goalOf, partialOf, judgedPartial}
 use Rattle.meaning.specs.Partial.{marksIn, namedIn, partialBytes, BuildsPartial, silenced, marksJudged, Silences}

@@ -5,7 +5,7 @@ use mathlib.Core.List.{List, [], _∷_}
 use Rattle.meaning.specs.Sets.{listed, anyOf, allOf, some}
 use Rattle.meaning.specs.Feature.{sumOf, pairsOf, atoms, features, pairStart, double, both}
 use Rattle.meaning.specs.Pair.{paired, holds}
-use Rattle.meaning.specs.Number.{Ends, Padded, Endless, refusal, fault, groups, number, numbersOn, groupsRead, bytesRead}
+use Rattle.meaning.specs.Number.{Ends, Padded, Endless, refusal, groups, number, numbersOn, groupsRead, bytesRead}
 use Rattle.meaning.specs.File.{item, judge, rising, ended, itemsOf, sizeList, header, limited, featureOf, featuresOf, featureList, entriesOf, operatorOf, operatorsOf, kindOf, markOf, bodyOf, partsOf, taskAs, taskOf, judgedTask, judgedWeightsAs}
 use Rattle.meaning.specs.Answer.{done, refused}
 use Rattle.meaning.specs.Bay.{sidesOf, bayOf, occurrences, oneGap, judgedLots, judgedBay}

@@ -3,14 +3,14 @@ use Prim.Native.Nat.{ℕ, _<_, _≤_}
 use mathlib.Core.Path.{_≡_, refl, sym, ap, ap₂, _∙_, subst}
 use mathlib.Core.Logic.{inl, inr}
 use mathlib.Core.Bool.{Bool, true, false, not, _&&_, true≢false}
-use mathlib.Core.List.{List, [], _∷_, _++_}
+use mathlib.Core.List.{List, [], _∷_}
 use native.Mathlib.Omega.{arith}
 use lib.ListN.{length, set, drop}
 use borrow.Author.Tests.{lt-ltb, le-ltb}
 use Rattle.meaning.specs.Sets.{_⊕_, listed}
 use Rattle.meaning.specs.Limits.{numberEnd, faultWords}
 use Rattle.meaning.specs.Task.{Task, State}
-use Rattle.meaning.specs.Number.{Reason, Small, refusal, got, fault, numberBytes}
+use Rattle.meaning.specs.Number.{Reason, Small, refusal, got, fault}
 use Rattle.meaning.specs.File.{Kind, kindOf, taskOf, taskBytesAs}
 use Rattle.meaning.specs.Workspace.{wordsFor, pairsAt, has}
 use Rattle.meaning.specs.Answer.{Answer, done, refused, Outcome, refuses, delivered}

@@ -1,5 +1,5 @@
 -- What silence answers for an accepted task, by its file and its parts.
-use Prim.Native.Nat.{ℕ, _*_, _<_, _≤_}
+use Prim.Native.Nat.{ℕ, _<_, _≤_}
 use mathlib.Core.Path.{_≡_, refl, sym, ap, _∙_, subst}
 use mathlib.Core.Logic.{_≢_}
 use mathlib.Core.Bool.{true, false}
@@ -7,7 +7,7 @@ use mathlib.Core.List.{List, List·Memᴰ as In}
 use native.Mathlib.Omega.{arith}
 use lib.ListN.{length, getD, drop}
 use borrow.Author.Tests.{eq-eqb, ne-eqb, lt-leb, le-leb}
-use Rattle.meaning.specs.Limits.{mostVariables, mostFeatures, numberEnd, wordBits}
+use Rattle.meaning.specs.Limits.{mostVariables, mostFeatures, numberEnd}
 use Rattle.meaning.specs.Task.{Task}
 use Rattle.meaning.specs.Feature.{atoms, features}
 use Rattle.meaning.specs.Number.{Reason, Range, Outgrown, got, fault}
@@ -15,13 +15,12 @@ use Rattle.meaning.specs.File.{judgedTask, Writable, InLimits, bytesOf, operato
 use Rattle.meaning.specs.Workspace.{has}
 use Rattle.meaning.specs.Answer.{Outcome, fine, faulty, refuses, delivered}
 use Rattle.meaning.specs.Partial.{builtSizes, silenced, silencesBy, Silences}
-use Rattle.theory.specs.Run.{members, members-listed, run-wider}
 use Rattle.theory.specs.Spent.{Bytes}
 use Rattle.theory.specs.Parts.{operators-said}
 use Rattle.theory.specs.PartialParts.{operators-copied}
 use Rattle.theory.specs.Flat.{getD-in, in-getD}
 use Rattle.theory.specs.Accepted.{accepted, accepted-end}
-use Rattle.words.specs.Members.{membersIn}
+use Rattle.words.specs.Members.{membersIn, members-are}
 use Rattle.layout.specs.Parts.{sizesPart, startPart, goalPart, pairsPart}
 use Rattle.task.specs.Answer.{Known, known-parts, known-ready}
 use Rattle.writer.specs.Parts.{Countable, FewWords}
@@ -56,16 +55,12 @@ module _ {bytes words left : List ℕ} {v n count at : ℕ} (known : Known bytes
 
   -- The header's parts, as they are lent.
   module _ (sizes start goal pairs : List ℕ) (sizes-are : sizes ≡ sizesPart v left) (start-is : start ≡ startPart v left) (goal-is : goal ≡ goalPart v left) (pairs-are : pairs ≡ pairsPart v n left) where
-    due : (features (read .sizes) ≤ wordBits * length pairs) × FewWords pairs
-    due =
-        let listed-in = known-ready (known .accepted) .0 in
-        let total = ap features (known-parts (known .accepted) .0) in
-        (omega (arith, listed-in .due, total, ap length pairs-are), omega (arith, listed-in .due, listed-in .limits .total, ap length pairs-are))
+    few-words : FewWords pairs
+    few-words = let listed-in = known-ready (known .accepted) .0 in omega (arith, listed-in .due, listed-in .limits .total, ap length pairs-are)
 
     pairs-members : membersIn pairs ≡ read .pairs
     pairs-members =
-        ap (members (wordBits * length pairs)) (ap has pairs-are ∙ known-parts (known .accepted) .3)
-        ∙ members-listed (atoms (read .sizes)) (wordBits * length pairs) (read .pairs) (run-wider _ _ _ _ (read .pairs) (omega arith) (due .0) (known .accepted .writable .acceptable .pairs))
+        members-are (atoms (read .sizes)) (features (read .sizes)) (read .pairs) pairs (known .accepted .writable .acceptable .pairs) (ap has pairs-are ∙ known-parts (known .accepted) .3)
 
     pub known-parted : Bytes bytes → (own : List ℕ) → own ≡ drop at bytes → Parted bytes own count sizes start goal pairs
     known-parted small own e = let parts = known-parts (known .accepted) in record {
@@ -75,7 +70,7 @@ module _ {bytes words left : List ℕ} {v n count at : ℕ} (known : Known bytes
       sizes-are = sizes-are ∙ parts .0;
       start-is = start-is ∙ parts .1;
       goal-is = goal-is ∙ parts .2;
-      few = due .1;
+      few = few-words;
       pairs-are = pairs-members;
       many = known .many;
       copied = e ∙ operators-copied bytes (read .sizes) count at (read .operators) (known .accepted .next) small (known .operators) (omega (arith, end));

@@ -9,7 +9,7 @@ use lib.ListN.{length, getD, replicate, length-replicate, getD-replicate}
 use lib.Dec.{leb, ltb}
 use borrow.Author.Tests.{leb-true, ltb-true}
 use Rattle.meaning.specs.Limits.{leastVariables, mostVariables, leastSize, mostSize, mostFeatures, numberEnd}
-use Rattle.meaning.specs.Task.{Entry, Operator, State, Entries, IsOperator, Run, size, value}
+use Rattle.meaning.specs.Task.{Entry, Operator, State, Entries, IsOperator, Run, size}
 use Rattle.meaning.specs.Feature.{features}
 use Rattle.meaning.specs.Number.{Reason, Limit, Range, Unordered, got, fault, number, numbersOn, numberBytes}
 use Rattle.meaning.specs.File.{inside, item, limited, rising, itemsOf, sizesOf, sizeList, header, valuesOf, Kind, plain, gapped, markOf, featureOf, featuresOf, featureList, entriesOf}

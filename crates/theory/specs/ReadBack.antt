@@ -13,7 +13,7 @@ use Rattle.meaning.specs.Sets.{listed}
 use Rattle.meaning.specs.Task.{Entry, Operator, Task, State, Entries, IsOperator, Run, size}
 use Rattle.meaning.specs.Feature.{atoms, features}
 use Rattle.meaning.specs.Pair.{closed}
-use Rattle.meaning.specs.Number.{Reason, Limit, Range, got, number, numberBytes}
+use Rattle.meaning.specs.Number.{Reason, Limit, Range, got, numberBytes}
 use Rattle.meaning.specs.File.{Parser, give, then, inside, item, judge, limited, rising, ended, itemsOf, sizesOf, sizeList, header, valuesOf, Kind, plain, gapped, kindOf, markOf, featureOf, featuresOf, featureList, entriesOf}
 use Rattle.meaning.specs.File.{operatorOf, operatorsOf, bodyOf, partsOf, taskAs, taskOf, judgedAs, judgedTask, judgedWeightsAs, judgedWeights, InLimits, Taken, Writable}
 use Rattle.meaning.specs.File.{bytesOf, counted, entryBytes, operatorBytes, weightBytes, gapsFrom, numbersFor, listBytes, markBytes, weightBytesAs, taskBytesAs, taskBytes}

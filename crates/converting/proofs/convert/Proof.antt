@@ -1,5 +1,5 @@
 -- `convert`: what is known of a task that was accepted as of the other kind goes to `convert_in`; a refusal is answered as it is.
-use mathlib.Core.Path.{_≡_, sym, ap, subst, _∙_}
+use mathlib.Core.Path.{sym, ap, _∙_}
 use lib.ListN.{replicate}
 use borrow.Author.Needs.{needs}
 use Rattle.meaning.specs.Limits.{mostVariables, mostFeatures}

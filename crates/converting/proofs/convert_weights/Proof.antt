@@ -5,7 +5,7 @@ use lib.ListN.{replicate, length-take}
 use borrow.Author.Needs.{needs}
 use Rattle.meaning.specs.Limits.{mostVariables, mostFeatures}
 use Rattle.meaning.specs.File.{kindIf}
-use Rattle.meaning.specs.Workspace.{wordsFor, slotsAt}
+use Rattle.meaning.specs.Workspace.{slotsAt}
 use Rattle.number.specs.Answers.{reasonOf}
 use Rattle.layout.specs.Parts.{room-zeros}
 use Rattle.task.specs.Answer.{Known, judged-accepted, judged-refused, known-room}

@@ -1,5 +1,4 @@
 -- `mark_width`: the new kind has the byte of a 0, the old one none.
-use mathlib.Core.Path.{_≡_}
 use borrow.Author.Needs.{needs}
 use Rattle.writer.proofs.mark_width.Statement.{statement}
 use Rattle.writer.proofs.mark_width.Tie as tie

@@ -20,14 +20,12 @@
  * Nothing is kept between calls and nothing is allocated. The most stack that a call can take, in bytes, whatever its input, as bench/stack reads it from
  * the compiled archive (measured, not proved; what memcpy and memset of the C library take comes on top):
  *
- *   line             84840      check_partial                       23048      add_operator       18840      replace_start  4544
- *   check_line       33048      build_partial, build_partial_lean   20992      silence            15568      replace_goal   4496
- *   open_partial     29232      mend, dropped                       20736      find                8736      display_bay     864
- *   display_partial  24976      pair_fault                          19296      build               5440      weight_file      64
- *   open             23592      display                             19136
- *   check            23144
- *   to_new, to_old                   TODO-STACK      check_new   TODO-STACK      check_partial_new  TODO-STACK
- *   weights_to_new, weights_to_old   TODO-STACK      display_new TODO-STACK
+ *   line             84872      check_partial, check_partial_new   23112      weights_to_new, weights_to_old  19248      replace_start  4544
+ *   open_partial     29232      build_partial, build_partial_lean  20992      add_operator                    18840      replace_goal   4496
+ *   display_partial  24992      mend, dropped                      20752      silence                         15616      display_bay     864
+ *   open             23608      pair_fault                         19296      to_new, to_old                  15152      weight_file      72
+ *   check_line       23288      display, display_new               19248      find                             8736
+ *   check, check_new 23144                                                    build                            5440
  *
  * Each call answers one number, case * 2^32 + value; take it apart by florumeja_case and florumeja_value:
  *

@@ -20,6 +20,12 @@ extern "C" {
         weights: *const u8,
         weights_length: usize,
     ) -> u64;
+    fn florumeja_check_new(
+        task: *const u8,
+        task_length: usize,
+        weights: *const u8,
+        weights_length: usize,
+    ) -> u64;
     fn florumeja_weight_file(
         words: *const u64,
         words_length: usize,
@@ -60,6 +66,34 @@ extern "C" {
         room: *mut u64,
         room_length: usize,
     ) -> u64;
+    fn florumeja_to_new(
+        task: *const u8,
+        task_length: usize,
+        room: *mut u8,
+        room_length: usize,
+    ) -> u64;
+    fn florumeja_to_old(
+        task: *const u8,
+        task_length: usize,
+        room: *mut u8,
+        room_length: usize,
+    ) -> u64;
+    fn florumeja_weights_to_new(
+        task: *const u8,
+        task_length: usize,
+        weights: *const u8,
+        weights_length: usize,
+        room: *mut u8,
+        room_length: usize,
+    ) -> u64;
+    fn florumeja_weights_to_old(
+        task: *const u8,
+        task_length: usize,
+        weights: *const u8,
+        weights_length: usize,
+        room: *mut u8,
+        room_length: usize,
+    ) -> u64;
 }
 
 pub fn open(task: &[u8], room: &mut [u64]) -> u64 {
@@ -82,6 +116,11 @@ pub fn find(workspace: &[u64], room: &mut [u64]) -> u64 {
 pub fn check(task: &[u8], weights: &[u8]) -> u64 {
     // SAFETY: both slices are alive, and nothing is lent for writing.
     unsafe { florumeja_check(task.as_ptr(), task.len(), weights.as_ptr(), weights.len()) }
+}
+
+pub fn check_new(task: &[u8], weights: &[u8]) -> u64 {
+    // SAFETY: both slices are alive, and nothing is lent for writing.
+    unsafe { florumeja_check_new(task.as_ptr(), task.len(), weights.as_ptr(), weights.len()) }
 }
 
 pub fn weight_file(words: &[u64], room: &mut [u8]) -> u64 {
@@ -140,4 +179,42 @@ pub fn mend(task: &[u8], room: &mut [u8]) -> u64 {
 pub fn pair_fault(task: &[u8], room: &mut [u64]) -> u64 {
     // SAFETY: both slices are alive and apart; only the room is lent for writing.
     unsafe { florumeja_pair_fault(task.as_ptr(), task.len(), room.as_mut_ptr(), room.len()) }
+}
+
+pub fn to_new(task: &[u8], room: &mut [u8]) -> u64 {
+    // SAFETY: both slices are alive and apart; only the room is lent for writing.
+    unsafe { florumeja_to_new(task.as_ptr(), task.len(), room.as_mut_ptr(), room.len()) }
+}
+
+pub fn to_old(task: &[u8], room: &mut [u8]) -> u64 {
+    // SAFETY: both slices are alive and apart; only the room is lent for writing.
+    unsafe { florumeja_to_old(task.as_ptr(), task.len(), room.as_mut_ptr(), room.len()) }
+}
+
+pub fn weights_to_new(task: &[u8], weights: &[u8], room: &mut [u8]) -> u64 {
+    // SAFETY: the three slices are alive and apart; only the room is lent for writing.
+    unsafe {
+        florumeja_weights_to_new(
+            task.as_ptr(),
+            task.len(),
+            weights.as_ptr(),
+            weights.len(),
+            room.as_mut_ptr(),
+            room.len(),
+        )
+    }
+}
+
+pub fn weights_to_old(task: &[u8], weights: &[u8], room: &mut [u8]) -> u64 {
+    // SAFETY: the three slices are alive and apart; only the room is lent for writing.
+    unsafe {
+        florumeja_weights_to_old(
+            task.as_ptr(),
+            task.len(),
+            weights.as_ptr(),
+            weights.len(),
+            room.as_mut_ptr(),
+            room.len(),
+        )
+    }
 }

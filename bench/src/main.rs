@@ -1,11 +1,12 @@
 //! Measures opening and finding: the proved library beside plain Rust of the same algorithm in two ways of numbering, beside plain Rust that inserts one
 //! row at a time, and libm4ri on the same rows. Below that opening an order that names some slots, what opening a bay has to do, and mending pair lists.
-//! With `thresholds` it measures when to settle instead, with `--stack` the stack of every public call.
+//! With `thresholds` it measures when to settle instead, with `files` how much smaller the new files are, with `--stack` the stack of every public call.
 
 mod answer;
 mod calls;
 mod check;
 mod clock;
+mod files;
 mod library;
 #[cfg_attr(not(feature = "m4ri"), path = "no_m4ri.rs")]
 mod m4ri;
@@ -13,6 +14,7 @@ mod measure;
 mod mending;
 mod orders;
 mod plain;
+mod rooms;
 mod share;
 mod stack;
 mod table;
@@ -118,12 +120,14 @@ fn finding(checked: &Checked) -> &'static str {
     }
 }
 
-/// Measures each case, or those whose names contain the first argument; or when to settle; or stack, by a listing of the library's functions.
+/// Measures each case, or those whose names contain the first argument; or when to settle; or both kinds of files; or stack, by a listing of the library's
+/// functions.
 fn main() -> ExitCode {
     let arguments: Vec<String> = std::env::args().skip(1).collect();
     let measured = match &arguments[..] {
         [option, listing] if option == "--stack" => stack::print(listing),
         [option] if option == "thresholds" => thresholds::print(),
+        [option] if option == "files" => files::print(),
         [wanted, ..] => run(wanted),
         [] => run(""),
     };

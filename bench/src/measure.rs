@@ -61,6 +61,12 @@ pub const FIGURE: Plan = Plan {
     least_turn: TURN,
 };
 
+/// Enough for the least time of a call: on a busy machine too some rounds are left undisturbed.
+pub const LEAST: Plan = Plan {
+    least_rounds: 101,
+    ..FIGURE
+};
+
 /// Enough for a figure of a call that takes half a second or more.
 const LONG: Plan = Plan {
     least_rounds: 5,
@@ -88,6 +94,11 @@ pub struct Times {
 impl Times {
     pub fn median(&self) -> f64 {
         median(self.seconds.clone())
+    }
+
+    /// The least of all rounds.
+    pub fn least(&self) -> f64 {
+        self.seconds.iter().copied().fold(f64::INFINITY, f64::min)
     }
 
     /// The median of the ratios round by round, over the rounds in which both had a turn.

@@ -3,17 +3,15 @@
 use crate::measure::{once, timed_warm};
 use crate::table::shown;
 use crate::tasks::bays::task_file;
-use crate::{answer, library};
+use crate::{answer, library, rooms};
 
 const NAME: &str = "bay 4 by 4";
 
 /// How often the check runs.
 const REPEATS: u32 = 15;
 
-/// Room for the workspace, for an answer in words, and for a weight file.
+/// Room for the workspace.
 const WORKSPACE_WORDS: usize = 14_992_917;
-const ANSWER_WORDS: usize = 484;
-const WEIGHT_BYTES: usize = 131_072;
 
 /// Seconds of both calls.
 pub struct Share {
@@ -32,7 +30,7 @@ pub fn measure(wanted: &str) -> Result<Option<Share>, String> {
     library::open(&task, &mut workspace);
     let (opened, opening) = once(|| library::open(&task, &mut workspace));
     answer::value(opened).ok_or(format!("{NAME}: the opening is refused"))?;
-    let weights = weights_of(&workspace)?;
+    let weights = rooms::weights_of(&workspace).ok_or(format!("{NAME}: no weights are found"))?;
     if library::check(&task, &weights) != 0 {
         return Err(format!(
             "{NAME}: the weights that are found are not accepted"
@@ -43,18 +41,6 @@ pub fn measure(wanted: &str) -> Result<Option<Share>, String> {
         opening,
         checking: checking / f64::from(REPEATS),
     }))
-}
-
-/// The weight file of what is found.
-fn weights_of(workspace: &[u64]) -> Result<Vec<u8>, String> {
-    let mut words = vec![0; ANSWER_WORDS];
-    if library::find(workspace, &mut words) != 0 {
-        return Err(format!("{NAME}: no weights are found"));
-    }
-    let mut file = vec![0; WEIGHT_BYTES];
-    let length = answer::value(library::weight_file(&words, &mut file));
-    file.truncate(length.ok_or(format!("{NAME}: the weights cannot be written"))?);
-    Ok(file)
 }
 
 pub fn print(share: &Option<Share>) {

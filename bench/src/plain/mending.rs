@@ -164,15 +164,14 @@ impl<N: Numbering> Mending<'_, N> {
     }
 }
 
-/// The file with another pair list. Each number before the list takes one byte.
+/// The file with another pair list.
 fn written<N: Numbering>(
     bytes: &[u8],
     front: &Front<N>,
     kept: &[usize],
     operators: &Operators,
 ) -> Vec<u8> {
-    let before = 1 + 3 * front.features.variables();
-    let mut file = bytes[..before].to_vec();
+    let mut file = bytes[..front.bytes_before_pairs()].to_vec();
     write_list(&mut file, kept);
     write_number(&mut file, operators.count);
     file.extend_from_slice(operators.reader.rest());

@@ -2,6 +2,7 @@
 
 mod features;
 mod file;
+mod listing;
 mod mending;
 mod numbering;
 mod observer;
@@ -13,7 +14,8 @@ mod slots;
 mod task;
 mod workspace;
 
-pub use file::{write_list, write_number, write_numbers, Refusal};
+pub use file::{write_list, write_number, write_numbers, Reader, Refusal};
+pub use listing::Listing;
 pub use mending::{mend, Mended};
 pub use numbering::{Anew, Numbering, Tables};
 pub use observer::Additions;

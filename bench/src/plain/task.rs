@@ -76,6 +76,11 @@ impl<N: Numbering> Front<N> {
             listed,
         })
     }
+
+    /// How many bytes stand before the pair list: each number there takes one.
+    pub fn bytes_before_pairs(&self) -> usize {
+        1 + 3 * self.features.variables()
+    }
 }
 
 impl<N: Numbering> Task<N> {

@@ -1,10 +1,7 @@
-//! Bays whose goal swaps two pallets, so that no moves lead there; the library writes their task files.
+//! Bays whose goal swaps two pallets where there are two, so that no moves lead there; the library writes their task files.
 
 use super::{Case, Kind};
-use crate::{answer, library};
-
-/// More than a task file takes of the largest bay, or of an order for it.
-const ROOM: usize = 16384;
+use crate::{library, rooms};
 
 pub fn case(rows: u8, columns: u8, kind: Kind) -> Case {
     Case {
@@ -21,15 +18,13 @@ pub fn task_file(rows: u8, columns: u8) -> Vec<u8> {
 pub fn bay_file(rows: u8, columns: u8) -> Vec<u8> {
     let start: Vec<u8> = (0..rows * columns).collect();
     let mut goal = start.clone();
-    goal.swap(1, 2);
+    if let [_, one, other, ..] = &mut goal[..] {
+        std::mem::swap(one, other);
+    }
     [vec![rows, columns], start, goal].concat()
 }
 
 /// The file that a call of the library writes.
 pub fn written(call: impl Fn(&mut [u8]) -> u64) -> Vec<u8> {
-    let mut room = vec![0; ROOM];
-    let length =
-        answer::value(call(&mut room)).expect("the library writes a file within its limits");
-    room.truncate(length);
-    room
+    rooms::written(call).expect("the library writes a file within its limits")
 }

@@ -1,22 +1,21 @@
 -- Smaller files, and the way back (document 02, ticket 7): each sentence of the ticket above the theorem that proves it, over what the calls may answer.
-use Prim.Native.Nat.{ℕ, zero, suc, _+_, _*_, _<_, _≤_}
+use Prim.Native.Nat.{ℕ, zero, suc, _+_, _-_, _<_, _≤_}
 use mathlib.Core.Path.{_≡_, refl, ap, sym, _∙_}
-use mathlib.Core.Logic.{_≢_, _↔_, Iff·rfl, Iff·trans}
+use mathlib.Core.Logic.{_≢_, _↔_, Iff·rfl, Iff·trans, _⊎_, inl, inr}
 use mathlib.Core.Bool.{Bool, not}
 use mathlib.Core.List.{List}
 use native.Mathlib.Omega.{arith}
-use native.Mathlib.Nat.{le-trans}
 use lib.Dec.{eqb, ltb}
 use lib.ListN.{length, getD, take, drop, length-append}
 use borrow.Author.Tests.{eqb-true, eqb-false, eq-eqb, le-leb, le-ltb}
 use Rattle.meaning.specs.Sets.{listed}
 use Rattle.meaning.specs.Limits.{mostFeatures, group, mostGroups}
-use Rattle.meaning.specs.Task.{Task}
-use Rattle.meaning.specs.Feature.{features}
+use Rattle.meaning.specs.Task.{Task, Run}
+use Rattle.meaning.specs.Feature.{atoms, features}
 use Rattle.meaning.specs.Weight.{Separates, Unsolvable}
 use Rattle.meaning.specs.Number.{Reason, Limit, Range, Unordered, refusal, Read, got, fault, groups, number, groupBytes, numberBytes}
 use Rattle.meaning.specs.File.{inside, item, limited, sizeList, header, Kind, plain, gapped, other, kindBy, kindOf, markOf, featureOf, featuresOf, featureList, ended, partsOf, taskAs, taskOf, judgedAs, judgedTask, judgedWeightsAs, judgedWeights}
-use Rattle.meaning.specs.File.{weightBytes, listBytes, markBytes, weightBytesAs, taskBytesAs}
+use Rattle.meaning.specs.File.{Acceptable, weightBytes, listBytes, markBytes, weightBytesAs, taskBytesAs}
 use Rattle.meaning.specs.Workspace.{has}
 use Rattle.meaning.specs.Answer.{Answer, done, refused, Outcome, writes, Verdict, accepted, ChecksAs, Checks, ChecksNew, Opens, separated, Finds}
 use Rattle.meaning.specs.Partial.{leftOut, judgedPartial, ChecksPartial, ChecksPartialNew}
@@ -34,7 +33,7 @@ use Rattle.theory.specs.Determined.{converts-weights-only}
 use Rattle.theory.specs.Refusals.{Faulty, RefusesExactly, refuses-exactly, checkJudged, buildJudged, convertWeightsJudged, checks-exactly, builds-exactly, converts-weights-refused}
 use Rattle.theory.specs.Demands.{accepts-exactly, not-accepted, accepted-unsolvable, found-accepted}
 use Rattle.theory.specs.PartialDemands.{whole, Unmet, partial-unmet}
-use Rattle.theory.specs.Shorter.{list-most, list-least, task-length}
+use Rattle.theory.specs.Shorter.{further, longest, list-least, list-further, list-longest, task-length}
 
 -- ---- a file has one kind
 
@@ -391,77 +390,94 @@ new-found-accepted file T next e room workspace k opens lent lent' finds =
 
 -- ---- how much room a converted file takes
 
--- So many bytes are enough for the file of a kind, where the file of the other kind has n: a mark, since no gap is longer than its feature; or, since a number has so many groups, as
--- many times.
-abbrev roomFor : Kind → ℕ → ℕ
-roomFor gapped n = n + 1
-roomFor plain n = mostGroups * n
+-- So many bytes more than a file has are enough for the file of a kind: the mark of a new one, since no gap is longer than its feature; and what features have more than a byte each,
+-- less the mark, since a gap has one at least.
+abbrev more : Kind → ℕ
+more gapped = 1
+more plain = further mostFeatures - 1
+
+-- The longest weight file of a kind.
+abbrev longestWeights : Kind → ℕ
+longestWeights kind = length (markBytes kind) + longest kind
 
 mark-length : (length (markBytes gapped) ≡ 1) × (length (markBytes plain) ≡ 0)
 unfolding numberBytes groupBytes
 mark-length = (refl, refl)
 
+-- As the header names them.
+rooms : (more gapped ≡ 1) × (more plain ≡ 49023) × (longestWeights gapped ≡ 32772) × (longestWeights plain ≡ 81795)
+unfolding numberBytes groupBytes
+rooms = (refl, refl, refl, refl)
+
 weights-length : (kind : Kind) (fs : List ℕ) → length (weightBytesAs kind fs) ≡ length (markBytes kind) + length (listBytes kind fs)
 unfolding weightBytesAs
 weights-length kind fs = length-append (markBytes kind) (listBytes kind fs)
 
-task-short : (kind : Kind) (T : Task) → length (taskBytesAs kind T) ≤ roomFor kind (length (taskBytesAs (other kind) T))
-task-short gapped T = omega (arith, task-length gapped T, task-length plain T, list-least gapped (T .pairs), mark-length .0, mark-length .1)
-task-short plain T = omega (arith, task-length gapped T, task-length plain T, list-most gapped (T .pairs), mark-length .0, mark-length .1)
+-- A task file of one kind beside that of the other,
+pub task-more : (kind : Kind) (T : Task) → Acceptable T → length (taskBytesAs kind T) ≤ length (taskBytesAs (other kind) T) + more kind
+task-more gapped T ok = omega (arith, task-length gapped T, task-length plain T, list-least gapped (T .pairs), mark-length .0, mark-length .1)
+task-more plain T ok = omega (
+  arith,
+  task-length gapped T,
+  task-length plain T,
+  list-further gapped (atoms (T .sizes)) (features (T .sizes)) (T .pairs) (ok .limits .total) (ok .pairs),
+  mark-length .0,
+  mark-length .1,
+)
 
-weights-short : (kind : Kind) (fs : List ℕ) → length (weightBytesAs kind fs) ≤ roomFor kind (length (weightBytesAs (other kind) fs))
-weights-short gapped fs = omega (arith, weights-length gapped fs, weights-length plain fs, list-least gapped fs, mark-length .0, mark-length .1)
-weights-short plain fs = omega (arith, weights-length gapped fs, weights-length plain fs, list-most gapped fs, mark-length .0, mark-length .1)
+-- and weights for a task with n features; these are never longer than so much.
+module _ (n : ℕ) (few : n ≤ mostFeatures) (fs : List ℕ) (run : Run 0 fs n) where
+  pub weights-more : (kind : Kind) → length (weightBytesAs kind fs) ≤ length (weightBytesAs (other kind) fs) + more kind
+  weights-more gapped = omega (arith, weights-length gapped fs, weights-length plain fs, list-least gapped fs, mark-length .0, mark-length .1)
+  weights-more plain = omega (arith, weights-length gapped fs, weights-length plain fs, list-further gapped 0 n fs few run, mark-length .0, mark-length .1)
 
--- A new file is at most a byte longer than the old one,
-pub new-file-short : (T : Task) → length (taskBytesAs gapped T) ≤ length (taskBytesAs plain T) + 1
-new-file-short = task-short gapped
-
-pub new-weights-short : (fs : List ℕ) → length (weightBytesAs gapped fs) ≤ length (weightBytesAs plain fs) + 1
-new-weights-short = weights-short gapped
-
--- and an old one at most so many times as long as the new one.
-pub old-file-short : (T : Task) → length (taskBytesAs plain T) ≤ mostGroups * length (taskBytesAs gapped T)
-old-file-short = task-short plain
-
-pub old-weights-short : (fs : List ℕ) → length (weightBytesAs plain fs) ≤ mostGroups * length (weightBytesAs gapped fs)
-old-weights-short = weights-short plain
+  pub weights-longest : (kind : Kind) → length (weightBytesAs kind fs) ≤ longestWeights kind
+  weights-longest kind = omega (arith, weights-length kind fs, list-longest kind 0 n fs few run)
 
 -- So such a room is not too small: for an accepted task,
-convert-fits : (kind : Kind) (task : List ℕ) (T : Task) (next : ℕ) → judgedAs (other kind) task ≡ got T next → Bytes task → (room : List ℕ) → roomFor kind (length task) ≤ length room
+convert-fits : (kind : Kind) (task : List ℕ) (T : Task) (next : ℕ) → judgedAs (other kind) task ≡ got T next → Bytes task → (room : List ℕ) → length task + more kind ≤ length room
     → (outcome : Outcome ℕ) → Converts kind task room outcome → (k : ℕ) × (outcome .answer ≡ done k)
 convert-fits kind task T next e small room fits outcome converts =
-    let bytes : task ≡ taskBytesAs (other kind) T = Files.accepted-as task (other kind) T next e .2 small in
-    let enough : length (taskBytesAs kind T) ≤ length room = le-trans (task-short kind T) (rw bytes at fits) in
+    let (_, writable, exact) = Files.accepted-as task (other kind) T next e in
+    let enough : length (taskBytesAs kind T) ≤ length room = omega (arith, task-more kind T (writable .acceptable), ap length (exact small), fits) in
     delivered-done (taskBytesAs kind T) room enough outcome (rw e at converts)
 
 -- to_new,
-pub to-new-fits : (task : List ℕ) (T : Task) (next : ℕ) → judgedAs plain task ≡ got T next → Bytes task → (room : List ℕ) → length task + 1 ≤ length room
+pub to-new-fits : (task : List ℕ) (T : Task) (next : ℕ) → judgedAs plain task ≡ got T next → Bytes task → (room : List ℕ) → length task + more gapped ≤ length room
     → (outcome : Outcome ℕ) → ConvertsToNew task room outcome → (k : ℕ) × (outcome .answer ≡ done k)
 to-new-fits = convert-fits gapped
 
 -- to_old,
-pub to-old-fits : (task : List ℕ) (T : Task) (next : ℕ) → judgedAs gapped task ≡ got T next → Bytes task → (room : List ℕ) → mostGroups * length task ≤ length room
+pub to-old-fits : (task : List ℕ) (T : Task) (next : ℕ) → judgedAs gapped task ≡ got T next → Bytes task → (room : List ℕ) → length task + more plain ≤ length room
     → (outcome : Outcome ℕ) → ConvertsToOld task room outcome → (k : ℕ) × (outcome .answer ≡ done k)
 to-old-fits = convert-fits plain
 
--- and for accepted weights beside their task.
+-- and for accepted weights beside their task; the longest file's is not either.
 convert-weights-fits : (kind : Kind) (task weights : List ℕ) (T : Task) (fs : List ℕ) (next end : ℕ) → judgedTask task ≡ got T next
-    → judgedWeightsAs (other kind) (features (T .sizes)) weights ≡ got fs end → Bytes weights → (room : List ℕ) → roomFor kind (length weights) ≤ length room
+    → judgedWeightsAs (other kind) (features (T .sizes)) weights ≡ got fs end → Bytes weights → (room : List ℕ)
+    → (length weights + more kind ≤ length room) ⊎ (longestWeights kind ≤ length room)
     → (outcome : Outcome ℕ) → ConvertsWeights kind task weights room outcome → (k : ℕ) × (outcome .answer ≡ done k)
 convert-weights-fits kind task weights T fs next end e read small room fits outcome converts =
-    let bytes : weights ≡ weightBytesAs (other kind) fs = Files.weights-bytes-as weights (other kind) (features (T .sizes)) fs end read small in
-    let enough : length (weightBytesAs kind fs) ≤ length room = le-trans (weights-short kind fs) (rw bytes at fits) in
+    let n = features (T .sizes) in
+    let few = few-features task T next e in
+    let run = Files.weights-accepted-as weights (other kind) n fs end read in
+    let bytes : weights ≡ weightBytesAs (other kind) fs = Files.weights-bytes-as weights (other kind) n fs end read small in
+    let enough : length (weightBytesAs kind fs) ≤ length room = elim fits [
+      | inl behind ↦ omega (arith, weights-more n few fs run kind, ap length bytes, behind)
+      | inr whole ↦ omega (arith, weights-longest n few fs run kind, whole)
+    ] in
     delivered-done (weightBytesAs kind fs) room enough outcome (rw (e, read) at converts)
 
 -- weights_to_new,
 pub weights-to-new-fits : (task weights : List ℕ) (T : Task) (fs : List ℕ) (next end : ℕ) → judgedTask task ≡ got T next
-    → judgedWeights (features (T .sizes)) weights ≡ got fs end → Bytes weights → (room : List ℕ) → length weights + 1 ≤ length room
+    → judgedWeights (features (T .sizes)) weights ≡ got fs end → Bytes weights → (room : List ℕ)
+    → (length weights + more gapped ≤ length room) ⊎ (longestWeights gapped ≤ length room)
     → (outcome : Outcome ℕ) → ConvertsWeightsToNew task weights room outcome → (k : ℕ) × (outcome .answer ≡ done k)
 weights-to-new-fits = convert-weights-fits gapped
 
 -- weights_to_old.
 pub weights-to-old-fits : (task weights : List ℕ) (T : Task) (fs : List ℕ) (next end : ℕ) → judgedTask task ≡ got T next
-    → judgedWeightsAs gapped (features (T .sizes)) weights ≡ got fs end → Bytes weights → (room : List ℕ) → mostGroups * length weights ≤ length room
+    → judgedWeightsAs gapped (features (T .sizes)) weights ≡ got fs end → Bytes weights → (room : List ℕ)
+    → (length weights + more plain ≤ length room) ⊎ (longestWeights plain ≤ length room)
     → (outcome : Outcome ℕ) → ConvertsWeightsToOld task weights room outcome → (k : ℕ) × (outcome .answer ≡ done k)
 weights-to-old-fits = convert-weights-fits plain

@@ -1,5 +1,5 @@
--- A mended file is never longer than the file that came, of either kind: a room of the task's length is enough. So it is for the list of what was dropped where an old file came;
--- where a new one came, whose gaps have fewer bytes than their features, as many such rooms are enough as a number has groups.
+-- How many bytes lists of features have, in files of either kind. A mended file is never longer than the file that came: a room of the task's length is enough. So it is for the
+-- list of what was dropped where an old file came; where a new one came, whose gaps have fewer bytes than their features, a room for the longest list is.
 use Prim.Native.Nat.{ℕ, zero, suc, _+_, _*_, _-_, _/_, _<_, _≤_}
 use mathlib.Core.Path.{_≡_, refl, ap}
 use mathlib.Core.Logic.{_≢_, inl, inr}
@@ -8,9 +8,9 @@ use mathlib.Core.List.{List, [], _∷_, _++_, List·Memᴰ·head as here, List·
 use native.Mathlib.Omega.{arith}
 use lib.Dec.{eqb, ltb}
 use lib.ListN.{length, length-append}
-use borrow.Author.Tests.{eqb-true, eqb-false, ltb-true, lt-ltb}
+use borrow.Author.Tests.{eqb-true, eqb-false, ltb-true, ltb-false, lt-ltb}
 use Rattle.meaning.specs.Sets.{listed}
-use Rattle.meaning.specs.Limits.{group, mostGroups}
+use Rattle.meaning.specs.Limits.{group, mostGroups, mostFeatures}
 use Rattle.meaning.specs.Task.{Task, Run}
 use Rattle.meaning.specs.Feature.{atoms, features}
 use Rattle.meaning.specs.Number.{groupBytes, numberBytes, got}
@@ -19,8 +19,9 @@ use Rattle.meaning.specs.Answer.{done, Outcome}
 use Rattle.meaning.specs.Mend.{Within, Sublist, mended, Mends, Drops}
 use Rattle.theory.specs.Truth.{on, off, test}
 use Rattle.theory.specs.Search.{listed-in, in-listed}
-use Rattle.theory.specs.Run.{run-more, run-in, run-first, run-rest}
+use Rattle.theory.specs.Run.{run-more, run-in, run-first, run-rest, run-length}
 use Rattle.theory.specs.Spent.{Bytes}
+use Rattle.theory.specs.NumberBack.{number-bytes-length}
 use Rattle.theory.specs.ReadBack.{saidAs, numbers-none, numbers-more, numbers-length}
 use Rattle.theory.specs.Accepted.{read-known}
 use Rattle.theory.specs.Delivered.{delivered-done}
@@ -131,30 +132,54 @@ unfolding numberBytes
 list-short kind lo hi lo' hi' a b r s h = let (few, short) = sublist-short kind 0 lo hi lo' hi' a b (omega arith) r s h in
     omega (arith, short, groups-more mostGroups (length a) (length b) few, list-length kind a, list-length kind b)
 
--- A number has a byte at least and a byte for each group at most.
-groups-most : (k n : ℕ) → length (groupBytes k n) ≤ k
+-- A small number has one byte, a larger one two; and none has more bytes than numbers up to it.
+groups-one : (k n : ℕ) → n < group → length (groupBytes k n) ≤ 1
 unfolding groupBytes
-groups-most zero n = omega arith
-groups-most (suc k) n = elim (test (ltb n group)) [ on e ↦ rw e (omega arith) | off e ↦ rw e (omega (arith, groups-most k (n / group))) ]
+groups-one zero n h = omega arith
+groups-one (suc k) n h = rw (lt-ltb n group h) (omega arith)
 
-groups-least : (k n : ℕ) → 1 ≤ length (groupBytes (suc k) n)
+groups-two : (k n : ℕ) → n < group * group → length (groupBytes k n) ≤ 2
 unfolding groupBytes
-groups-least k n = elim (test (ltb n group)) [ on e ↦ rw e (omega arith) | off e ↦ rw e (omega arith) ]
+groups-two zero n h = omega arith
+groups-two (suc k) n h = elim (test (ltb n group)) [ on e ↦ rw e (omega arith) | off e ↦ rw e (omega (arith, groups-one k (n / group) (omega arith))) ]
 
--- So a list of the old kind has at most so many times the bytes of the same list of either kind.
-spelled-most : (kind : Kind) (least : ℕ) (fs : List ℕ) → spelled plain least fs ≤ mostGroups * spelled kind least fs
+groups-up-to : (k n : ℕ) → length (groupBytes k n) ≤ suc n
+unfolding groupBytes
+groups-up-to zero n = omega arith
+groups-up-to (suc k) n = elim (test (ltb n group)) [ on e ↦ rw e (omega arith) | off e ↦ rw e (omega (arith, ltb-false n group e, groups-up-to k (n / group))) ]
+
+-- The bytes that all numbers below a bound have beside one for each: one from a group on, and another from a group of groups on.
+abbrev pub further : ℕ → ℕ
+further bound = (bound - group) + (bound - group * group)
+
+further-one : (low f : ℕ) → low ≤ f → length (numberBytes f) + further low ≤ suc (further (suc f))
 unfolding numberBytes
-spelled-most kind least [] = omega (arith, spelled-none plain least)
-spelled-most kind least (f ∷ fs) = omega (
-  arith,
-  spelled-more plain least f fs,
-  spelled-more kind least f fs,
-  spelled-most kind (suc f) fs,
-  groups-most mostGroups (saidAs plain least f),
-  groups-least 2 (saidAs kind least f),
-)
+further-one low f h = elim (test (ltb f group)) [
+  | on e ↦ let l = ltb-true f group e in omega (arith, groups-one mostGroups f l)
+  | off e ↦ let m = ltb-false f group e in elim (test (ltb f (group * group))) [
+    | on q ↦ let l = ltb-true f (group * group) q in omega (arith, groups-two mostGroups f l)
+    | off q ↦ let n = ltb-false f (group * group) q in omega (arith, number-bytes-length f .1)
+  ]
+]
 
--- And no fewer: a gap is no larger than its feature.
+-- So many bytes a list of the old kind has at most,
+spelled-further : (least low high : ℕ) (fs : List ℕ) → Run low fs high → spelled plain least fs + further low ≤ length fs + further high
+unfolding Run
+spelled-further least low high [] r = omega (arith, spelled-none plain least)
+spelled-further least low high (f ∷ fs) r = omega (arith, spelled-more plain least f fs, spelled-further (suc f) (suc f) high fs (r .1), further-one low f (r .0))
+
+-- and so many one of the new kind: a gap is as many numbers that are not listed, and has no more bytes than they and its feature are.
+spelled-gaps : (least low high : ℕ) (fs : List ℕ) → least ≤ low → Run low fs high → spelled gapped least fs + least ≤ high
+unfolding Run numberBytes
+spelled-gaps least low high [] h r = omega (arith, spelled-none gapped least)
+spelled-gaps least low high (f ∷ fs) h r = omega (arith, spelled-more gapped least f fs, spelled-gaps (suc f) (suc f) high fs (omega arith) (r .1), groups-up-to mostGroups (f - least), r .0)
+
+-- Of either kind a list has a byte for each feature at least.
+spelled-count : (kind : Kind) (least : ℕ) (fs : List ℕ) → length fs ≤ spelled kind least fs
+spelled-count kind least [] = omega arith
+spelled-count kind least (f ∷ fs) = omega (arith, spelled-more kind least f fs, spelled-count kind (suc f) fs, number-bytes-length (saidAs kind least f) .0)
+
+-- A gap is no larger than its feature.
 spelled-least : (kind : Kind) (least : ℕ) (fs : List ℕ) → spelled kind least fs ≤ spelled plain least fs
 unfolding numberBytes
 spelled-least kind least [] = omega (arith, spelled-none kind least)
@@ -170,12 +195,22 @@ spelled-least kind least (f ∷ fs) = omega (
     said-least plain = omega arith
     said-least gapped = omega arith
 
--- So it is with their count: the pairs of a task, or a weight list.
-pub list-most : (kind : Kind) (fs : List ℕ) → length (listBytes plain fs) ≤ mostGroups * length (listBytes kind fs)
-list-most kind fs = omega (arith, list-length plain fs, list-length kind fs, spelled-most kind 0 fs)
-
+-- With their count, the pairs of a task or a weight list: the old kind has no fewer bytes than either,
 pub list-least : (kind : Kind) (fs : List ℕ) → length (listBytes kind fs) ≤ length (listBytes plain fs)
 list-least kind fs = omega (arith, list-length plain fs, list-length kind fs, spelled-least kind 0 fs)
+
+-- and so many more at most.
+pub list-further : (kind : Kind) (low high : ℕ) (fs : List ℕ) → high ≤ mostFeatures → Run low fs high → length (listBytes plain fs) ≤ length (listBytes kind fs) + further mostFeatures
+list-further kind low high fs few r = omega (arith, list-length plain fs, list-length kind fs, spelled-further 0 low high fs r, spelled-count kind 0 fs)
+
+-- The longest list of each kind.
+abbrev pub longest : Kind → ℕ
+longest plain = mostGroups + (mostFeatures + further mostFeatures)
+longest gapped = mostGroups + mostFeatures
+
+pub list-longest : (kind : Kind) (low high : ℕ) (fs : List ℕ) → high ≤ mostFeatures → Run low fs high → length (listBytes kind fs) ≤ longest kind
+list-longest plain low high fs few r = omega (arith, list-length plain fs, number-bytes-length (length fs) .1, spelled-further 0 low high fs r, run-length low high fs r)
+list-longest gapped low high fs few r = omega (arith, list-length gapped fs, number-bytes-length (length fs) .1, spelled-gaps 0 low high fs (omega arith) r)
 
 -- The bytes of a task file around its mark and its list of pairs.
 pub around : Task → ℕ
@@ -233,12 +268,7 @@ module _ (task : List ℕ) (small : Bytes task) (T : Task) (next : ℕ) (read : 
   unfolding listBytes
   dropped-fits old room fits = dropped-by room (λ pairs sub. omega (arith, fits, short pairs sub, ap (λ k. length (listBytes k pairs)) old))
 
-  -- and of either kind, if the room has as many such lengths as a number has groups.
-  pub dropped-fits-either : (room : List ℕ) → mostGroups * length task ≤ length room → (outcome : Outcome ℕ) → Drops task room outcome → (k : ℕ) × (outcome .answer ≡ done k)
+  -- and of either kind, if the room has the bytes of the longest such list.
+  pub dropped-fits-either : (room : List ℕ) → longest plain ≤ length room → (outcome : Outcome ℕ) → Drops task room outcome → (k : ℕ) × (outcome .answer ≡ done k)
   unfolding listBytes
-  dropped-fits-either room fits = dropped-by room (λ pairs sub. omega (
-    arith,
-    fits,
-    short pairs sub,
-    list-most kind pairs,
-  ))
+  dropped-fits-either room fits = dropped-by room (λ pairs sub. omega (arith, fits, list-longest plain _ _ pairs (read-known task T next read .1 .limits .total) (sub .increasing)))

@@ -53,14 +53,17 @@ faultOf (Refused number) = refused number
 abbrev pub KeptIn : List ℕ → List ℕ → Type 0
 KeptIn bytes kept = (T : Task) (end : ℕ) → taskOf bytes 0 ≡ got T end → Largest T (membersIn kept)
 
+-- What is asked for: the mended file, or what is dropped.
+abbrev pub Answers : Bool → List ℕ → List ℕ → Outcome ℕ → Type 0
+Answers false = Mends
+Answers true = Drops
+
 -- ---- a task that is refused
 
 module _ (bytes room : List ℕ) (reason : Reason) (place : ℕ) (e : taskOf bytes 0 ≡ fault reason place) where
-  pub mend-refused : (outcome : Outcome ℕ) → outcome ≡ refuses reason room → Mends bytes room outcome
-  mend-refused outcome q = rw e q
-
-  pub drop-refused : (outcome : Outcome ℕ) → outcome ≡ refuses reason room → Drops bytes room outcome
-  drop-refused outcome q = rw e q
+  pub answer-refused : (dropping : Bool) (outcome : Outcome ℕ) → outcome ≡ refuses reason room → Answers dropping bytes room outcome
+  answer-refused false outcome q = rw e q
+  answer-refused true outcome q = rw e q
 
   pub fault-refused : (k : ℕ) → k ≡ refusal reason → FaultsPairs bytes room (record { answer = refused k; lent = room })
   fault-refused k q = rw (e, q) refl

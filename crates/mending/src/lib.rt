@@ -8,7 +8,7 @@ ghost use Rattle.meaning.specs.Workspace.{wordsFor};
 ghost use Rattle.meaning.specs.Mend.{Mends, Drops, FaultsPairs};
 ghost use Rattle.task.specs.Answer.{ReadInto};
 ghost use Rattle.writer.specs.Answer.{outcomeOf};
-ghost use Rattle.mending.specs.Answer.{KeptIn, faultOf};
+ghost use Rattle.mending.specs.Answer.{KeptIn, Answers, faultOf};
 use keeping::Fault;
 use limits::FAULT_WORDS;
 use limits::HEADER_WORDS;
@@ -129,38 +129,30 @@ fn tell_fault(
     }
 }
 
-// Writes the task file that keeps of a task's listed pairs the largest good sublist.
-pub fn mend(task: &[u8], room: &mut [u8]) -> Written
-    ensures { λ r. ⌜ Mends (now (task .entry)) (now (room .entry)) (outcomeOf r (now (room .exit))) ⌝ }
+// Writes for a task that was read, by its header and its counts, what is dropped of its pairs or the mended file. The lent words hold pairs meanwhile.
+fn answer_in(
+    task: &[u8],
+    header: &[u64],
+    v: usize,
+    n: usize,
+    count: usize,
+    at: usize,
+    dropping: bool,
+    pairs: &mut [u64],
+    room: &mut [u8],
+) -> Written
+    requires { ⌜ ((old : List ℕ) × ReadInto (now task) old (now header) v n count at) × (length (now pairs) ≡ wordsFor n) ⌝ }
+    ensures { λ r. ⌜ Answers dropping (now (task .entry)) (now (room .entry)) (outcomeOf r (now (room .exit))) ⌝ }
 {
-    let mut header = [0u64; HEADER_WORDS];
-    match task::read(task, &mut header) {
-        Judged::Accepted {
-            variables,
-            features,
-            operators,
-            at,
-        } => {
-            let words = layout::words_for(features);
-            let mut kept = [0u64; MOST_WORDS];
-            mend_in(
-                task,
-                &header,
-                variables,
-                features,
-                operators,
-                at,
-                &mut kept[..words],
-                room,
-            )
-        }
-        Judged::Refused(reason, _) => writer::refuse(reason),
+    if dropping {
+        return drop_in(task, header, v, n, count, at, pairs, room);
     }
+    mend_in(task, header, v, n, count, at, pairs, room)
 }
 
-// Writes the listed pairs that are dropped for it, increasing, with their count.
-pub fn dropped(task: &[u8], room: &mut [u8]) -> Written
-    ensures { λ r. ⌜ Drops (now (task .entry)) (now (room .entry)) (outcomeOf r (now (room .exit))) ⌝ }
+// Reads a task up to 5 and writes what is asked for.
+fn answer(task: &[u8], dropping: bool, room: &mut [u8]) -> Written
+    ensures { λ r. ⌜ Answers dropping (now (task .entry)) (now (room .entry)) (outcomeOf r (now (room .exit))) ⌝ }
 {
     let mut header = [0u64; HEADER_WORDS];
     match task::read(task, &mut header) {
@@ -172,19 +164,34 @@ pub fn dropped(task: &[u8], room: &mut [u8]) -> Written
         } => {
             let words = layout::words_for(features);
             let mut pairs = [0u64; MOST_WORDS];
-            drop_in(
+            answer_in(
                 task,
                 &header,
                 variables,
                 features,
                 operators,
                 at,
+                dropping,
                 &mut pairs[..words],
                 room,
             )
         }
         Judged::Refused(reason, _) => writer::refuse(reason),
     }
+}
+
+// Writes the task file that keeps of a task's listed pairs the largest good sublist.
+pub fn mend(task: &[u8], room: &mut [u8]) -> Written
+    ensures { λ r. ⌜ Mends (now (task .entry)) (now (room .entry)) (outcomeOf r (now (room .exit))) ⌝ }
+{
+    answer(task, false, room)
+}
+
+// Writes the listed pairs that are dropped for it, increasing, with their count.
+pub fn dropped(task: &[u8], room: &mut [u8]) -> Written
+    ensures { λ r. ⌜ Drops (now (task .entry)) (now (room .entry)) (outcomeOf r (now (room .exit))) ⌝ }
+{
+    answer(task, true, room)
 }
 
 // Says whether a task's list of pairs is good, and otherwise which pair is behind the refusal, and which operator. The file is judged up to 5, then the room.

@@ -233,8 +233,8 @@ fn mark_width(gapped: bool) -> usize
 // Writes the mark of a kind at the front, and answers the place after it.
 fn write_mark(room: &mut [u8], gapped: bool) -> usize
     requires { ⌜ length (markBytes (kindIf gapped)) ≤ length (now room) ⌝ }
-    ensures after { λ r. ⌜ r ≡ 0 + length (markBytes (kindIf gapped)) ⌝ }
-    ensures written { λ r. ⌜ now (room .exit) ≡ take 0 (now (room .entry)) ++ (markBytes (kindIf gapped) ++ drop r (now (room .entry))) ⌝ }
+    ensures after { λ r. ⌜ r ≡ length (markBytes (kindIf gapped)) ⌝ }
+    ensures written { λ r. ⌜ now (room .exit) ≡ markBytes (kindIf gapped) ++ drop r (now (room .entry)) ⌝ }
 {
     if gapped {
         return number::write_number(room, 0, 0);

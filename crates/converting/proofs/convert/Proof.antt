@@ -12,12 +12,14 @@ use Rattle.converting.specs.Answer.{due-kind, convert-refused}
 use Rattle.converting.proofs.convert.Statement.{statement}
 use Rattle.converting.proofs.convert.Tie as tie
 
--- What is known of a task that was accepted.
-known : (c : tie.After-variables) → let told = c .variables .given .0 in let a = c .before .before .before .before .before .before .before .args in
+-- Where the call began, and what is known of a task that was accepted.
+abbrev start : tie.After-variables → tie.Start
+start c = c .before .before .before .before .before .before .before
+
+known : (c : tie.After-variables) → let told = c .variables .given .0 in let a = start c .args in
     AcceptedAs (judgedAs (other (kindIf (a .gapped))) (a .task .now)) (a .task .now) (replicate (slotsAt mostVariables mostFeatures) 0) (c .before .before .before .judge-as .last .1 .1 .0)
     (told .0) (told .1 .0) (told .1 .1 .0) (told .1 .1 .1 .0)
-known c = let a = c .before .before .before .before .before .before .before .args in
-    rw (← due-kind (a .gapped)) (judged-told _ _ _ _ _ _ _ _ (c .before .before .before .judge-as .ensures) (c .variables .given .1))
+known c = rw (← due-kind (start c .args .gapped)) (judged-told _ _ _ _ _ _ _ _ (c .before .before .before .judge-as .ensures) (c .variables .given .1))
 
 slice-aggregate-judge-as : tie.Need-slice-aggregate-judge-as
 slice-aggregate-judge-as c = search needs

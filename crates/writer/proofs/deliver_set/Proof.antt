@@ -65,7 +65,7 @@ after-mark : (c : tie.After-write-mark) → let s = start (c .before .before .be
 unfolding weightBytesAs
 after-mark c =
     let w = c .write-mark .ensures in
-    remains-after (all (c .before .before)) (markBytes (kindIf (start (c .before .before .before) .args .gapped))) _ _ _ refl (w .0) (w .1)
+    remains-after (all (c .before .before)) (markBytes (kindIf (start (c .before .before .before) .args .gapped))) _ _ _ refl (omega (arith, w .0)) (w .1)
 
 write-mark-requires : tie.Need-write-mark-requires
 unfolding weightBytesAs

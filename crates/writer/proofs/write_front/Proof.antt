@@ -40,7 +40,7 @@ after-mark : (c : tie.After-write-mark) → let s = from-mark c in
     (counted numberBytes (s .args .sizes .now) ++ (bytesOf numberBytes (s .args .start .now) ++ (bytesOf numberBytes (s .args .goal .now) ++ pairs s)))
 unfolding frontBytes
 after-mark c =
-    let w = c .write-mark .ensures in remains-after (whole (from-mark c)) (markBytes (kindIf (from-mark c .args .gapped))) _ _ _ refl (w .0) (w .1)
+    let w = c .write-mark .ensures in remains-after (whole (from-mark c)) (markBytes (kindIf (from-mark c .args .gapped))) _ _ _ refl (omega (arith, w .0)) (w .1)
 
 after-sizes : (c : tie.After-write-list) → let s = from-sizes c in
     Remains (s .args .room .now) 0 (due s) (c .write-list .last .0) (c .write-list .result) (bytesOf numberBytes (s .args .start .now) ++ (bytesOf numberBytes (s .args .goal .now) ++ pairs s))

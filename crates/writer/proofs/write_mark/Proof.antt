@@ -16,7 +16,7 @@ same-length : tie.Need-same-length
 same-length c = search needs
 
 returns : tie.Need-returns
-returns c = simp (c .before .before .before .before .if1 .taken) (c .before .before .write-number .ensures)
+returns c = let w = c .before .before .write-number .ensures in simp (c .before .before .before .before .if1 .taken) (omega (arith, w .0), w .1)
 
 returns-2 : tie.Need-returns-2
 returns-2 c = simp (c .if1 .left) (refl, refl)

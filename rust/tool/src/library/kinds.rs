@@ -7,8 +7,9 @@ use crate::notation::Notation;
 
 /// What a new file may have more than the old one: the 0 that it begins with.
 const NEW_MORE: usize = 1;
-/// What an old file may have more: each of 32,768 features has three bytes where a gap has one.
-const OLD_MORE: usize = 2 * 32_768;
+/// What an old file may have more: two bytes for each of 16,384 features from 16,384 on and one for each
+/// of 16,256 from 128 on, where a gap has one byte at least, and not that 0.
+const OLD_MORE: usize = 2 * 16_384 + 16_256 - 1;
 
 /// The task file in this kind; it has to be of the other one.
 pub fn converted(to: Notation, task: &[u8]) -> Result<Vec<u8>, Fault> {

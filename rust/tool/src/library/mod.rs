@@ -59,46 +59,43 @@ pub enum Verdict {
     Operator(u32),
 }
 
-/// Asks the checker whether the weights separate start from goal.
-pub fn check(task: &[u8], weights: &[u8]) -> Result<Verdict, Fault> {
-    // SAFETY: both slices live through the call, which only reads them.
-    let word =
-        unsafe { florumeja_check(task.as_ptr(), task.len(), weights.as_ptr(), weights.len()) };
-    verdict("check", word)
-}
+/// A call that checks weights against a file.
+type Check = unsafe extern "C" fn(*const u8, usize, *const u8, usize) -> u64;
 
-/// The same, and the weights are a new weight file.
-pub fn check_new(task: &[u8], weights: &[u8]) -> Result<Verdict, Fault> {
-    let (from, length) = (task.as_ptr(), task.len());
+fn checked(name: &str, call: Check, file: &[u8], weights: &[u8]) -> Result<Verdict, Fault> {
     // SAFETY: both slices live through the call, which only reads them.
-    let word = unsafe { florumeja_check_new(from, length, weights.as_ptr(), weights.len()) };
-    verdict("check_new", word)
-}
-
-/// Asks the same about a partial file's built task, by the letter.
-pub fn check_partial(partial: &[u8], weights: &[u8]) -> Result<Verdict, Fault> {
-    let (from, length) = (partial.as_ptr(), partial.len());
-    // SAFETY: both slices live through the call, which only reads them.
-    let word = unsafe { florumeja_check_partial(from, length, weights.as_ptr(), weights.len()) };
-    verdict("check_partial", word)
-}
-
-/// The same, and the weights are a new weight file.
-pub fn check_partial_new(partial: &[u8], weights: &[u8]) -> Result<Verdict, Fault> {
-    let (from, length) = (partial.as_ptr(), partial.len());
-    // SAFETY: both slices live through the call, which only reads them.
-    let word =
-        unsafe { florumeja_check_partial_new(from, length, weights.as_ptr(), weights.len()) };
-    verdict("check_partial_new", word)
-}
-
-fn verdict(call: &str, word: u64) -> Result<Verdict, Fault> {
-    match answer(call, word)? {
+    let word = unsafe { call(file.as_ptr(), file.len(), weights.as_ptr(), weights.len()) };
+    match answer(name, word)? {
         Answer::Yes(_) => Ok(Verdict::Accepted),
         Answer::No => Ok(Verdict::EndsAlike),
         Answer::Operator(number) => Ok(Verdict::Operator(number)),
         Answer::Refused(number) => Err(Fault::Refused(number)),
     }
+}
+
+/// Asks the checker whether the weights separate start from goal.
+pub fn check(task: &[u8], weights: &[u8]) -> Result<Verdict, Fault> {
+    checked("check", florumeja_check, task, weights)
+}
+
+/// The same, and the weights are a new weight file.
+pub fn check_new(task: &[u8], weights: &[u8]) -> Result<Verdict, Fault> {
+    checked("check_new", florumeja_check_new, task, weights)
+}
+
+/// Asks the same about a partial file's built task, by the letter.
+pub fn check_partial(partial: &[u8], weights: &[u8]) -> Result<Verdict, Fault> {
+    checked("check_partial", florumeja_check_partial, partial, weights)
+}
+
+/// The same, and the weights are a new weight file.
+pub fn check_partial_new(partial: &[u8], weights: &[u8]) -> Result<Verdict, Fault> {
+    checked(
+        "check_partial_new",
+        florumeja_check_partial_new,
+        partial,
+        weights,
+    )
 }
 
 /// The line that the checker's program prints for the same two files, without its line end.

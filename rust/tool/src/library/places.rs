@@ -36,55 +36,43 @@ impl Part {
     }
 }
 
-/// The bytes at fault in a task file, or else in the weights beside it.
-pub fn display(task: &[u8], weights: &[u8]) -> Result<Part, Fault> {
+/// A call that shows what is at fault in a file or in the weights beside it.
+type Display = unsafe extern "C" fn(*const u8, usize, *const u8, usize, *mut u64, usize) -> u64;
+
+fn displayed(name: &str, call: Display, file: &[u8], weights: &[u8]) -> Result<Part, Fault> {
     let mut room = [0u64; 2];
     // SAFETY: all slices live through the call, and only the room is written.
     let word = unsafe {
-        florumeja_display(
-            task.as_ptr(),
-            task.len(),
+        call(
+            file.as_ptr(),
+            file.len(),
             weights.as_ptr(),
             weights.len(),
             room.as_mut_ptr(),
             room.len(),
         )
     };
-    shown("display", word, room, task, weights)
+    shown(name, word, room, file, weights)
+}
+
+/// The bytes at fault in a task file, or else in the weights beside it.
+pub fn display(task: &[u8], weights: &[u8]) -> Result<Part, Fault> {
+    displayed("display", florumeja_display, task, weights)
 }
 
 /// The same, and the weights are a new weight file.
 pub fn display_new(task: &[u8], weights: &[u8]) -> Result<Part, Fault> {
-    let mut room = [0u64; 2];
-    // SAFETY: all slices live through the call, and only the room is written.
-    let word = unsafe {
-        florumeja_display_new(
-            task.as_ptr(),
-            task.len(),
-            weights.as_ptr(),
-            weights.len(),
-            room.as_mut_ptr(),
-            room.len(),
-        )
-    };
-    shown("display_new", word, room, task, weights)
+    displayed("display_new", florumeja_display_new, task, weights)
 }
 
 /// The bytes at fault in a partial file, or else in weights for its built task.
 pub fn display_partial(partial: &[u8], weights: &[u8]) -> Result<Part, Fault> {
-    let mut room = [0u64; 2];
-    // SAFETY: all slices live through the call, and only the room is written.
-    let word = unsafe {
-        florumeja_display_partial(
-            partial.as_ptr(),
-            partial.len(),
-            weights.as_ptr(),
-            weights.len(),
-            room.as_mut_ptr(),
-            room.len(),
-        )
-    };
-    shown("display_partial", word, room, partial, weights)
+    displayed(
+        "display_partial",
+        florumeja_display_partial,
+        partial,
+        weights,
+    )
 }
 
 /// The same in a bay file, which has no weights beside it.

@@ -22,7 +22,7 @@
  *
  *   line             84872      check_partial, check_partial_new   23112      weights_to_new, weights_to_old  19248      replace_start  4544
  *   open_partial     29232      build_partial, build_partial_lean  20992      add_operator                    18840      replace_goal   4496
- *   display_partial  24992      mend, dropped                      20752      silence                         15616      display_bay     864
+ *   display_partial  24992      mend, dropped                      20832      silence                         15616      display_bay     864
  *   open             23608      pair_fault                         19296      to_new, to_old                  15152      weight_file      72
  *   check_line       23288      display, display_new               19248      find                             8736
  *   check, check_new 23144                                                    build                            5440

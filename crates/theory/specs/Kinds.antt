@@ -2,26 +2,27 @@
 use Prim.Native.Nat.{ℕ, zero, suc, _+_, _-_, _<_, _≤_}
 use mathlib.Core.Path.{_≡_, refl, ap, sym, _∙_}
 use mathlib.Core.Logic.{_≢_, _↔_, Iff·rfl, Iff·trans, _⊎_, inl, inr}
-use mathlib.Core.Bool.{Bool, not}
-use mathlib.Core.List.{List}
+use mathlib.Core.Bool.{Bool, not, cond}
+use mathlib.Core.List.{List, [], _∷_, _++_}
 use native.Mathlib.Omega.{arith}
 use lib.Dec.{eqb, ltb}
 use lib.ListN.{length, getD, take, drop, length-append}
-use borrow.Author.Tests.{eqb-true, eqb-false, eq-eqb, le-leb, le-ltb}
-use Rattle.meaning.specs.Sets.{listed}
-use Rattle.meaning.specs.Limits.{mostFeatures, group, mostGroups}
-use Rattle.meaning.specs.Task.{Task, Run}
+use borrow.Author.Tests.{eqb-true, eqb-false, eq-eqb, ltb-true, le-leb, le-ltb}
+use Rattle.meaning.specs.Sets.{table, listed}
+use Rattle.meaning.specs.Limits.{mostVariables, mostFeatures, group, mostGroups}
+use Rattle.meaning.specs.Task.{Task, Run, value, size}
 use Rattle.meaning.specs.Feature.{atoms, features}
 use Rattle.meaning.specs.Weight.{Separates, Unsolvable}
 use Rattle.meaning.specs.Number.{Reason, Limit, Range, Unordered, refusal, Read, got, fault, groups, number, groupBytes, numberBytes}
 use Rattle.meaning.specs.File.{inside, item, limited, sizeList, header, Kind, plain, gapped, other, kindBy, kindOf, markOf, featureOf, featuresOf, featureList, ended, partsOf, taskAs, taskOf, judgedAs, judgedTask, judgedWeightsAs, judgedWeights}
-use Rattle.meaning.specs.File.{Acceptable, weightBytes, listBytes, markBytes, weightBytesAs, taskBytesAs}
+use Rattle.meaning.specs.File.{Acceptable, bytesOf, counted, operatorBytes, weightBytes, listBytes, markBytes, weightBytesAs, taskBytesAs, taskBytes}
 use Rattle.meaning.specs.Workspace.{has}
-use Rattle.meaning.specs.Answer.{Answer, done, refused, Outcome, writes, Verdict, accepted, ChecksAs, Checks, ChecksNew, Opens, separated, Finds}
-use Rattle.meaning.specs.Partial.{leftOut, judgedPartial, ChecksPartial, ChecksPartialNew}
+use Rattle.meaning.specs.Answer.{Answer, done, refused, Outcome, writes, Verdict, accepted, ChecksAs, Checks, ChecksNew, Opens, separated, Finds, fine}
+use Rattle.meaning.specs.Partial.{leftOut, judgedPartial, marksIn, namedIn, partialBytes, ChecksPartial, ChecksPartialNew, silenced, marksJudged, Silences}
 use Rattle.meaning.specs.Convert.{Converts, ConvertsToNew, ConvertsToOld, ConvertsWeights, ConvertsWeightsToNew, ConvertsWeightsToOld}
 use Rattle.meaning.specs.Before.{asBefore, numberBy, itemBy, limitedBy, sizeListBy, headerBy, taskBy, judgedTaskBy}
 use Rattle.theory.specs.Truth.{on, off, test}
+use Rattle.theory.specs.Flat.{length-table, getD-table}
 use Rattle.theory.specs.Run.{members, run-members}
 use Rattle.theory.specs.Spent.{Bytes}
 use Rattle.theory.specs.Reading.{not-got, got-value, on-got, by-got, test-passed, test-failed}
@@ -33,7 +34,7 @@ use Rattle.theory.specs.Determined.{converts-weights-only}
 use Rattle.theory.specs.Refusals.{Faulty, RefusesExactly, refuses-exactly, checkJudged, buildJudged, convertWeightsJudged, checks-exactly, builds-exactly, converts-weights-refused}
 use Rattle.theory.specs.Demands.{accepts-exactly, not-accepted, accepted-unsolvable, found-accepted}
 use Rattle.theory.specs.PartialDemands.{whole, Unmet, partial-unmet}
-use Rattle.theory.specs.Shorter.{further, longest, list-least, list-further, list-longest, task-length}
+use Rattle.theory.specs.Shorter.{further, longest, list-least, list-further, list-longest, around, task-length}
 
 -- ---- a file has one kind
 
@@ -481,3 +482,73 @@ pub weights-to-old-fits : (task weights : List ℕ) (T : Task) (fs : List ℕ) (
     → (length weights + more plain ≤ length room) ⊎ (longestWeights plain ≤ length room)
     → (outcome : Outcome ℕ) → ConvertsWeightsToOld task weights room outcome → (k : ℕ) × (outcome .answer ≡ done k)
 weights-to-old-fits = convert-weights-fits plain
+
+-- ---- how much room the partial file of a task takes
+
+-- Each mark is a byte, and no goal value is written that the task has not.
+marks-bytes : (sizes goal : List ℕ) → length (bytesOf numberBytes (marksIn sizes goal)) ≤ length sizes
+unfolding marksIn bytesOf numberBytes groupBytes
+marks-bytes [] goal = omega arith
+marks-bytes (d ∷ ds) [] = omega arith
+marks-bytes (d ∷ ds) (g ∷ gs) = elim (test (ltb g d)) [ on e ↦ rw e (omega (arith, marks-bytes ds gs)) | off e ↦ rw e (omega (arith, marks-bytes ds gs)) ]
+
+named-bytes : (sizes given goal : List ℕ) → length given ≡ length goal → ((i : ℕ) → i < length sizes → value given i < size sizes i → value given i ≡ value goal i)
+    → length (bytesOf numberBytes (namedIn sizes given)) ≤ length (bytesOf numberBytes goal)
+unfolding namedIn bytesOf
+named-bytes [] given goal e h = omega arith
+named-bytes (d ∷ ds) [] goal e h = omega arith
+named-bytes (d ∷ ds) (g ∷ gs) [] e h = absurd (omega (arith, e))
+named-bytes (d ∷ ds) (g ∷ gs) (x ∷ xs) e h =
+    let rest = named-bytes ds gs xs (omega (arith, e)) (λ i l. h (suc i) (omega arith)) in
+    let whole = length-append (numberBytes x) (bytesOf numberBytes xs) in
+    elim (test (ltb g d)) [
+      | on q ↦ let same : g ≡ x = h 0 (omega arith) (ltb-true g d q) in
+          rw q (omega (arith, rest, whole, length-append (numberBytes g) (bytesOf numberBytes (namedIn ds gs)), ap (λ n. length (numberBytes n)) same))
+      | off q ↦ rw q (omega (arith, rest, whole))
+    ]
+
+-- So it has a byte for each variable more than the old file of the task, at most.
+silenced-bytes : (T : Task) (marks : List ℕ) → Acceptable T → length (partialBytes (silenced T marks)) ≤ length (taskBytes T) + mostVariables
+unfolding partialBytes silenced around listBytes
+silenced-bytes T marks ok =
+    let v = length (T .sizes) in
+    let pick : ℕ → ℕ = λ i. cond (eqb (value marks i) 1) (value (T .goal) i) (size (T .sizes) i) in
+    let given = table v pick in
+    let operators = weightBytes (T .pairs) ++ counted operatorBytes (T .operators) in
+    let named = bytesOf numberBytes (namedIn (T .sizes) given) ++ operators in
+    let start = bytesOf numberBytes (T .start) ++ named in
+    let said = bytesOf numberBytes (marksIn (T .sizes) given) ++ start in
+    omega (
+      arith,
+      length-append (counted numberBytes (T .sizes)) said,
+      length-append (bytesOf numberBytes (marksIn (T .sizes) given)) start,
+      length-append (bytesOf numberBytes (T .start)) named,
+      length-append (bytesOf numberBytes (namedIn (T .sizes) given)) operators,
+      length-append (weightBytes (T .pairs)) (counted operatorBytes (T .operators)),
+      marks-bytes (T .sizes) given,
+      named-bytes (T .sizes) given (T .goal) (length-table v pick ∙ sym (ok .goal .full)) (λ i l h. getD-table v pick i 0 l ∙ kept i (rw (getD-table v pick i 0 l) at h)),
+      task-length plain T,
+      ok .limits .variables,
+    )
+  where
+    kept : (i : ℕ) → cond (eqb (value marks i) 1) (value (T .goal) i) (size (T .sizes) i) < size (T .sizes) i
+        → cond (eqb (value marks i) 1) (value (T .goal) i) (size (T .sizes) i) ≡ value (T .goal) i
+    kept i h = elim (test (eqb (value marks i) 1)) [ on e ↦ rw e refl | off e ↦ absurd (let l : size (T .sizes) i < size (T .sizes) i = rw e at h in omega arith) ]
+
+-- What an old file may have more than the file that came.
+abbrev spare : Kind → ℕ
+spare plain = 0
+spare gapped = more plain
+
+old-spare : (kind : Kind) (T : Task) → Acceptable T → length (taskBytes T) ≤ length (taskBytesAs kind T) + spare kind
+old-spare plain T ok = omega arith
+old-spare gapped T ok = task-more plain T ok
+
+-- A room that has so many bytes more than the task is not too small for `silence`.
+pub silence-fits : (task marks : List ℕ) (T : Task) (next : ℕ) → judgedTask task ≡ got T next → Bytes task → marksJudged T marks ≡ fine → (room : List ℕ)
+    → length task + spare (kindOf task 0) + mostVariables ≤ length room → (outcome : Outcome ℕ) → Silences task marks room outcome → (k : ℕ) × (outcome .answer ≡ done k)
+silence-fits task marks T next e small good room fits outcome silences =
+    let ok = Files.accepted task T next e .acceptable in
+    let enough : length (partialBytes (silenced T marks)) ≤ length room =
+    omega (arith, silenced-bytes T marks ok, old-spare (kindOf task 0) T ok, ap length (Files.accepted-bytes task T next e small), fits) in
+    delivered-done (partialBytes (silenced T marks)) room enough outcome (rw (e, good) at silences)

@@ -213,7 +213,7 @@ list-longest plain low high fs few r = omega (arith, list-length plain fs, numbe
 list-longest gapped low high fs few r = omega (arith, list-length gapped fs, number-bytes-length (length fs) .1, spelled-gaps 0 low high fs (omega arith) r)
 
 -- The bytes of a task file around its mark and its list of pairs.
-pub around : Task → ℕ
+unfoldable pub around : Task → ℕ
 around T =
     length (counted numberBytes (T .sizes)) + length (bytesOf numberBytes (T .start)) + length (bytesOf numberBytes (T .goal)) + length (counted operatorBytes (T .operators))
 

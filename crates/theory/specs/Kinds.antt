@@ -5,16 +5,16 @@ use mathlib.Core.Logic.{_≢_, _↔_, Iff·rfl, Iff·trans, _⊎_, inl, inr}
 use mathlib.Core.Bool.{Bool, not, cond}
 use mathlib.Core.List.{List, [], _∷_, _++_}
 use native.Mathlib.Omega.{arith}
-use lib.Dec.{eqb, ltb}
-use lib.ListN.{length, getD, take, drop, length-append}
+use lib.Dec.{eqb, leb, ltb}
+use lib.ListN.{length, getD, take, drop, replicate, length-append}
 use borrow.Author.Tests.{eqb-true, eqb-false, eq-eqb, ltb-true, le-leb, le-ltb}
 use Rattle.meaning.specs.Sets.{table, listed}
-use Rattle.meaning.specs.Limits.{mostVariables, mostFeatures, group, mostGroups}
+use Rattle.meaning.specs.Limits.{mostVariables, mostFeatures, group, mostGroups, numberEnd}
 use Rattle.meaning.specs.Task.{Task, Run, value, size}
-use Rattle.meaning.specs.Feature.{atoms, features}
+use Rattle.meaning.specs.Feature.{sumOf, atoms, features}
 use Rattle.meaning.specs.Weight.{Separates, Unsolvable}
 use Rattle.meaning.specs.Number.{Reason, Limit, Range, Unordered, refusal, Read, got, fault, groups, number, groupBytes, numberBytes}
-use Rattle.meaning.specs.File.{inside, item, limited, sizeList, header, Kind, plain, gapped, other, kindBy, kindOf, markOf, featureOf, featuresOf, featureList, ended, partsOf, taskAs, taskOf, judgedAs, judgedTask, judgedWeightsAs, judgedWeights}
+use Rattle.meaning.specs.File.{Parser, inside, item, itemsOf, limited, sizeList, header, Kind, plain, gapped, other, kindBy, kindOf, markOf, featureOf, featuresOf, featureList, ended, partsOf, taskAs, taskOf, judgedAs, judgedTask, judgedWeightsAs, judgedWeights}
 use Rattle.meaning.specs.File.{Acceptable, bytesOf, counted, operatorBytes, weightBytes, listBytes, markBytes, weightBytesAs, taskBytesAs, taskBytes}
 use Rattle.meaning.specs.Workspace.{has}
 use Rattle.meaning.specs.Answer.{Answer, done, refused, Outcome, writes, Verdict, accepted, ChecksAs, Checks, ChecksNew, Opens, separated, Finds, fine}
@@ -22,10 +22,11 @@ use Rattle.meaning.specs.Partial.{leftOut, judgedPartial, marksIn, namedIn, par
 use Rattle.meaning.specs.Convert.{Converts, ConvertsToNew, ConvertsToOld, ConvertsWeights, ConvertsWeightsToNew, ConvertsWeightsToOld}
 use Rattle.meaning.specs.Before.{asBefore, numberBy, itemBy, limitedBy, sizeListBy, headerBy, taskBy, judgedTaskBy}
 use Rattle.theory.specs.Truth.{on, off, test}
+use Rattle.theory.specs.Search.{and-right}
 use Rattle.theory.specs.Flat.{length-table, getD-table}
 use Rattle.theory.specs.Run.{members, run-members}
 use Rattle.theory.specs.Spent.{Bytes}
-use Rattle.theory.specs.Reading.{not-got, got-value, on-got, by-got, test-passed, test-failed}
+use Rattle.theory.specs.Reading.{not-got, got-value, on-got, item-read, by-got, test-passed, test-failed}
 use Rattle.theory.specs.AsRead.{FaultsAmong, got-among, on-among, tested-among, number-among, item-among, ended-among}
 use Rattle.theory.specs.ReadBack.{read-back-as, weights-back-as, weights-back}
 use Rattle.theory.specs.Accepted as Files
@@ -132,6 +133,35 @@ module _ (bytes : List ℕ) where
         | off z ↦ other-refused n end read (omega (arith, eqb-false n 0 z))
       ]
       by (fault reason place) read q = absurd (not-got (sym (ill-formed plain reason place read) ∙ e))
+
+-- ---- "A gap list whose sum passes the range is 3"
+
+-- So many numbers, of any value.
+abbrev numbersOf : ℕ → Parser (List ℕ)
+numbersOf k = itemsOf 0 Range (replicate k numberEnd)
+
+-- The last feature is the numbers added up, and one for each but the last, above the least that the first can be.
+gaps-past : (k low high least : ℕ) (bytes : List ℕ) (place : ℕ) (ns : List ℕ) (end : ℕ) → numbersOf k bytes place ≡ got ns end → least ≤ high → high < least + (sumOf ns + length ns)
+    → (at : ℕ) × (featuresOf gapped k low high least bytes place ≡ fault Range at)
+unfolding itemsOf sumOf featuresOf featureOf
+gaps-past zero low high least bytes place ns end e h past = let none : [] ≡ ns = got-value e in absurd (let s : sumOf ns + length ns ≡ 0 = ap (λ l. sumOf l + length l) (sym none) in omega (arith, s))
+gaps-past (suc k) low high least bytes place ns end e h past =
+    let (n, next, p, q) = on-got (item (inside 0 numberEnd) Range bytes place) _ ns end e in
+    let (ms, after, r, z) = on-got (numbersOf k bytes next) _ ns end q in
+    let first = item-read (inside 0 numberEnd) Range bytes place n next p in
+    let all : sumOf ns + length ns ≡ suc (n + (sumOf ms + length ms)) = ap (λ l. sumOf l + length l) (sym (got-value z)) ∙ omega arith in
+    elim (test (inside low high (least + n))) [
+      | on t ↦ let below : least + n < high = ltb-true (least + n) high (and-right (leb low (least + n)) _ t) in
+          let (at, fails) = gaps-past k low high (suc (least + n)) bytes next ms after r below (omega (arith, past, all)) in
+          (at, rw (first, t, fails) refl)
+      | off t ↦ (place, rw (first, t) refl)
+    ]
+
+-- For a list of any range, and so for the pairs of a new task file and for new weights: its numbers are well formed, and the last feature is not below the end of the range.
+pub sum-past : (low high : ℕ) (bytes : List ℕ) (place k next : ℕ) (ns : List ℕ) (end : ℕ) → number bytes place ≡ got k next → numbersOf k bytes next ≡ got ns end → high < sumOf ns + length ns
+    → (at : ℕ) × (featureList gapped low high bytes place ≡ fault Range at)
+unfolding featureList
+sum-past low high bytes place k next ns end e read past = let (at, fails) = gaps-past k low high 0 bytes next ns end read (omega arith) (omega (arith, past)) in (at, rw (e, fails) refl)
 
 -- ---- "4 no longer occurs for gap lists"
 

@@ -13,7 +13,7 @@ same-length-2 : tie.Need-same-length-2
 same-length-2 c = search needs
 
 returns : tie.Need-returns
-returns c = rw (c .before .before .before .before .before .before .before .if1 .taken) (c .before .before .before .before .drop-in .ensures)
+returns c = let d = c .before .before .before .before in rw (d .before .before .before .if1 .taken) (d .drop-in .ensures)
 
 mend-in-requires : tie.Need-mend-in-requires
 mend-in-requires c κs = search needs
@@ -25,7 +25,7 @@ same-length-4 : tie.Need-same-length-4
 same-length-4 c = search needs
 
 returns-2 : tie.Need-returns-2
-returns-2 c = rw (c .before .before .before .before .before .before .before .if1 .left) (c .before .before .before .before .mend-in .ensures)
+returns-2 c = let m = c .before .before .before .before in rw (m .before .before .before .if1 .left) (m .mend-in .ensures)
 
 pub answer-in-spec : {M : Type 1} → statement M
 answer-in-spec =

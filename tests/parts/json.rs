@@ -1,10 +1,9 @@
-//! For tests/tool: reads JSON on standard input, strictly, and prints the value at a path.
+//! For tests/tool: reads JSON on standard input, strictly, and prints a line for each path: its value, or what is wrong.
 //!
 //! A path is names and places with dots between them; # is the length of a list.
 
 use std::env;
 use std::io::{self, Read};
-use std::process::exit;
 
 enum Value {
     /// A number, true, false or null, as it is written.
@@ -15,18 +14,15 @@ enum Value {
 }
 
 fn main() {
-    let path = env::args().nth(1).unwrap_or_default();
     let mut text = String::new();
     let read = io::stdin().read_to_string(&mut text);
     let value = read
         .map_err(|error| error.to_string())
         .and_then(|_| parse(&text));
-    match value.and_then(|value| at(&value, &path)) {
-        Ok(words) => println!("{words}"),
-        Err(fault) => {
-            eprintln!("{fault}");
-            exit(1);
-        }
+    for path in env::args().skip(1) {
+        let found = value.as_ref().map_err(String::clone);
+        let found = found.and_then(|value| at(value, &path));
+        println!("{}", found.unwrap_or_else(|fault| fault));
     }
 }
 

@@ -176,7 +176,7 @@ impl Bay {
             },
         ];
         entries.sort_by_key(|entry| entry.variable);
-        Operator { entries }
+        entries.into()
     }
 
     /// The operators that slide these labels; the gap itself never slides.

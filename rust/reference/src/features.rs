@@ -140,27 +140,40 @@ impl Features {
     /// The features that are true in a state.
     pub fn true_in(&self, state: &[usize]) -> FeatureSet {
         let mut set = FeatureSet::empty(self.count());
-        let held: Vec<Atom> = state
-            .iter()
-            .enumerate()
-            .map(|(variable, value)| Atom {
-                variable,
-                value: *value,
-            })
-            .collect();
-        for (place, atom) in held.iter().enumerate() {
-            set.insert(self.single(*atom));
-            for later in &held[place + 1..] {
-                set.extend(self.mixed(*atom, *later));
-            }
+        self.insert_true(&mut set, state, |_, _| true);
+        set
+    }
+
+    /// The features that tell two states apart: of those that one of them makes true, all in which
+    /// a variable has another value there.
+    pub fn changed(&self, from: &[usize], to: &[usize]) -> FeatureSet {
+        let differs = |variable: usize| from[variable] != to[variable];
+        let mut set = FeatureSet::empty(self.count());
+        for state in [from, to] {
+            self.insert_true(&mut set, state, |one, other| differs(one) || differs(other));
         }
         set
     }
 
-    /// The features that tell two states apart.
-    pub fn changed(&self, from: &[usize], to: &[usize]) -> FeatureSet {
-        let mut set = self.true_in(from);
-        set.combine(&self.true_in(to));
-        set
+    /// Inserts the features of asked variables that are true in a state; a single atom's variable
+    /// is asked for twice.
+    fn insert_true(
+        &self,
+        set: &mut FeatureSet,
+        state: &[usize],
+        asked: impl Fn(usize, usize) -> bool,
+    ) {
+        let atom = |variable: usize| Atom {
+            variable,
+            value: state[variable],
+        };
+        for first in 0..state.len() {
+            if asked(first, first) {
+                set.insert(self.single(atom(first)));
+            }
+            for second in (first + 1..state.len()).filter(|second| asked(first, *second)) {
+                set.extend(self.mixed(atom(first), atom(second)));
+            }
+        }
     }
 }

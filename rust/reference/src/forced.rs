@@ -51,18 +51,17 @@ pub fn slots_by_enumeration(count: usize, conditions: &[FeatureSet]) -> Vec<Feat
 /// Weight lists whose combinations are exactly the lists that meet the conditions so far.
 ///
 /// There is one for each live number; its highest member is its number, and its other members
-/// are numbers no longer live.
+/// are numbers no longer live. So a live feature is in one list alone, that of its own number.
 pub struct Generators {
-    /// For each feature the numbers of the lists that hold it.
-    holders: Vec<FeatureSet>,
+    /// For each feature that is no longer live the numbers of the lists that hold it.
+    holders: Vec<Option<FeatureSet>>,
 }
 
 impl Generators {
     /// Without conditions every single feature is a list of its own.
     pub fn new(count: usize) -> Self {
-        let alone = |feature| FeatureSet::of(count, &[feature]);
         Generators {
-            holders: (0..count).map(alone).collect(),
+            holders: vec![None; count],
         }
     }
 
@@ -70,7 +69,10 @@ impl Generators {
     fn meeting_oddly(&self, set: &FeatureSet) -> FeatureSet {
         let mut odd = FeatureSet::empty(self.holders.len());
         for member in set.members() {
-            odd.combine(&self.holders[member]);
+            match &self.holders[member] {
+                Some(holders) => odd.combine(holders),
+                None => odd.toggle(member),
+            }
         }
         odd
     }
@@ -79,31 +81,35 @@ impl Generators {
     ///
     /// The lowest odd list is spent on the others: they keep their highest members.
     pub fn demand(&mut self, condition: &FeatureSet) {
-        let odd = self.meeting_oddly(condition);
+        let mut odd = self.meeting_oddly(condition);
         let Some(spent) = odd.least() else { return };
-        for holders in &mut self.holders {
+        // No member of a list is above its number.
+        for holders in self.holders[..spent].iter_mut().flatten() {
             if holders.contains(spent) {
                 holders.combine(&odd);
             }
         }
+        // The spent list alone held its own number, which the others take over.
+        odd.remove(spent);
+        self.holders[spent] = Some(odd);
     }
 
     pub fn live(&self, number: usize) -> bool {
-        self.holders[number].contains(number)
+        self.holders[number].is_none()
     }
 
     /// The members of one list.
     pub fn list(&self, number: usize) -> FeatureSet {
-        let count = self.holders.len();
-        let held = |feature: &usize| self.holders[*feature].contains(number);
-        let members: Vec<usize> = (0..count).filter(held).collect();
-        FeatureSet::of(count, &members)
+        self.combined(&FeatureSet::of(self.holders.len(), &[number]))
     }
 
     /// What the lists of these numbers make together.
     pub fn combined(&self, numbers: &FeatureSet) -> FeatureSet {
         let count = self.holders.len();
-        let held = |feature: &usize| self.holders[*feature].meets_oddly(numbers);
+        let held = |feature: &usize| match &self.holders[*feature] {
+            Some(holders) => holders.meets_oddly(numbers),
+            None => numbers.contains(*feature),
+        };
         let members: Vec<usize> = (0..count).filter(held).collect();
         FeatureSet::of(count, &members)
     }
@@ -111,10 +117,10 @@ impl Generators {
     /// A spent feature meets a list exactly when its holders' numbers do, so together they are
     /// forced; the numbers are higher and live, which is the shape of a slot.
     fn slot(&self, index: usize) -> FeatureSet {
-        if self.live(index) {
+        let Some(holders) = &self.holders[index] else {
             return FeatureSet::empty(self.holders.len());
-        }
-        let mut slot = self.holders[index].clone();
+        };
+        let mut slot = holders.clone();
         slot.insert(index);
         slot
     }

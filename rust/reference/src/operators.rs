@@ -2,6 +2,7 @@
 
 use crate::feature_set::FeatureSet;
 use crate::features::{Atom, Features, State};
+use std::rc::Rc;
 
 /// One variable of an operator with its value before and after.
 #[derive(Clone, Copy, Debug, PartialEq, Eq)]
@@ -11,10 +12,18 @@ pub struct Entry {
     pub after: usize,
 }
 
-/// Entries with strictly increasing variables.
+/// Entries with strictly increasing variables; copies of an operator share them.
 #[derive(Clone, Debug, PartialEq, Eq)]
 pub struct Operator {
-    pub entries: Vec<Entry>,
+    pub entries: Rc<[Entry]>,
+}
+
+impl From<Vec<Entry>> for Operator {
+    fn from(entries: Vec<Entry>) -> Self {
+        Operator {
+            entries: entries.into(),
+        }
+    }
 }
 
 impl Operator {
@@ -47,7 +56,7 @@ impl Operator {
     /// The state that this one leads to where it applies.
     pub fn applied(&self, state: &[usize]) -> State {
         let mut next = state.to_vec();
-        for entry in &self.entries {
+        for entry in self.entries.iter() {
             next[entry.variable] = entry.after;
         }
         next
@@ -111,21 +120,22 @@ impl Pairing {
         atoms
     }
 
-    /// Whether a value of an unnamed variable is possible: paired with no before atom.
-    pub fn possible(&self, operator: &Operator, atom: Atom) -> bool {
-        !self.paired_with_any(atom, &operator.before_atoms())
+    /// The values of unnamed variables that are possible: paired with no before atom.
+    fn possible_atoms(&self, operator: &Operator) -> Vec<Atom> {
+        let befores = operator.before_atoms();
+        let mut atoms = self.unnamed_atoms(operator);
+        atoms.retain(|atom| !self.paired_with_any(*atom, &befores));
+        atoms
     }
 
     /// For each variable the values considered: the before value, or those that are possible.
     pub fn considered_values(&self, operator: &Operator) -> Vec<Vec<usize>> {
         let mut values = vec![Vec::new(); self.features.sizes().len()];
-        for entry in &operator.entries {
+        for entry in operator.entries.iter() {
             values[entry.variable].push(entry.before);
         }
-        for atom in self.unnamed_atoms(operator) {
-            if self.possible(operator, atom) {
-                values[atom.variable].push(atom.value);
-            }
+        for atom in self.possible_atoms(operator) {
+            values[atom.variable].push(atom.value);
         }
         values
     }
@@ -159,8 +169,7 @@ impl Pairing {
         }
         let afters = operator.after_atoms();
         // An after atom may stand beside another one, or beside an unnamed one that is possible.
-        let mut beside = self.unnamed_atoms(operator);
-        beside.retain(|atom| self.possible(operator, *atom));
+        let mut beside = self.possible_atoms(operator);
         beside.extend(&afters);
         let mut pairs = Vec::new();
         for after in afters {
@@ -234,11 +243,16 @@ pub fn deciding_states(pairing: &Pairing, operator: &Operator) -> Vec<State> {
     }
 }
 
-/// The features that change from each state; weights must meet each set evenly.
+/// The features that change from a state; weights must meet them evenly.
+pub fn change_from(pairing: &Pairing, operator: &Operator, state: &[usize]) -> FeatureSet {
+    pairing.features.changed(state, &operator.applied(state))
+}
+
+/// The same for each of several states.
 pub fn changes_from(pairing: &Pairing, operator: &Operator, states: &[State]) -> Vec<FeatureSet> {
-    states
-        .iter()
-        .map(|state| pairing.features.changed(state, &operator.applied(state)))
+    let changes = states.iter();
+    changes
+        .map(|state| change_from(pairing, operator, state))
         .collect()
 }
 

@@ -37,11 +37,12 @@ pub fn built_sizes(sizes: &[usize]) -> Vec<usize> {
 /// The operator by which a variable's value becomes unknown.
 fn forgetting(atom: Atom, unknown: usize) -> Operator {
     Operator {
-        entries: vec![Entry {
+        entries: [Entry {
             variable: atom.variable,
             before: atom.value,
             after: unknown,
-        }],
+        }]
+        .into(),
     }
 }
 
@@ -126,14 +127,21 @@ impl Partial {
 
     /// The built task, not yet judged: the file's operators, then the forgetting ones kept.
     pub fn built(&self, left_out: LeftOut) -> Task {
+        self.clone().into_built(left_out)
+    }
+
+    /// The same, without a copy of the operators, which may be millions.
+    pub fn into_built(self, left_out: LeftOut) -> Task {
         let ends = self.goal.iter().zip(&self.sizes);
-        let mut operators = self.operators.clone();
-        operators.extend(self.forgetting_operators(left_out));
+        let goal = ends.map(|(goal, size)| goal.unwrap_or(*size)).collect();
+        let (pairs, forgetting) = (self.built_pairs(), self.forgetting_operators(left_out));
+        let mut operators = self.operators;
+        operators.extend(forgetting);
         Task {
             sizes: built_sizes(&self.sizes),
-            start: self.start.clone(),
-            goal: ends.map(|(goal, size)| goal.unwrap_or(*size)).collect(),
-            pairs: self.built_pairs(),
+            start: self.start,
+            goal,
+            pairs,
             operators,
         }
     }
@@ -202,7 +210,7 @@ pub fn read_built(bytes: &[u8], left_out: LeftOut) -> Result<Task, Refusal> {
 
 /// The same by the reader's limits.
 pub fn built_from(reader: &mut Reader, left_out: LeftOut) -> Result<Task, Refusal> {
-    let built = partial_from(reader)?.built(left_out);
+    let built = partial_from(reader)?.into_built(left_out);
     if built.operators.len() > reader.limits.largest() {
         return Err(Refusal::Limit);
     }

@@ -4,7 +4,7 @@ use crate::feature_set::FeatureSet;
 use crate::features::Features;
 use crate::kinds::Kind;
 use crate::operators::{
-    changes_from, combined_states, deviating_states, few_states, Operator, Pairing,
+    change_from, combined_states, deviating_states, few_states, Operator, Pairing,
 };
 use crate::places::{read_both, read_both_partial, Fault};
 use crate::task::Task;
@@ -40,9 +40,10 @@ pub fn keeps_by_states(pairing: &Pairing, operator: &Operator, weights: &Feature
 pub fn keeps_by_changes(pairing: &Pairing, operator: &Operator, weights: &FeatureSet) -> bool {
     pairing.idle(operator) || {
         let states = deviating_states(&pairing.considered_values(operator));
-        changes_from(pairing, operator, &states)
+        let mut changes = states
             .iter()
-            .all(|change| !change.meets_oddly(weights))
+            .map(|state| change_from(pairing, operator, state));
+        changes.all(|change| !change.meets_oddly(weights))
     }
 }
 

@@ -60,7 +60,7 @@ pub(crate) fn tail_numbers(kind: Kind, pairs: &[usize], operators: &[Operator]) 
     numbers.push(operators.len());
     for operator in operators {
         numbers.push(operator.entries.len());
-        for entry in &operator.entries {
+        for entry in operator.entries.iter() {
             numbers.extend([entry.variable, entry.before, entry.after]);
         }
     }
@@ -149,7 +149,14 @@ pub(crate) fn read_operators(
     sizes: &[usize],
 ) -> Result<Vec<Operator>, Refusal> {
     let count = reader.number()?;
-    (0..count).map(|_| read_operator(reader, sizes)).collect()
+    let mut operators: Vec<Operator> = Vec::new();
+    for _ in 0..count {
+        let next = read_operator(reader, sizes)?;
+        // Where millions stand in a file they repeat one, which is kept once.
+        let repeated = operators.last().filter(|last| **last == next).cloned();
+        operators.push(repeated.unwrap_or(next));
+    }
+    Ok(operators)
 }
 
 fn read_operator(reader: &mut Reader, sizes: &[usize]) -> Result<Operator, Refusal> {
@@ -168,7 +175,7 @@ fn read_operator(reader: &mut Reader, sizes: &[usize]) -> Result<Operator, Refus
             after: reader.number_within(&values, Refusal::Range)?,
         });
     }
-    Ok(Operator { entries })
+    Ok(entries.into())
 }
 
 /// The start holds no listed pair, and the list is closed under each operator.

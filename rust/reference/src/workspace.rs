@@ -224,5 +224,5 @@ fn judge_record(record: &Record, sizes: &[usize]) -> Result<Operator, Refusal> {
             after: within(at(&record.afters, place), sizes[variable])?,
         });
     }
-    Ok(Operator { entries })
+    Ok(entries.into())
 }

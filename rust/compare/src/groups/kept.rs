@@ -17,11 +17,12 @@ pub(super) fn staying(generator: &mut Generator, sizes: &[usize]) -> Operator {
     let variable = generator.below(sizes.len());
     let value = generator.below(sizes[variable]);
     Operator {
-        entries: vec![Entry {
+        entries: [Entry {
             variable,
             before: value,
             after: value,
-        }],
+        }]
+        .into(),
     }
 }
 

@@ -87,11 +87,12 @@ fn counted(generator: &mut Generator, count: usize, pairs: &[usize]) -> Task {
     let sizes = vec![2, 2];
     let mut operators = vec![staying(generator, &sizes); count];
     operators.push(Operator {
-        entries: vec![Entry {
+        entries: [Entry {
             variable: 1,
             before: 0,
             after: 1,
-        }],
+        }]
+        .into(),
     });
     Task {
         sizes,

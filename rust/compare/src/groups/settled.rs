@@ -59,7 +59,7 @@ fn long_operator(generator: &mut Generator, sizes: &[usize]) -> Operator {
     for _ in 0..generator.below(sizes.len().min(3)) {
         entries.remove(generator.below(entries.len()));
     }
-    Operator { entries }
+    entries.into()
 }
 
 /// Mostly a long operator, now and then one that brings enough rows for a settling of its own.
@@ -110,11 +110,14 @@ fn some_task(generator: &mut Generator) -> Task {
 
 /// The way back of an operator, of which the rows are the same where no pairs are in the way.
 fn reversed(operator: &Operator) -> Operator {
-    let mut operator = operator.clone();
-    for entry in &mut operator.entries {
-        std::mem::swap(&mut entry.before, &mut entry.after);
+    let turned = |entry: &Entry| Entry {
+        before: entry.after,
+        after: entry.before,
+        ..*entry
+    };
+    Operator {
+        entries: operator.entries.iter().map(turned).collect(),
     }
-    operator
 }
 
 /// An operator whose rows follow already, or mostly do, or one that may bring new ones.

@@ -76,10 +76,14 @@ fn walk(generator: &mut Generator, sizes: &[usize], most_operators: usize) -> Ta
     let mut reached = start.clone();
     let mut operators = Vec::new();
     for _ in 0..generator.between(1, most_operators) {
-        let mut step = operator(generator, sizes);
-        for entry in &mut step.entries {
-            entry.before = reached[entry.variable];
-        }
+        let entries = operator(generator, sizes).entries;
+        let from_reached = |entry: &Entry| Entry {
+            before: reached[entry.variable],
+            ..*entry
+        };
+        let step = Operator {
+            entries: entries.iter().map(from_reached).collect(),
+        };
         reached = step.applied(&reached);
         operators.push(step);
     }
@@ -156,8 +160,7 @@ pub fn every_operator() -> Vec<Operator> {
         operators.extend([0, 1].map(|variable| vec![entry(variable, one)]));
         operators.extend(changes.map(|other| vec![entry(0, one), entry(1, other)]));
     }
-    let operator = |entries| Operator { entries };
-    operators.into_iter().map(operator).collect()
+    operators.into_iter().map(Operator::from).collect()
 }
 
 /// Every start and every list over two variables of size 2, with these operators.

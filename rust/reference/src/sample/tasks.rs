@@ -188,17 +188,15 @@ fn loose_operators(generator: &mut Generator, sizes: &[usize], most: usize) -> V
 fn turning_operators(generator: &mut Generator, sizes: &[usize]) -> Vec<Operator> {
     let count = generator.between(1, sizes.len().min(2));
     let named = some_variables(generator, sizes.len(), count);
-    let mut operators = vec![Operator {
-        entries: Vec::new(),
-    }];
+    let mut turns: Vec<Vec<Entry>> = vec![Vec::new()];
     for variable in named {
         let mut turned: Vec<usize> = (0..sizes[variable]).collect();
         generator.shuffle(&mut turned);
         let mut longer = Vec::new();
-        for operator in &operators {
+        for turn in &turns {
             for (before, after) in turned.iter().enumerate().take(4) {
-                let mut extended = operator.clone();
-                extended.entries.push(Entry {
+                let mut extended = turn.clone();
+                extended.push(Entry {
                     variable,
                     before,
                     after: *after,
@@ -206,9 +204,9 @@ fn turning_operators(generator: &mut Generator, sizes: &[usize]) -> Vec<Operator
                 longer.push(extended);
             }
         }
-        operators = longer;
+        turns = longer;
     }
-    operators
+    turns.into_iter().map(Operator::from).collect()
 }
 
 /// Swaps of two values between two variables, as pallets change places with the gap.

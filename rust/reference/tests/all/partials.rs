@@ -213,7 +213,7 @@ fn lift(count: usize) -> Vec<Operator> {
     };
     vec![
         Operator {
-            entries: vec![lift]
+            entries: [lift].into()
         };
         count
     ]

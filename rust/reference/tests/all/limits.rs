@@ -213,11 +213,12 @@ fn what_has_moved() {
 #[test]
 fn kept_operators() {
     let stay = Operator {
-        entries: vec![Entry {
+        entries: [Entry {
             variable: 0,
             before: 0,
             after: 0,
-        }],
+        }]
+        .into(),
     };
     // One forgetting operator is kept beside them.
     let file = |operators| {

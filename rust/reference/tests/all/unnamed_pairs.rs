@@ -20,7 +20,7 @@ fn task() -> Task {
         goal: vec![0, 0, 0],
         pairs: vec![11, 14],
         operators: vec![Operator {
-            entries: vec![entry],
+            entries: [entry].into(),
         }],
     }
 }

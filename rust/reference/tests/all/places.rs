@@ -540,11 +540,12 @@ fn weights_beside_a_partial_file() {
 /// Five forgetting operators, of which the letter leaves one out; 19 features.
 fn long_file(operators: usize) -> Vec<u8> {
     let lift = Operator {
-        entries: vec![Entry {
+        entries: [Entry {
             variable: 0,
             before: 0,
             after: 1,
-        }],
+        }]
+        .into(),
     };
     Partial {
         sizes: vec![2, 3],

@@ -5,7 +5,7 @@ use reference::kinds::Kind;
 use reference::line::check_line;
 use reference::places::{read_both, File};
 
-const CASES: &str = include_str!("../../../crates/cases/cases.txt");
+const CASES: &str = include_str!("../../../../crates/cases/cases.txt");
 
 fn bytes(hex: &str) -> Vec<u8> {
     let digits: Vec<char> = hex.chars().filter(|c| !c.is_whitespace()).collect();

@@ -1,7 +1,8 @@
 //! Compares every call of the proved library with the reference on many random inputs.
 //!
-//! `compare` runs all cases, `compare quick` a twentieth without those that take seconds each,
-//! `compare trace` shows each seed before its case, and `compare GROUP SEED` runs one case again.
+//! `compare` runs all cases, `compare quarter` a quarter of the groups that have many (for an
+//! emulator), `compare quick` a twentieth without those that take seconds each, `compare trace`
+//! shows each seed before its case, and `compare GROUP SEED` runs one case again.
 
 mod both;
 #[cfg(feature = "selftest")]
@@ -13,8 +14,8 @@ mod pending;
 mod run;
 mod tally;
 
-use groups::{Group, GROUPS};
-use run::{run_all, run_case, Choice, Plan, FIRST_SEED};
+use groups::{Group, GROUPS, LONG};
+use run::{run_all, run_case, Plan, FIRST_SEED};
 use std::process::ExitCode;
 use tally::{Tally, DUE, DUE_OF_DEAR, DUE_OF_NEW_KIND, OF_NEW_KIND};
 
@@ -25,14 +26,20 @@ enum Wish {
 }
 
 const WHOLE: Plan = Plan {
-    choice: Choice::All,
+    dear: true,
+    long: 0,
     share: 1,
     trace: false,
-    stop: false,
+};
+
+const QUARTER: Plan = Plan {
+    long: LONG,
+    share: 4,
+    ..WHOLE
 };
 
 const QUICK: Plan = Plan {
-    choice: Choice::Cheap,
+    dear: false,
     share: 20,
     ..WHOLE
 };
@@ -45,6 +52,7 @@ fn wish(arguments: &[String]) -> Option<Wish> {
     let words: Vec<&str> = arguments.iter().map(String::as_str).collect();
     match words[..] {
         [] => Some(Wish::All(WHOLE)),
+        ["quarter"] => Some(Wish::All(QUARTER)),
         ["quick"] => Some(Wish::All(QUICK)),
         ["trace"] => Some(Wish::All(Plan {
             trace: true,
@@ -67,7 +75,7 @@ fn demand_all(tally: &mut Tally) {
 fn main() -> ExitCode {
     let arguments: Vec<String> = std::env::args().skip(1).collect();
     let Some(wish) = wish(&arguments) else {
-        eprintln!("compare [quick | trace | GROUP SEED]");
+        eprintln!("compare [quarter | quick | trace | GROUP SEED]");
         return ExitCode::from(2);
     };
     #[cfg(feature = "selftest")]
@@ -76,9 +84,13 @@ fn main() -> ExitCode {
     match wish {
         Wish::All(plan) => {
             println!("seeds from {FIRST_SEED:#018x}");
+            if plan.share > 1 {
+                let (long, share) = (plan.long, plan.share);
+                println!("of groups that have {long} cases or more, one case in {share} is run");
+            }
             run_all(&mut tally, plan);
             demand_all(&mut tally);
-            if plan.choice == Choice::All {
+            if plan.dear {
                 tally.demand(&DUE_OF_DEAR, "");
             }
         }
@@ -94,18 +106,17 @@ fn main() -> ExitCode {
 
 #[cfg(all(test, feature = "selftest"))]
 mod tests {
-    use super::fake::{faults, plant, Fault};
+    use super::fake::{plant, Fault, FOUND_BY};
+    use super::run::case_seed;
     use super::*;
+    use std::panic::{catch_unwind, resume_unwind, AssertUnwindSafe};
 
-    fn silent() -> Tally {
-        let mut tally = Tally::default();
-        tally.silent = true;
-        tally
-    }
+    /// A fault shows in so many cases of its group.
+    const FEW: usize = 2_000;
 
     #[test]
     fn no_difference_without_a_fault() {
-        let mut tally = silent();
+        let mut tally = Tally::default();
         run_all(&mut tally, QUICK);
         demand_all(&mut tally);
         assert_eq!(tally.failed(), 0);
@@ -114,36 +125,70 @@ mod tests {
 
     #[test]
     fn what_was_never_met_is_a_difference() {
-        let mut tally = silent();
+        let mut tally = Tally::default();
         demand_all(&mut tally);
         let due = DUE.iter().chain(&DUE_OF_NEW_KIND);
         let due: usize = due.map(|(_, answers)| answers.len()).sum();
         assert_eq!(tally.failed(), due);
     }
 
-    /// Whether a run meets a difference.
-    fn found(plan: Plan) -> bool {
-        let mut tally = silent();
-        run_all(&mut tally, Plan { stop: true, ..plan });
-        tally.failed() > 0
+    /// Whether a case of the group in a place meets a difference.
+    fn differs(place: usize, case: usize) -> bool {
+        let mut tally = Tally::default();
+        tally.ends_case = true;
+        let seed = case_seed(place, case);
+        let run = catch_unwind(AssertUnwindSafe(|| {
+            run_case(&mut tally, &GROUPS[place], seed);
+        }));
+        match run {
+            Err(panic) if tally.failed() == 0 => resume_unwind(panic),
+            _ => tally.failed() > 0,
+        }
+    }
+
+    /// What is wrong with a table of groups and the faults that they are to find.
+    fn complaints(table: &[(&str, &[Fault])]) -> Vec<String> {
+        let mut complaints = Vec::new();
+        for (name, faults) in table {
+            match GROUPS.iter().position(|group| group.name == *name) {
+                Some(place) => complaints.extend(complaints_of(place, faults)),
+                None => complaints.push(format!("no group is named {name}")),
+            }
+        }
+        complaints
+    }
+
+    /// The faults that a group doesn't find; or whether the cases that find them differ without.
+    fn complaints_of(place: usize, faults: &[Fault]) -> Vec<String> {
+        let Group { name, cases, .. } = GROUPS[place];
+        let mut complaints = Vec::new();
+        let mut run = 0;
+        for fault in faults {
+            plant(*fault);
+            match (0..cases.min(FEW)).find(|case| differs(place, *case)) {
+                Some(case) => run = run.max(case + 1),
+                None => complaints.push(format!("{name} doesn't find {fault:?}")),
+            }
+        }
+        plant(Fault::Nothing);
+        if (0..run).any(|case| differs(place, case)) {
+            complaints.push(format!("{name} finds a difference without a fault"));
+        }
+        complaints
     }
 
     #[test]
-    fn every_planted_fault_is_found() {
-        let dear = Plan {
-            choice: Choice::Dear,
-            ..WHOLE
-        };
-        for fault in faults() {
-            plant(fault);
-            // Most faults show at once; only the rarer ones need more cases.
-            let plans = if fault.is_dear() {
-                vec![dear]
-            } else {
-                [400, 50, 10].map(|share| Plan { share, ..QUICK }).to_vec()
-            };
-            assert!(plans.into_iter().any(found), "{fault:?}");
-        }
-        plant(Fault::Nothing);
+    fn every_planted_fault_is_found_by_its_group() {
+        assert_eq!(complaints(&FOUND_BY), Vec::<String>::new());
+    }
+
+    #[test]
+    fn a_fault_in_a_wrong_place_is_complained_of() {
+        let table: [(&str, &[Fault]); 2] = [("bays", &[Fault::NotLeast]), ("no-such-group", &[])];
+        let due = [
+            "bays doesn't find NotLeast",
+            "no group is named no-such-group",
+        ];
+        assert_eq!(complaints(&table), due);
     }
 }

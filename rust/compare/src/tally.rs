@@ -4,6 +4,7 @@ use crate::lent::Item;
 use reference::limits::BEFORE;
 use std::collections::BTreeMap;
 use std::fmt::Write;
+use std::panic::resume_unwind;
 
 /// The kinds of comparison, in the order of the report.
 pub const KINDS: [&str; 30] = [
@@ -328,8 +329,8 @@ struct Count {
 #[derive(Default)]
 pub struct Tally {
     counts: BTreeMap<&'static str, Count>,
-    /// Differences are shown unless a test only wants to know that there are some.
-    pub silent: bool,
+    /// A difference ends its case, unseen, where a test only wants to know that there is one.
+    pub ends_case: bool,
 }
 
 /// A result in the rules' words.
@@ -407,7 +408,10 @@ impl Tally {
             return;
         }
         count.failed += 1;
-        if !self.silent && self.failed() <= MOST_DIFFERENCES {
+        if self.ends_case {
+            resume_unwind(Box::new("a difference"));
+        }
+        if self.failed() <= MOST_DIFFERENCES {
             show(comparison, expected, found);
         }
     }
@@ -419,9 +423,7 @@ impl Tally {
             for answer in answers.iter().map(|answer| format!("{answer}{behind}")) {
                 if !count.answers.contains_key(&answer) {
                     count.failed += 1;
-                    if !self.silent {
-                        println!("{kind}: never answered {answer}");
-                    }
+                    println!("{kind}: never answered {answer}");
                 }
             }
         }
@@ -433,6 +435,10 @@ impl Tally {
 
     pub fn failed(&self) -> usize {
         self.counts.values().map(|count| count.failed).sum()
+    }
+
+    pub fn compared(&self) -> usize {
+        self.passed() + self.failed()
     }
 
     /// One line for each kind of comparison, with the answers that were met.
@@ -455,7 +461,7 @@ impl Tally {
         }
         println!(
             "{} comparisons, {} differences",
-            self.passed() + self.failed(),
+            self.compared(),
             self.failed()
         );
         let (good, bad) = self.kinds();

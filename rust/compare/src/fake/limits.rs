@@ -49,44 +49,6 @@ pub enum Bound {
 }
 
 use Bound::*;
-use Files::*;
-
-const OF_NUMBERS: &[Bound] = &[TwoGroups, FourGroups];
-
-const OF_FEATURES: &[Bound] = &[
-    TwoGroups,
-    FourGroups,
-    FeaturesAsBefore,
-    OneFeatureLess,
-    OneFeatureMore,
-];
-
-const OF_SLOTS: &[Bound] = &[
-    TwoGroups,
-    FourGroups,
-    SlotsAsBefore,
-    FifteenSlots,
-    EighteenSlots,
-];
-
-/// The limits that decide about what is read.
-pub const BOUNDS: [(Files, &[Bound]); 12] = [
-    (Tasks, OF_FEATURES),
-    (Weights, OF_NUMBERS),
-    (Bays, OF_SLOTS),
-    (Partials, OF_FEATURES),
-    (Silenced, OF_FEATURES),
-    (Mended, OF_FEATURES),
-    (Printed, OF_FEATURES),
-    (Shown, OF_FEATURES),
-    (ShownPartials, OF_FEATURES),
-    (ShownBays, OF_SLOTS),
-    (Converted, OF_FEATURES),
-    (ConvertedWeights, OF_NUMBERS),
-];
-
-/// The task files that may be of either kind.
-pub const OF_EITHER_KIND: [Files; 6] = [Tasks, Silenced, Mended, Printed, Shown, Converted];
 
 impl Bound {
     fn limits(self) -> Limits {

@@ -4,6 +4,7 @@ mod bays;
 mod faults;
 mod files;
 mod forms;
+mod found_by;
 mod kinds;
 mod limits;
 mod mending;
@@ -15,7 +16,9 @@ mod written;
 
 pub use faults::plant_from_environment;
 #[cfg(test)]
-pub use faults::{faults, plant, Fault};
+pub use faults::{plant, Fault};
+#[cfg(test)]
+pub use found_by::FOUND_BY;
 
 use bays::build;
 use faults::{planted, Fault::*};

@@ -118,20 +118,21 @@ fn forgetting(partial: &Partial, left_out: LeftOut) -> Vec<Operator> {
 }
 
 /// The built task of an accepted partial file.
-fn faulty_task(partial: &Partial, left_out: LeftOut) -> Task {
-    let mut task = partial.built(left_out);
-    let forgetting = forgetting(partial, left_out);
-    let lists = if planted(ForgettingFirst) {
-        [forgetting, partial.operators.clone()]
-    } else {
-        [partial.operators.clone(), forgetting]
-    };
-    task.operators = lists.concat();
+fn faulty_task(partial: Partial, left_out: LeftOut) -> Task {
+    let own = partial.operators.len();
+    let kept = forgetting(&partial, left_out);
+    let (pairs, goal) = (partial.pairs.clone(), partial.goal.clone());
+    let mut task = partial.into_built(left_out);
+    task.operators.truncate(own);
+    task.operators.extend(kept);
+    if planted(ForgettingFirst) {
+        task.operators.rotate_left(own);
+    }
     if planted(PairsKeepNumbers) {
-        task.pairs = partial.pairs.clone();
+        task.pairs = pairs;
     }
     if planted(SilentGoalFirst) {
-        task.goal = partial.goal.iter().map(|goal| goal.unwrap_or(0)).collect();
+        task.goal = goal.iter().map(|goal| goal.unwrap_or(0)).collect();
     }
     task
 }
@@ -146,30 +147,41 @@ fn most_kept() -> usize {
     }
 }
 
-/// The file's refusal by count and pairs, in the order of the planted fault.
-fn judged(partial: &Partial, left_out: LeftOut) -> Result<(), Refusal> {
-    let pairs = if planted(PairsByOwnSizes) {
-        judge_pairs(&completed(partial))
-    } else {
-        judge_pairs(&partial.built(left_out))
-    };
+/// Refuses more operators than may be kept.
+fn judge_count(partial: &Partial, left_out: LeftOut) -> Result<(), Refusal> {
     let counted = if planted(CountsLeftOut) {
         LeftOut::Nothing
     } else {
         left_out
     };
-    let many = partial.built(counted).operators.len() > most_kept();
-    let unjudged = planted(CountUnjudged) || planted(CountAfterPairs) && pairs.is_err();
-    if many && !unjudged {
-        return Err(Refusal::Limit);
+    let kept = partial.operators.len() + partial.forgetting_operators(counted).len();
+    if kept > most_kept() {
+        Err(Refusal::Limit)
+    } else {
+        Ok(())
     }
-    pairs
+}
+
+/// The file's refusal by count and pairs, in the order of the planted fault.
+fn judged(partial: &Partial, left_out: LeftOut) -> Result<(), Refusal> {
+    let pairs = || {
+        if planted(PairsByOwnSizes) {
+            judge_pairs(&completed(partial))
+        } else {
+            judge_pairs(&partial.built(left_out))
+        }
+    };
+    match planted_fault() {
+        CountUnjudged => pairs(),
+        CountAfterPairs => pairs().and_then(|()| judge_count(partial, left_out)),
+        _ => judge_count(partial, left_out).and_then(|()| pairs()),
+    }
 }
 
 fn faulty_built(bytes: &[u8], left_out: LeftOut) -> Result<Task, Refusal> {
     let partial = lenient_partial(bytes)?;
     judged(&partial, left_out)?;
-    Ok(faulty_task(&partial, left_out))
+    Ok(faulty_task(partial, left_out))
 }
 
 /// Puts what is due into lent room.
@@ -233,23 +245,20 @@ fn faulty_verdict(due: Kind, bytes: &[u8], weights: &[u8]) -> Result<u64, Refusa
         kind_beside(due, bytes)
     };
     let task = faulty_built(bytes, LeftOut::ByLetter)?;
-    let partial = lenient_partial(bytes)?;
-    let sizes = if planted(WeightsByOwnSizes) {
-        &partial.sizes
-    } else {
-        &task.sizes
-    };
-    let read = |sizes| {
+    let read = |sizes: &[usize]| {
         let mut reader = reader(Files::Weights, weights);
         weights_from(due, &mut reader, count_features(sizes))
     };
-    read(sizes)?;
+    if planted(WeightsByOwnSizes) {
+        read(&lenient_partial(bytes)?.sizes)?;
+    }
     let weights = read(&task.sizes)?;
     Ok(match verdict(&task, &weights) {
         Verdict::Accepted => done(0),
         Verdict::EndsAlike => denied(),
         Verdict::Operator(place) if planted(FileUncounted) => {
-            broken(place.saturating_sub(partial.operators.len()))
+            let own = lenient_partial(bytes)?.operators.len();
+            broken(place.saturating_sub(own))
         }
         Verdict::Operator(place) => broken(place),
     })
@@ -285,6 +294,14 @@ fn too_large(task: Task, marks: &[u8]) -> Partial {
     }
 }
 
+/// Refuses a partial file for this reason where its built task is refused for it.
+fn refuse_where_built(partial: &Partial, reason: Refusal) -> Result<(), Refusal> {
+    match read_built(&partial.file(), LeftOut::ByLetter) {
+        Err(refusal) if refusal == reason => Err(reason),
+        _ => Ok(()),
+    }
+}
+
 fn faulty_silence(task: &[u8], marks: &[u8]) -> Result<Vec<u8>, Refusal> {
     if planted(MarksBeforeTask) && marks.iter().any(|mark| *mark > 1) {
         return Err(Refusal::Range);
@@ -301,10 +318,9 @@ fn faulty_silence(task: &[u8], marks: &[u8]) -> Result<Vec<u8>, Refusal> {
     if planted(SilencesAsBefore) && features > BEFORE.features {
         return Err(Refusal::Limit);
     }
-    let judged = read_built(&partial.file(), LeftOut::ByLetter);
-    match (planted_fault(), judged) {
-        (SilencingJudgesPairs, Err(Refusal::NotClosed)) => return Err(Refusal::NotClosed),
-        (SilencingCounts, Err(Refusal::Limit)) => return Err(Refusal::Limit),
+    match planted_fault() {
+        SilencingJudgesPairs => refuse_where_built(&partial, Refusal::NotClosed)?,
+        SilencingCounts => refuse_where_built(&partial, Refusal::Limit)?,
         _ => {}
     }
     if planted(SilentGoalsWritten) {

@@ -276,9 +276,10 @@ fn partial_fault(files: Files) -> Option<Fault> {
         Ok(built) => built.sizes,
         Err(fault) => return Some(fault),
     };
-    let sizes = match read_partial(files.task) {
-        Ok(partial) if planted(ShownByOwnSizes) => partial.sizes,
-        _ => sizes,
+    let sizes = if planted(ShownByOwnSizes) {
+        read_partial(files.task).map_or(sizes, |partial| partial.sizes)
+    } else {
+        sizes
     };
     read_weight_file(files.due, files.weights, count_features(&sizes)).err()
 }

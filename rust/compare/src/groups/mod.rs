@@ -471,6 +471,9 @@ pub const GROUPS: [Group; 87] = [
     },
 ];
 
+/// Groups of so many cases are long: under an emulator a part of them is run.
+pub const LONG: usize = 1_000;
+
 /// Groups of which one case takes seconds.
 const DEAR: [&str; 7] = [
     "kept-in-millions",

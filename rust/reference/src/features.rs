@@ -36,8 +36,9 @@ pub struct Features {
     list: Vec<Feature>,
     /// Where the list has each atom alone, by variable and value.
     alone: Vec<Vec<usize>>,
-    /// Where it has two atoms, by the places where it has each of them alone.
-    together: Vec<Vec<Option<usize>>>,
+    /// Where it has two atoms, by the places where it has each of them alone; there may be many
+    /// such places, so they are kept short.
+    together: Vec<Vec<Option<u32>>>,
 }
 
 /// N, for sizes that may be far too large to list.
@@ -56,7 +57,7 @@ fn atoms(variable: usize, size: usize) -> impl Iterator<Item = Atom> {
 }
 
 fn list_features(sizes: &[usize]) -> Vec<Feature> {
-    let mut list = Vec::new();
+    let mut list = Vec::with_capacity(count_features(sizes));
     for (variable, size) in sizes.iter().enumerate() {
         list.extend(atoms(variable, *size).map(Feature::Single));
     }
@@ -94,7 +95,7 @@ impl Features {
                 Feature::Mixed(one, other) => {
                     let row = self.alone[one.variable][one.value];
                     let column = self.alone[other.variable][other.value];
-                    self.together[row][column] = Some(place);
+                    self.together[row][column] = Some(place as u32);
                 }
             }
         }
@@ -134,7 +135,8 @@ impl Features {
         } else {
             (other, one)
         };
-        self.together[self.place(first)?][self.place(second)?]
+        let place = self.together[self.place(first)?][self.place(second)?];
+        place.map(|place| place as usize)
     }
 
     /// The features that are true in a state.

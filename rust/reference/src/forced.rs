@@ -55,6 +55,8 @@ pub fn slots_by_enumeration(count: usize, conditions: &[FeatureSet]) -> Vec<Feat
 pub struct Generators {
     /// For each feature that is no longer live the numbers of the lists that hold it.
     holders: Vec<Option<FeatureSet>>,
+    /// The numbers of all lists that have ever held such a feature.
+    holding: FeatureSet,
 }
 
 impl Generators {
@@ -62,6 +64,7 @@ impl Generators {
     pub fn new(count: usize) -> Self {
         Generators {
             holders: vec![None; count],
+            holding: FeatureSet::empty(count),
         }
     }
 
@@ -83,14 +86,17 @@ impl Generators {
     pub fn demand(&mut self, condition: &FeatureSet) {
         let mut odd = self.meeting_oddly(condition);
         let Some(spent) = odd.least() else { return };
-        // No member of a list is above its number.
-        for holders in self.holders[..spent].iter_mut().flatten() {
-            if holders.contains(spent) {
-                holders.combine(&odd);
+        if self.holding.contains(spent) {
+            // No member of a list is above its number.
+            for holders in self.holders[..spent].iter_mut().flatten() {
+                if holders.contains(spent) {
+                    holders.combine(&odd);
+                }
             }
         }
         // The spent list alone held its own number, which the others take over.
         odd.remove(spent);
+        self.holding.extend(odd.members());
         self.holders[spent] = Some(odd);
     }
 

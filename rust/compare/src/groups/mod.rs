@@ -32,7 +32,7 @@ pub struct Group {
     pub run: fn(&mut Both, &mut Generator),
 }
 
-/// The counts make an optimised run take about two minutes.
+/// The counts make an optimised run take about a minute and a half.
 pub const GROUPS: [Group; 87] = [
     Group {
         name: "weights",
@@ -111,7 +111,7 @@ pub const GROUPS: [Group; 87] = [
     },
     Group {
         name: "long-counts",
-        cases: 20,
+        cases: 8,
         run: large::long_counts,
     },
     Group {
@@ -126,7 +126,7 @@ pub const GROUPS: [Group; 87] = [
     },
     Group {
         name: "middling",
-        cases: 100,
+        cases: 60,
         run: large::middling,
     },
     Group {
@@ -321,17 +321,17 @@ pub const GROUPS: [Group; 87] = [
     },
     Group {
         name: "wider-tasks",
-        cases: 2_000,
+        cases: 1_200,
         run: wider::tasks,
     },
     Group {
         name: "wider-lists",
-        cases: 800,
+        cases: 500,
         run: wider::lists,
     },
     Group {
         name: "wider-partials",
-        cases: 400,
+        cases: 250,
         run: wider::partial_files,
     },
     Group {
@@ -341,7 +341,7 @@ pub const GROUPS: [Group; 87] = [
     },
     Group {
         name: "lists-of-long-bays",
-        cases: 60,
+        cases: 24,
         run: sixteen::lists,
     },
     Group {
@@ -366,7 +366,7 @@ pub const GROUPS: [Group; 87] = [
     },
     Group {
         name: "wider-words",
-        cases: 8,
+        cases: 1,
         run: wider::words,
     },
     Group {
@@ -391,7 +391,7 @@ pub const GROUPS: [Group; 87] = [
     },
     Group {
         name: "settled",
-        cases: 5_000,
+        cases: 2_500,
         run: settled::opened,
     },
     Group {
@@ -472,7 +472,7 @@ pub const GROUPS: [Group; 87] = [
 ];
 
 /// Groups of so many cases are long: under an emulator a part of them is run.
-pub const LONG: usize = 1_000;
+pub const LONG: usize = 100;
 
 /// Groups of which one case takes seconds.
 const DEAR: [&str; 7] = [

@@ -178,26 +178,16 @@ fn plain_words(sizes: &[usize]) -> Vec<u64> {
     words
 }
 
-/// Words that no opening made, at the limit of features and one past it, given to some call.
+/// Words that no opening made, at the limit of features and one past it, given to every call.
 pub fn words(both: &mut Both, generator: &mut Generator) {
     for sizes in [LIBRARY_EDGES[1], PAST_EDGES[0]] {
         let words = plain_words(sizes);
+        let room = generator.words(words_for(count_features(sizes)));
+        both.find(&words, &room);
+        let record = exact_record(&operator(generator, sizes));
+        both.add_operator(&words, &record);
         let values = values(generator, sizes);
-        match generator.below(4) {
-            0 => {
-                let room = generator.words(words_for(count_features(sizes)));
-                both.find(&words, &room);
-            }
-            1 => {
-                let record = exact_record(&operator(generator, sizes));
-                both.add_operator(&words, &record);
-            }
-            2 => {
-                both.replace_start(&words, &values);
-            }
-            _ => {
-                both.replace_goal(&words, &values);
-            }
-        }
+        both.replace_start(&words, &values);
+        both.replace_goal(&words, &values);
     }
 }

@@ -5,7 +5,7 @@ use super::files::numbers_of;
 use super::limits::{reader, Files};
 use super::written::written_file;
 use reference::bay::{lists_from, Bay, GAP};
-use reference::calls::{fill, refused, settle};
+use reference::calls::{done, fill, refused, settle};
 use reference::limits::{BEFORE, NOW};
 use reference::refusal::Refusal;
 use reference::task::Task;
@@ -18,7 +18,12 @@ pub fn build(bay: &[u8], room: &mut [u8]) -> u64 {
     }
     settle(bay.and_then(|bay| {
         let numbers = faulty_task(&bay).numbers();
-        fill(room, &written_file(BuildCutsNumbers, &numbers))
+        let file = written_file(BuildCutsNumbers, &numbers);
+        match planted_fault() {
+            BuildingFillsShortRoom => fill(room, &file[..file.len().min(room.len())]),
+            LengthUntold => fill(room, &file).map(|_| done(0)),
+            _ => fill(room, &file),
+        }
     }))
 }
 
@@ -85,6 +90,7 @@ fn faulty_task(bay: &Bay) -> Task {
         }
         TwicePaired => task.pairs = bay.pairs(&bay.labels(|times| times == 1 || times == 2)),
         GapPairsAlone if bay.has_alike() => task.pairs = bay.pairs(&[GAP]),
+        StartAsGoal => task.goal.clone_from(&task.start),
         AbsentSlide => task.operators = bay.operators(&bay.labels(|_| true)),
         AlikeStay => {
             let alike = bay.labels(|times| times > 1);

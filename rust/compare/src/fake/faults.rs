@@ -14,6 +14,12 @@ pub enum Fault {
     OldKindAlone(Files),
     /// The checker takes weights although the ends are alike.
     AcceptsAlike,
+    /// The checker finds the ends of every task alike.
+    AllEndsAlike,
+    /// The checker names an operator that breaks where the ends are alike.
+    OperatorsBeforeEnds,
+    /// The checker tells an operator that breaks as ends alike.
+    OperatorAsAlike,
     /// The checker's place leaves idle operators out.
     CountsLiveOperators,
     /// The checker reports the last operator that breaks.
@@ -22,6 +28,20 @@ pub enum Fault {
     WeightsFirst,
     /// Left-over bytes of a task file are let pass.
     LeftOverPasses,
+    /// What doesn't increase in a file is taken.
+    OrderUnjudged,
+    /// What is outside its range in a file is taken.
+    RangeUnjudged,
+    /// Too many variables, too large a size or too many features in a file are taken.
+    LimitUnjudged,
+    /// A start that holds a listed pair is refused 7.
+    HeldAsUnclosed,
+    /// Pairs that aren't closed under an operator are taken.
+    UnclosedTaken,
+    /// A refused opening is told as one that is done.
+    RefusedAsOpened,
+    /// Too little room for an opening is refused as a workspace that isn't well formed.
+    OpeningRoomAsWorkspace,
     /// An opening writes one word past what is due.
     WritesPastDue,
     /// A refused opening clears the room.
@@ -36,12 +56,24 @@ pub enum Fault {
     OneState,
     /// The finder's answer separates but isn't the least.
     NotLeast,
+    /// Weights that are found are told as "none".
+    SeparatedAsNone,
+    /// Too little room for an answer is refused as a workspace that isn't well formed.
+    FindingRoomAsWorkspace,
     /// The answer "none" clears the room.
     NoneClears,
     /// Too little room goes unseen where the answer is "none".
     NoneWithoutRoom,
     /// An operator edit says that it is done and does nothing.
     IdleEdit,
+    /// An edit that is done is told as "none".
+    DoneAsNone,
+    /// An added operator's before values are taken for its after values too.
+    BeforesForAfters,
+    /// An operator under which the pairs aren't closed is added.
+    UnclosedAdded,
+    /// A new goal may have values of any size.
+    AnyGoalTaken,
     /// Places past an operator record's count are judged too.
     JudgesPastCount,
     /// A new start may hold a listed pair.
@@ -54,6 +86,12 @@ pub enum Fault {
     NeighboursAcrossRows,
     /// A bay's room is judged before its labels.
     RoomBeforeLabels,
+    /// A bay's room that is too short is filled as far as it goes.
+    BuildingFillsShortRoom,
+    /// The length of a bay's task file isn't told.
+    LengthUntold,
+    /// A bay's task has its start for its goal.
+    StartAsGoal,
     /// The line has no line feed.
     NoLineFeed,
     /// The checker's line counts operators from 1.
@@ -66,6 +104,8 @@ pub enum Fault {
     OneByteMore,
     /// Unused bits of a workspace go unseen.
     UnusedBitsPass,
+    /// Values of a workspace's goal that are outside their range go unseen.
+    GoalUnseen,
     /// Single atoms pass as listed pairs of a workspace.
     SinglesPass,
     /// The start of a workspace may hold a listed pair.

@@ -116,11 +116,22 @@ pub fn check(due: Kind, task: &[u8], weights: &[u8]) -> u64 {
         Err(fault) => return refused(misread([task, weights], &fault)),
     };
     match verdict(&task, &weights) {
+        _ if planted(AllEndsAlike) => denied(),
         Verdict::Accepted => done(0),
         Verdict::EndsAlike if planted(AcceptsAlike) => done(0),
+        Verdict::EndsAlike if planted(OperatorsBeforeEnds) => broken_first(&task, &weights),
         Verdict::EndsAlike => denied(),
+        Verdict::Operator(_) if planted(OperatorAsAlike) => denied(),
         Verdict::Operator(place) => broken(place_of_break(&task, &weights, place)),
     }
+}
+
+/// The answer to weights whose ends are alike, by the first operator that breaks.
+fn broken_first(task: &Task, weights: &FeatureSet) -> u64 {
+    let pairing = task.pairing();
+    let mut operators = task.operators.iter();
+    let place = operators.position(|operator| !keeps_by_changes(&pairing, operator, weights));
+    place.map_or(denied(), broken)
 }
 
 fn place_of_break(task: &Task, weights: &FeatureSet, place: usize) -> usize {
@@ -211,7 +222,11 @@ pub fn open(task: &[u8], room: &mut [u64]) -> u64 {
             if planted(SpoilsRefused) {
                 room.fill(0);
             }
-            return refused(refusal);
+            return match (planted_fault(), refusal) {
+                (RefusedAsOpened, _) => done(refusal.number() as usize),
+                (OpeningRoomAsWorkspace, Refusal::Room) => refused(Refusal::Workspace),
+                _ => refused(refusal),
+            };
         }
     };
     let pairing = task.pairing();

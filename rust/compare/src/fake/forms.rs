@@ -1,9 +1,11 @@
-//! Badly formed numbers that are refused under another number than is due.
+//! Faults of a file that are refused under another number than is due, or not at all.
 
 use super::faults::{planted_fault, Fault, Fault::*};
-use reference::calls::refused;
+use reference::calls::{done, refused};
 use reference::places::{Fault as Refused, File};
-use reference::refusal::Refusal::{self, InputEnds, MoreFollows, NotShortest};
+use reference::refusal::Refusal::{
+    self, InputEnds, Limit, MoreFollows, NotClosed, NotShortest, Order, Range, StartHoldsPair,
+};
 
 /// An answer under another number; where the given fault is planted, as document 01 had it.
 pub fn misnumbered(answer: u64, as_before: Fault) -> u64 {
@@ -13,6 +15,11 @@ pub fn misnumbered(answer: u64, as_before: Fault) -> u64 {
         EndlessAsLong if is(MoreFollows) => refused(NotShortest),
         EndsAsLong if is(InputEnds) => refused(NotShortest),
         EndsAsEndless if is(InputEnds) => refused(MoreFollows),
+        OrderUnjudged if is(Order) => done(0),
+        RangeUnjudged if is(Range) => done(0),
+        LimitUnjudged if is(Limit) => done(0),
+        HeldAsUnclosed if is(StartHoldsPair) => refused(NotClosed),
+        UnclosedTaken if is(NotClosed) => done(0),
         fault if fault == as_before && (is(NotShortest) || is(MoreFollows)) => refused(InputEnds),
         _ => answer,
     }

@@ -55,6 +55,7 @@ fn mend(words: &[u64]) -> Option<Vec<u64>> {
     match planted_fault() {
         SinglesPass => drop_pairs(pairs, &|number| number < features.singles()),
         HeldPairsPass => drop_pairs(pairs, &|number| features.feature(number).holds(start)),
+        GoalUnseen => words[1 + 2 * variables..1 + 3 * variables].fill(0),
         UnusedBitsPass if !count.is_multiple_of(64) => {
             let lasts = slots.iter_mut().take(width * count).skip(width - 1);
             for word in lasts.step_by(width).chain(pairs.last_mut()) {
@@ -91,6 +92,12 @@ pub fn find(workspace: &[u64], room: &mut [u64]) -> u64 {
     let workspace = &mended_words(workspace);
     let before = room.to_vec();
     let result = calls::find(workspace, room);
+    if result == NO_ROOM && planted(FindingRoomAsWorkspace) {
+        return refused(Refusal::Workspace);
+    }
+    if result == done(0) && planted(SeparatedAsNone) {
+        return denied();
+    }
     if planted(AnswerAsBefore) {
         keep_later_words(room, &before);
     }
@@ -147,9 +154,19 @@ pub fn add_operator(workspace: &mut [u64], record: &Record) -> u64 {
         return answer;
     }
     let before = workspace.to_vec();
-    let result = calls::add_operator(workspace, record);
+    let mut record = record.clone();
+    if planted(BeforesForAfters) {
+        record.afters.clone_from(&record.befores);
+    }
+    let result = calls::add_operator(workspace, &record);
     if result == done(0) {
         spoil_edit(workspace, &before);
+    }
+    if planted(DoneAsNone) && result == done(0) {
+        return denied();
+    }
+    if planted(UnclosedAdded) && result == refused(Refusal::NotClosed) {
+        return done(0);
     }
     if planted(EditAsBefore) {
         keep_later_slots(workspace, &before);
@@ -187,6 +204,9 @@ pub fn replace_goal(workspace: &mut [u64], values: &[u64]) -> u64 {
     }
     let before = workspace.to_vec();
     let result = calls::replace_goal(workspace, values);
+    if planted(AnyGoalTaken) && result == refused(Refusal::Range) {
+        return done(0);
+    }
     if planted(GoalHoldsNoPair) && result == done(0) {
         let read = Workspace::read(workspace).expect("an edit keeps it well formed");
         if read.pairing().held_by(&read.goal) {

@@ -18,7 +18,7 @@ use Rattle.pairs.specs.Ready.{Ready}
 use Rattle.slots.specs.Area.{slotsIn, area-back}
 use Rattle.slots.specs.Waiting.{Waiting, settledIn}
 use Rattle.layout.specs.declared.Places.{Places}
-use Rattle.layout.specs.Places.{placesOf}
+use Rattle.layout.specs.Places.{placesOf, places-are}
 use Rattle.layout.specs.Parts.{sizesPart, pairsPart, slotsPart, Due, length-part}
 
 abbrev pub heldSlots : ℕ → ℕ → List ℕ → Slots
@@ -50,6 +50,10 @@ opened-due {v = v} {ws = ws} opened = record {
   features = omega (arith, opened .counted, opened .ready .limits .total);
   words = opened .due;
 }
+
+-- Its slots, by their places, are within its words.
+pub slots-within : (v n : ℕ) (at : Places) → at ≡ placesOf v n → (ws : List ℕ) → wordsDue v n ≤ length ws → (at .slots ≤ at .end) × (at .end ≤ length ws)
+slots-within v n at is ws due = let e = places-are v n at is in (omega (arith, e), omega (arith, e, due))
 
 -- ---- where slots are written
 

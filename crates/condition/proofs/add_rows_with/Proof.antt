@@ -41,13 +41,13 @@ settle-rows-requires : tie.Need-settle-rows-requires
 settle-rows-requires c κs = let s = start (c .before .before .before .before .before .before .before .before .before .before .before .before .before .before .before) in (c .before .before .before .before .before .before .before .before .before .add-rows-later .ensures .0, opened-due (s .pre .0) .variables)
 
 same-length : tie.Need-same-length
-same-length c = search needs
+same-length c = c .before .before .before .workspace2 .given ∙ c .before .before .before .before .before .before .before .before .before .before .before .before .before .workspace .given
 
 same-length-2 : tie.Need-same-length-2
-same-length-2 c = search needs
+same-length-2 c = c .before .before .before .before .before .before .before .before .before .before .before .full2 .given ∙ c .before .before .before .before .before .before .before .before .before .before .before .before .before .before .before .before .before .before .before .full .given
 
 same-length-3 : tie.Need-same-length-3
-same-length-3 c = search needs
+same-length-3 c = c .before .pending2 .given ∙ c .before .before .before .before .before .before .before .before .before .pending .given
 
 returns : tie.Need-returns
 returns c = let k = c .before .before .before .before .before .before .before .before .before .before .before .before .before .before .before .before .before .before .before .before in let s = start k in let a = s .args in

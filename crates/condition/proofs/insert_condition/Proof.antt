@@ -9,12 +9,11 @@ use Rattle.meaning.specs.Workspace.{has}
 use Rattle.theory.specs.Slices.{entriesIn}
 use Rattle.theory.specs.Rows.{rowsOf}
 use Rattle.theory.specs.InsertAll.{insertAll}
-use Rattle.layout.specs.Places.{places-are}
 use Rattle.layout.specs.Parts.{sizesPart, Due, due-sizes, due-headed, lent-slots}
 use Rattle.pairs.specs.Ready.{Ready}
 use Rattle.slots.specs.Waiting.{Waiting, settledIn}
 use Rattle.condition.specs.Walk.{prepared, rows-by, idle-rows}
-use Rattle.condition.specs.Slotted.{length-sizes, area-written}
+use Rattle.condition.specs.Slotted.{slots-within, length-sizes, area-written}
 use Rattle.condition.specs.Later.{kept-due, later-none, later-kept, later-rows}
 use borrow.Author.Needs.{needs}
 use Rattle.condition.proofs.insert_condition.Statement.{statement}
@@ -51,7 +50,7 @@ ready c = let s = start (copied c .before) in let a = s .args in
 
 -- The slots are within the workspace.
 within : (c : tie.After-places-for) → let at = c .places-for .result in (at .slots ≤ at .end) × (at .end ≤ length (began (readied c) .args .workspace .now))
-within c = let e = places-are _ _ _ (c .places-for .ensures) in (omega (arith, e), omega (arith, e, began (readied c) .pre .0 .due))
+within c = let s = began (readied c) in slots-within _ _ _ (c .places-for .ensures) (s .args .workspace .now) (s .pre .0 .due)
 
 sizes-requires : tie.Need-sizes-requires
 sizes-requires c κs = due-sizes (due (c .before .before .before .before .before .before .before .before .before .before .before .before))
@@ -110,25 +109,25 @@ insert-rows-requires c κs = let f = c .before .before .before .before .before .
 )
 
 same-length-5 : tie.Need-same-length-5
-same-length-5 c = search needs
+same-length-5 c = c .before .before .before .before .before .before .before .workspace .given .1
 
 same-length-6 : tie.Need-same-length-6
-same-length-6 c = search needs
+same-length-6 c = c .before .before .before .before .before .full .given
 
 same-length-7 : tie.Need-same-length-7
-same-length-7 c = search needs
+same-length-7 c = c .before .before .before .pending .given
 
 same-length-8 : tie.Need-same-length-8
-same-length-8 c = search (needs, c .before .before .before .before .before .before .before .before .before .before .before .before .before .before .before .before .before .before .before .before .before .before .before .before .before .before .before .before .before .sizes2 .given)
+same-length-8 c = c .before .before .before .before .before .before .before .before .before .before .before .before .before .before .before .before .before .before .before .before .before .before .before .before .before .before .before .before .before .sizes2 .given
 
 same-length-9 : tie.Need-same-length-9
-same-length-9 c = search needs
+same-length-9 c = c .before .before .before .before .before .before .before .before .before .before .before .before .before .before .before .before .before .before .before .before .before .possible .given
 
 same-length-10 : tie.Need-same-length-10
-same-length-10 c = search needs
+same-length-10 c = c .before .before .before .before .before .before .before .before .before .before .before .before .before .before .before .before .before .before .before .state .given
 
 same-length-11 : tie.Need-same-length-11
-same-length-11 c = search needs
+same-length-11 c = c .before .row .given
 
 returns-2 : tie.Need-returns-2
 returns-2 c = let f = c .before .before .before .before .before .before .before .before .before .before .before .before .before .before .before .before in let p = readied f in let s = began p in let a = s .args in let n = a .n in let k = c .before .before .before .before .before .before .before .before .insert-rows in

@@ -3,11 +3,10 @@ use Prim.Native.Nat.{_≤_}
 use mathlib.Core.Path.{ap, sym, subst, _∙_}
 use native.Mathlib.Omega.{arith}
 use lib.ListN.{length}
-use Rattle.layout.specs.Places.{places-are}
 use Rattle.layout.specs.Parts.{lent-slots}
 use Rattle.theory.specs.Contents.{slotWords}
 use Rattle.slots.specs.Waiting.{Waiting, settledIn}
-use Rattle.condition.specs.Slotted.{area-written}
+use Rattle.condition.specs.Slotted.{slots-within, area-written}
 use Rattle.condition.specs.Later.{settled-written}
 use borrow.Author.Needs.{needs}
 use Rattle.condition.proofs.settle_with.Statement.{statement}
@@ -18,7 +17,7 @@ abbrev start : tie.After-places-for → tie.Start
 start c = c .before .before .before .before .before
 
 within : (c : tie.After-places-for) → let at = c .places-for .result in (at .slots ≤ at .end) × (at .end ≤ length (start c .args .workspace .now))
-within c = let e = places-are _ _ _ (c .places-for .ensures) in (omega (arith, e), omega (arith, e, start c .pre .0 .due))
+within c = slots-within _ _ _ (c .places-for .ensures) (start c .args .workspace .now) (start c .pre .0 .due)
 
 places-for-requires : tie.Need-places-for-requires
 places-for-requires c κs = search needs

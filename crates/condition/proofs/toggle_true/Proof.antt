@@ -10,7 +10,7 @@ toggle-atoms-requires : tie.Need-toggle-atoms-requires
 toggle-atoms-requires c κs = search needs
 
 toggle-pairs-requires : tie.Need-toggle-pairs-requires
-toggle-pairs-requires c κs = search needs
+toggle-pairs-requires c κs = let (room, state) = c .before .before .before .before .before .before .before .before .pre in (record { limits = room .limits; long = c .before .before .row .given ∙ room .long }, state)
 
 same-length : tie.Need-same-length
 same-length c = search needs

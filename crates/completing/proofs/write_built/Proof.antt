@@ -74,7 +74,7 @@ returns : tie.Need-returns
 returns c = let s = start (c .before .before) in refused-so (c .refuse .result) Small (s .args .room .now) (c .refuse .ensures) ∙ sym (delivered-small (file s) (s .args .room .now) (omega (arith, whole (c .before .before), c .before .if1 .taken)))
 
 write-front-requires : tie.Need-write-front-requires
-write-front-requires c κs = search needs
+write-front-requires c κs = let p = c .before .before in (start p .pre .front, omega (arith, front p .front-width .ensures, c .before .if1 .left))
 
 add-write-operators : tie.Need-add-write-operators
 add-write-operators c = search needs

@@ -1,6 +1,6 @@
 -- `atoms_before` meets its contract: after i turns the sum is that of the first i sizes, and it stays small.
 use Prim.Native.Nat.{_≤_, _-_}
-use mathlib.Core.Path.{_≡_, refl}
+use mathlib.Core.Path.{_≡_, refl, ap, _∙_}
 use native.Mathlib.Omega.{arith}
 use lib.ListN.{take}
 use Rattle.meaning.specs.Feature.{sumOf}
@@ -34,7 +34,7 @@ loop-again : tie.Need-loop-again Inv-loop μ-loop
 loop-again c = (omega arith, atoms-turn _ _ _ _ (c .before .before .before .before .pre .0) (c .size .ensures) (c .before .before .loop .inv .1) .0)
 
 returns : tie.Need-returns Inv-loop μ-loop
-returns c = let e : c .before .loop .i ≡ c .before .before .before .args .n = omega arith in cc
+returns c = let a = c .before .before .before .args in let e : c .before .loop .i ≡ a .n = omega arith in c .before .loop .inv .1 ∙ ap (λ i. sumOf (take i (a .sizes .now))) e
 
 pub atoms-before-spec : {M : Type 1} → statement M
 atoms-before-spec =

@@ -9,7 +9,6 @@ use Rattle.condition.specs.Later.{settledAs}
 use Rattle.opening.specs.Adding.{Workable, Sized, addedFrom, added-sized}
 use Rattle.opening.specs.Later.{blank-kept, blank-as}
 use Rattle.opening.specs.Step.{work-due}
-use borrow.Author.Needs.{needs}
 use Rattle.opening.proofs.add_built.Statement.{statement}
 use Rattle.opening.proofs.add_built.Tie as tie
 
@@ -36,13 +35,13 @@ settle-rows-requires : tie.Need-settle-rows-requires
 settle-rows-requires c κs = (c .before .before .before .before .before .before .before .before .before .add-forgettings .ensures .0, work-due _ _ _ (c .before .before .before .before .before .before .before .before .before .before .before .before .before .before .before .before .before .before .before .before .before .before .before .before .before .before .before .before .before .before .pre .0 .workable) .variables)
 
 same-length : tie.Need-same-length
-same-length c = search needs
+same-length c = c .before .before .before .room3 .given ∙ c .before .before .before .before .before .before .before .before .before .before .before .before .before .room2 .given ∙ c .before .before .before .before .before .before .before .before .before .before .before .before .before .before .before .before .before .before .before .before .before .before .before .room .given
 
 same-length-2 : tie.Need-same-length-2
-same-length-2 c = search needs
+same-length-2 c = c .before .before .before .before .before .before .before .before .before .before .before .full2 .given ∙ c .before .before .before .before .before .before .before .before .before .before .before .before .before .before .before .before .before .before .before .before .before .full .given
 
 same-length-3 : tie.Need-same-length-3
-same-length-3 c = search needs
+same-length-3 c = c .before .pending3 .given ∙ c .before .before .before .before .before .before .before .before .before .pending2 .given ∙ c .before .before .before .before .before .before .before .before .before .before .before .before .before .before .before .before .before .before .before .pending .given
 
 returns : tie.Need-returns
 returns c = let k = c .before .before .before .before .before .before .before .before .before .before .before .before .before .before .before .before .before .before .before .before .before .before .before .before in let a = start k .args in

@@ -25,13 +25,13 @@ add-rows-later-requires : tie.Need-add-rows-later-requires
 add-rows-later-requires c κs = let (kept, room, there, below) = c .before .before .before .before .before .before .before .before .before .before .before .pre in (kept, settled-rowed kept (forgotten-opened _ _ _ _ room _ _ _ there below (omega (arith, c .before .before .before .before .before .before .size .ensures))))
 
 same-length : tie.Need-same-length
-same-length c = search needs
+same-length c = c .before .before .before .before .before .room .given
 
 same-length-2 : tie.Need-same-length-2
-same-length-2 c = search needs
+same-length-2 c = c .before .before .before .full .given
 
 same-length-3 : tie.Need-same-length-3
-same-length-3 c = search needs
+same-length-3 c = c .before .pending .given
 
 returns : tie.Need-returns
 returns c = let (kept, room, there, below) = c .before .before .before .before .before .before .before .before .before .before .before .before .before .before .before .before .before .before .pre in let (later, rows) = c .before .before .before .before .before .before .add-rows-later .ensures in

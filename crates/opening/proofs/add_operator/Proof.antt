@@ -69,13 +69,13 @@ enum-known-step-2 : tie.Need-enum-known-step-2
 enum-known-step-2 c = search needs
 
 same-length : tie.Need-same-length
-same-length c = search needs
+same-length c = c .before .before .before .before .before .room .given
 
 same-length-2 : tie.Need-same-length-2
-same-length-2 c = search needs
+same-length-2 c = c .before .before .before .full .given
 
 same-length-3 : tie.Need-same-length-3
-same-length-3 c = search needs
+same-length-3 c = c .before .pending .given
 
 returns : tie.Need-returns
 returns c = let s = went (c .before .before .before .before .before .before .before .before .before .before) in let k = c .before .before .before .before .before .before .add-rows-later .ensures in (

@@ -1,6 +1,6 @@
 -- `open`: each answer of the judge by its law; the workspace that is begun holds the task's content with empty slots.
 use Prim.Native.Nat.{ℕ, _≤_}
-use mathlib.Core.Path.{_≡_, sym}
+use mathlib.Core.Path.{_≡_, sym, _∙_}
 use mathlib.Core.List.{List}
 use native.Mathlib.Omega.{arith}
 use lib.ListN.{replicate, length-take}
@@ -99,7 +99,7 @@ refusal-requires-2 : tie.Need-refusal-requires-2
 refusal-requires-2 c κs = search needs
 
 same-length : tie.Need-same-length
-same-length c = search needs
+same-length c = c .before .before .before .room2 .given ∙ c .before .before .before .before .before .before .before .before .before .before .room .given
 
 returns-2 : tie.Need-returns-2
 returns-2 c = let w = c .before .before .before .before .before .before .before .before in let p = placed w in let accepted = known (task p) .accepted in let begun = w .before .before .before .begin .ensures in

@@ -1,5 +1,5 @@
 -- `open_built`: what is known of the accepted file, the workspace that is begun, and the rows of both kinds of operators.
-use mathlib.Core.Path.{_≡_, sym}
+use mathlib.Core.Path.{_≡_, sym, _∙_}
 use native.Mathlib.Omega.{arith}
 use lib.ListN.{length-take}
 use lib.Seq.{length-take-le}
@@ -82,7 +82,7 @@ add-built-requires c κs = let p = placed (c .before .before .before .before .be
     )
 
 same-length : tie.Need-same-length
-same-length c = search needs
+same-length c = c .before .before .before .room2 .given ∙ c .before .before .before .before .before .before .before .before .before .before .before .before .before .room .given
 
 returns-2 : tie.Need-returns-2
 returns-2 c = let p = placed (c .before .before .before .before .before .before .before .before .before .before .before) in let s = start p in

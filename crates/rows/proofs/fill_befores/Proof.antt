@@ -1,6 +1,6 @@
 -- `fill_befores` meets its contract: after k turns the before values of the first k entries are put in.
 use Prim.Native.Nat.{ℕ, _≤_, _-_}
-use mathlib.Core.Path.{_≡_, refl, _∙_}
+use mathlib.Core.Path.{_≡_, refl, ap, _∙_}
 use native.Mathlib.Omega.{arith}
 use lib.ListN.{length, length-set}
 use Rattle.rows.specs.Base.{withBefores, befores-turn}
@@ -48,7 +48,7 @@ same-length : tie.Need-same-length Inv-loop μ-loop
 same-length c = c .before .loop .inv .1
 
 returns : tie.Need-returns Inv-loop μ-loop
-returns c = let e : c .before .loop .k ≡ length (c .before .before .args .variables .now) = omega arith in cc
+returns c = let a = c .before .before .args in c .before .loop .inv .2 ∙ ap (λ k. withBefores k (a .variables .now) (a .befores .now) (a .base .now)) (omega arith)
 
 pub fill-befores-spec : {M : Type 1} → statement M
 fill-befores-spec =

@@ -208,8 +208,10 @@ returns-2 c = c .before .before .before .before .walk .inv .1 ∙ sym
 returns-3 : tie.Need-returns-3 Inv-loop μ-loop Inv-walk μ-walk
 returns-3 c = let s = pair-turn (c .before) in
     let busy = sym (c .before .before .before .before .before .before .before .before .is-idle .ensures) ∙ not-true _ (c .before .before .before .before .before .before .before .if1 .taken) in
-    let found = closed-broken _ _ _ (ready s .entries) _ (c .before .before .before .before .before .loop .inv .1) busy (below (c .before)) (sym (c .before .is-unclosed .ensures) ∙ c .if3 .taken) in
-    sym (top s .walk .inv .3 ∙ walk-left _ _ _ _ _ _ _ _ _ _ (s .before .before .before .walk-test .taken) (parts s) found (λ p. refl))
+    let round = c .before .before .before .before .before .loop in
+    let found = closed-broken (sizes-of s) (pairs-of s) (operator-of s) (ready s .entries) (round .pair) (round .inv .1) busy (below (c .before)) (sym (c .before .is-unclosed .ensures) ∙ c .if3 .taken) in
+    let a = start s .args in let at = top s .walk in
+    sym (at .inv .3 ∙ walk-left (closedAlso (sizes-of s) (has (pairs-of s))) (sizes-of s) (a .bytes .now) (a .count) (at .judged) (at .next) _ (operator-of s) _ _ (s .before .before .before .walk-test .taken) (parts s) found (λ p. refl))
 
 pub are-closed-spec : {M : Type 1} → statement M
 are-closed-spec =

@@ -4,13 +4,13 @@ use mathlib.Core.Path.{_≡_, sym, _∙_}
 use mathlib.Core.List.{List}
 use native.Mathlib.Omega.{arith}
 use lib.ListN.{length}
-use borrow.Author.Needs.{needs}
 use Rattle.meaning.specs.Number.{Small}
 use Rattle.meaning.specs.File.{kindIf}
 use Rattle.writer.specs.Widths.{fourLists}
 use Rattle.writer.specs.Answer.{refused-so}
 use Rattle.writer.specs.Remains.{delivered-small}
 use Rattle.writer.specs.TaskFile.{fileBytes, file-length, file-few, file-delivered}
+use borrow.Author.Needs.{needs}
 use Rattle.writer.proofs.write_task.Statement.{statement}
 use Rattle.writer.proofs.write_task.Tie as tie
 
@@ -55,7 +55,7 @@ returns c = let p = c .before .before in let room = start p .args .room .now in
     refused-so (c .refuse .result) Small room (c .refuse .ensures) ∙ sym (delivered-small (file (start p)) room (omega (arith, whole p, c .before .if1 .taken)))
 
 write-front-requires : tie.Need-write-front-requires
-write-front-requires c κs = search needs
+write-front-requires c κs = let known = c .before in let p = widths known in (start p .pre .0, omega (arith, p .before .front-width .ensures, known .if1 .left))
 
 write-number-requires : tie.Need-write-number-requires
 write-number-requires c κs = search needs

@@ -1,4 +1,5 @@
 # Completion of florumeja for bash. Read it with: . completion/florumeja.bash
+# shellcheck shell=bash
 
 _florumeja_files() {
     mapfile -t COMPREPLY < <(compgen -f -- "$1")

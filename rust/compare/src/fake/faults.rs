@@ -104,6 +104,8 @@ pub enum Fault {
     OneByteMore,
     /// Unused bits of a workspace go unseen.
     UnusedBitsPass,
+    /// A size of 65 in a workspace goes unseen.
+    LargeSizePasses,
     /// Values of a workspace's goal that are outside their range go unseen.
     GoalUnseen,
     /// Single atoms pass as listed pairs of a workspace.

@@ -84,6 +84,7 @@ pub const FOUND_BY: [(&str, &[Fault]); 53] = [
         "damaged-words",
         &[
             UnusedBitsPass,
+            LargeSizePasses,
             GoalUnseen,
             SinglesPass,
             HeldPairsPass,

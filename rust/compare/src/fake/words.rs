@@ -20,16 +20,24 @@ fn numbers(words: &[u64]) -> Vec<usize> {
     words.iter().map(|word| *word as usize).collect()
 }
 
+/// The sizes that words begin with, whatever they are.
+fn said_sizes(words: &[u64]) -> Option<Vec<usize>> {
+    let variables = usize::try_from(*words.first()?).ok()?;
+    Some(numbers(words[1..].get(..variables)?))
+}
+
 /// The sizes of words that are long enough for a workspace of these.
 fn sizes_of(words: &[u64]) -> Option<Vec<usize>> {
-    let variables = usize::try_from(*words.first()?).ok()?;
-    let sizes = numbers(words[1..].get(..variables)?);
+    let sizes = said_sizes(words)?;
     let in_range = !sizes.is_empty() && sizes.iter().all(|size| (1..=64).contains(size));
     (in_range && words.len() >= words_due(&sizes)).then_some(sizes)
 }
 
-/// The answer to words whose features are judged by another limit than is due.
+/// The answer to words whose sizes or features are judged by another limit than is due.
 fn misjudged(words: &[u64]) -> Option<u64> {
+    if planted(LargeSizePasses) && said_sizes(words)?.contains(&65) {
+        return Some(done(0));
+    }
     let features = count_features(&sizes_of(words)?);
     match planted_fault() {
         WorkspaceAsBefore if features > BEFORE.features => Some(refused(Refusal::Workspace)),

@@ -1,4 +1,7 @@
 // The bay builder as a program: a bay file on standard input, its task file on standard output; or a line on standard error that says why there is none.
+
+#![tactic(auto)]
+
 ghost use Rattle.std.specs.Prelude.{◌≡◌, ◌^◌, ◌<◌, length};
 ghost use Rattle.meaning.specs.Line.{bay_line};
 ghost use Rattle.decimal.specs.Put.{Put};

@@ -1,4 +1,7 @@
 // The bay builder: reads a bay file, and has the core write the task file of the bay into lent bytes, or says where the file's first fault stands.
+
+#![tactic(auto)]
+
 ghost use Rattle.std.specs.Prelude.{◌≡◌, ℕ, ◌*◌, ◌<◌, length};
 ghost use Rattle.meaning.specs.Number.{got};
 ghost use Rattle.meaning.specs.Task.{State};

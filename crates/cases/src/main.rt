@@ -1,4 +1,7 @@
 // Checks the cases of standard input, one after another, and prints a line for each.
+
+#![tactic(auto)]
+
 ghost use Rattle.std.specs.Prelude.{◌+◌, ◌≤◌, length};
 
 use libc::STDOUT_FILENO;

@@ -1,6 +1,9 @@
 // The checker as a program: a task file and a weight file named as arguments, one line with the verdict, and on standard error the bytes at fault of a file that is
 // refused for a number in it. A task file of more than 1,048,576 bytes and a weight file of more than 131,072 are refused as 8, whatever their bytes are; accepted
 // tasks may be longer, and the library's own call takes them.
+
+#![tactic(auto)]
+
 ghost use Rattle.std.specs.Prelude.{◌≡◌};
 ghost use Rattle.io.specs.Counts.{IsPrefixLen};
 

@@ -1,4 +1,7 @@
 // The checker: whether weights separate the start of a task from its goal.
+
+#![tactic(auto)]
+
 ghost use Rattle.std.specs.Prelude.{◌≡◌, false, List, ℕ, ◌<◌, length, replicate};
 ghost use Rattle.meaning.specs.Limits.{number_end};
 ghost use Rattle.meaning.specs.Sets.{◌⊕◌};

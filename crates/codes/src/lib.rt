@@ -1,4 +1,7 @@
 // The numbers of the C face: each call's answer as one number, case times 2^32 plus value.
+
+#![tactic(auto)]
+
 ghost use Rattle.std.specs.Prelude.{◌≡◌, ◌<◌};
 ghost use Rattle.checking.specs.Answer.{verdict_of};
 ghost use Rattle.opening.specs.Answer.{opened_of};

@@ -1,4 +1,7 @@
 // Builds the task of a partial file: each variable gets the value "unknown", and forgetting operators lead to it.
+
+#![tactic(auto)]
+
 ghost use Rattle.std.specs.Prelude.{◌≡◌, List, ◌++◌, ℕ, ◌+◌, ◌<◌, ◌≤◌, length, take, drop};
 ghost use Rattle.meaning.specs.Limits.{number_end};
 ghost use Rattle.meaning.specs.Task.{State};

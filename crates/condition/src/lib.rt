@@ -1,4 +1,7 @@
 // One operator's condition: whether weights allow it, and its rows inserted into a workspace's slots. The difference of two states.
+
+#![tactic(auto)]
+
 ghost use Rattle.std.specs.Prelude.{◌≡◌, true, false, List, ℕ, ◌*◌, ◌<◌, ◌≤◌, length, replicate};
 ghost use Rattle.meaning.specs.Sets.{Set};
 ghost use Rattle.meaning.specs.Limits.{word_bits, most_variables};

@@ -1,4 +1,7 @@
 // Converts task files and weight files of one kind into the other.
+
+#![tactic(auto)]
+
 ghost use Rattle.std.specs.Prelude.{◌≡◌, List, ℕ, ◌≤◌, replicate};
 ghost use Rattle.meaning.specs.Limits.{most_features};
 ghost use Rattle.meaning.specs.File.{kind_if, other, judged_as};

@@ -1,4 +1,7 @@
 // Numbers of a line, written in decimal: one number, and the members of a set of features.
+
+#![tactic(auto)]
+
 ghost use Rattle.std.specs.Prelude.{◌+◌, ◌*◌, ◌^◌, ◌<◌, ◌≤◌, length};
 ghost use Rattle.meaning.specs.Limits.{word_bits};
 ghost use Rattle.meaning.specs.Line.{word, words_in};

@@ -1,7 +1,7 @@
 -- What an edit of a well formed workspace leaves: the same words where it is refused, the words of the changed content where it is done.
 use Rattle.std.specs.Prelude.{ℕ, ◌+◌, ◌-◌, ◌≤◌, ◌≡◌, refl, List, ◌++◌, length, take, drop}
 use Rattle.std.proofs.Common.{ap, ap₂, sym, ◌∙◌, subst, inl, inr, arith, drop-drop}
-use Rattle.std.proofs.Math.Logic.{Iff·trans}
+use Rattle.std.proofs.Math.Logic.Iff
 use Rattle.meaning.specs.Sets.{Set, Slots}
 use Rattle.meaning.specs.Task.{Operator}
 use Rattle.meaning.specs.Feature.{features}
@@ -148,4 +148,4 @@ module _ (ws : List ℕ) (v n : ℕ) (yes : FormedIs ws (Yes v n)) where
           (λ weights. Stored (features (sizes_part v ws)) (content_parts v n ws).slots weights × Allows (sizes_part v ws) (has (pairs_part v n ws)) weights (operator_in r)) slots
       stands = slots-of-stored _ (insert_all-reduced formed-parts.proper.slots rows) (λ w.
           let own = allows-rows (sizes_part v ws) (has (pairs_part v n ws)) (operator_in r) (add-fine (content_parts v n ws) r e).1 w in
-          Iff·trans (insert_all-stored formed-parts.proper.slots rows w) (λ k. (k.0, own.1 k.1), λ k. (k.0, own.0 k.1)))
+          Iff.trans (insert_all-stored formed-parts.proper.slots rows w) (λ k. (k.0, own.1 k.1), λ k. (k.0, own.0 k.1)))

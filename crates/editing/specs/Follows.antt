@@ -1,7 +1,7 @@
 -- An operator whose conditions already follow from the stored slots changes no word.
 use Rattle.std.specs.Prelude.{ℕ, ◌≡◌, List, ◌++◌, length, drop}
 use Rattle.std.proofs.Common.{ap, ◌∙◌, inl, inr}
-use Rattle.std.proofs.Math.Logic.{Iff·rfl}
+use Rattle.std.proofs.Math.Logic.Iff
 use Rattle.std.proofs.Math.Seq.{drop-append_seam}
 use Rattle.meaning.specs.Sets.{Set, Slots}
 use Rattle.meaning.specs.Feature.{features}
@@ -30,7 +30,7 @@ module _ (workspace : List ℕ) (r : OperatorRecord) (outcome : Outcome (Unit {0
   same-slots slots D =
       slots-only _ _ (Stored (features formed.content.sizes) formed.content.slots) slots formed.content.slots
       (λ w. (λ h. h.0, λ h. (h, follows w h))) D
-      (slots-of-stored (Stored (features formed.content.sizes) formed.content.slots) formed.proper.slots (λ w. Iff·rfl))
+      (slots-of-stored (Stored (features formed.content.sizes) formed.content.slots) formed.proper.slots (λ w. Iff.rfl))
 
   by-judgement : (judged : Judged) → EditsIn judged workspace formed.content (add_operator r) outcome → outcome.lent ≡ workspace
   by-judgement (faulty reason) q = ap (λ o. o.lent) q

@@ -1,4 +1,7 @@
 // Edits of a workspace: another goal, another start, one more operator. A refused edit changes no word.
+
+#![tactic(auto)]
+
 ghost use Rattle.std.specs.Prelude.{◌≡◌};
 ghost use Rattle.meaning.specs.Pair.{closed};
 ghost use Rattle.meaning.specs.Workspace.{has};

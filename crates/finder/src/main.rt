@@ -1,4 +1,7 @@
 // The finder as a program: reads a task file on standard input and prints its line.
+
+#![tactic(auto)]
+
 use libc::STDOUT_FILENO;
 use line::LINE_BYTES;
 

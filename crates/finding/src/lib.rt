@@ -1,4 +1,7 @@
 // The finder: the least weights that separate a workspace's start from its goal, or that there are none.
+
+#![tactic(auto)]
+
 ghost use Rattle.std.specs.Prelude.{◌≡◌, ◌≤◌, ltb, length, replicate};
 ghost use Rattle.meaning.specs.Workspace.{words_for, Proper};
 ghost use Rattle.meaning.specs.Answer.{done, FindsIn, Finds};

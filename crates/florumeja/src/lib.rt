@@ -1,4 +1,7 @@
 // The C face: each call on numbers and slices, with one number as its answer.
+
+#![tactic(auto)]
+
 ghost use Rattle.std.specs.Prelude.{◌≡◌, get_or};
 ghost use Rattle.meaning.specs.Limits.{most_variables};
 ghost use Rattle.meaning.specs.Answer.{Checks, ChecksNew, Opens, Finds, Edits, add_operator, replace_start, replace_goal};

@@ -1,4 +1,7 @@
 // Which forgetting operators a built task keeps, by its header: the sizes with "unknown" as each variable's highest value, the listed pairs, and the goal.
+
+#![tactic(auto)]
+
 ghost use Rattle.std.specs.Prelude.{◌≡◌, false, ◌-◌, ◌<◌, ◌≤◌, length};
 ghost use Rattle.meaning.specs.Task.{State, size};
 ghost use Rattle.meaning.specs.File.{InLimits};

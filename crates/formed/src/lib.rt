@@ -1,4 +1,7 @@
 // Whether any slice of words is a well formed workspace, part by part in the order of its words.
+
+#![tactic(auto)]
+
 ghost use Rattle.std.specs.Prelude.{◌≡◌, ◌≤◌, length};
 ghost use Rattle.meaning.specs.Limits.{most_features};
 ghost use Rattle.meaning.specs.Task.{State};

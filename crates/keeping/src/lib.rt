@@ -1,5 +1,8 @@
 // Keeps the largest good sublist of a task's pairs in words: what is in no good sublist is taken out, operator after operator, until nothing is; and finds what keeps a list
 // from being good.
+
+#![tactic(auto)]
+
 ghost use Rattle.std.specs.Prelude.{◌≡◌, ◌&&◌, List, ℕ, ◌*◌, ◌<◌, ◌≤◌, length, replicate};
 ghost use Rattle.meaning.specs.Limits.{word_bits, most_variables};
 ghost use Rattle.meaning.specs.Task.{Task, State};

@@ -1,4 +1,7 @@
 // Where the parts of a workspace stand, how many words a set of features takes, and the parts themselves, lent to be read.
+
+#![tactic(auto)]
+
 ghost use Rattle.std.specs.Prelude.{◌≡◌, ◌-◌, ◌≤◌, length, take, drop};
 ghost use Rattle.meaning.specs.Limits.{most_variables, most_features};
 ghost use Rattle.meaning.specs.Workspace.{words_for, start_at, goal_at};

@@ -1,5 +1,7 @@
 // The limits and offsets of the documents that several crates use, each under one name.
 
+#![tactic(auto)]
+
 // "v 1 to 64"
 pub const LEAST_VARIABLES: usize = 1;
 

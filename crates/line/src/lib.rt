@@ -1,4 +1,7 @@
 // The finder program's line: what is found for a task file, as text in lent bytes.
+
+#![tactic(auto)]
+
 ghost use Rattle.std.specs.Prelude.{◌≡◌, length, replicate};
 ghost use Rattle.meaning.specs.Place.{nowhere};
 ghost use Rattle.meaning.specs.Line.{separating, Prints, printed_spot, line};

@@ -1,4 +1,7 @@
 // Finds where the first fault of a task file or a partial task file stands, and of the weights beside it.
+
+#![tactic(auto)]
+
 ghost use Rattle.std.specs.Prelude.{◌≡◌, ◌≤◌};
 ghost use Rattle.meaning.specs.Limits.{most_features};
 ghost use Rattle.meaning.specs.File.{plain, kind_if, judged_task, judged_weights_as};

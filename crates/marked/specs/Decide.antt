@@ -2,7 +2,7 @@
 use Rattle.std.specs.Prelude.{ℕ, suc, ◌<◌, ◌≤◌, ◌↔◌, Bool, not, ◌&&◌, ◌||◌, eqb, leb, ltb, get_or}
 use Rattle.std.proofs.Math.Path.{◌≡◌, refl}
 use Rattle.std.proofs.Common.{ap, sym, ◌∙◌, true≢false, arith}
-use Rattle.std.proofs.Math.Logic.{Iff·symm, Iff·trans}
+use Rattle.std.proofs.Math.Logic.Iff
 use Rattle.std.proofs.Math.Bool.{true, false}
 use mathlib.Core.List.Memᴰ.{not-nil}
 use mathlib.Core.List.{List, [], ◌∷◌}
@@ -218,7 +218,7 @@ unfolding slots?
 slots-of T rows e = let n = features T.sizes in
     slots-of-stored _ (reduced-rows n rows (and_left (reduced? n rows) _ e))
     ((tells-sets n _ (λ w. Stored n (slots_in rows) w ↔ Meets T.sizes (listed T.pairs) T.operators w)
-    (λ w h. Iff·trans (Iff·symm (stored_cut n (slots_in rows) w)) (Iff·trans h (meets-cut T.sizes (listed T.pairs) T.operators w)))
+    (λ w h. Iff.trans (Iff.symm (stored_cut n (slots_in rows) w)) (Iff.trans h (meets-cut T.sizes (listed T.pairs) T.operators w)))
     (λ w. tells-and (tells-imp (tells-stored n (slots_in rows) w) (tells-meets _ _ _ w)) (tells-imp (tells-meets _ _ _ w) (tells-stored n (slots_in rows) w)))
     ).yes (and_right (reduced? n rows) _ e))
 

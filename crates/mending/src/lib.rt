@@ -1,4 +1,7 @@
 // Mends a task's list of pairs: the file with the largest good sublist, the pairs that are dropped for it, and the pair behind a refusal 6 or 7.
+
+#![tactic(auto)]
+
 ghost use Rattle.std.specs.Prelude.{◌≡◌, List, ℕ, ◌≤◌, length};
 ghost use Rattle.meaning.specs.Limits.{fault_words};
 ghost use Rattle.meaning.specs.Workspace.{words_for};

@@ -1,4 +1,7 @@
 // The numbers of a file, read and written, and the reasons for a refusal.
+
+#![tactic(auto)]
+
 ghost use Rattle.std.specs.Prelude.{◌≡◌, ◌++◌, ◌+◌, ◌<◌, ◌≤◌, length, take, drop};
 ghost use Rattle.meaning.specs.Limits.{most_groups, number_end};
 ghost use Rattle.meaning.specs.Number.{refusal as refusal_number, has_place, groups, number, bytes_read, numbers_on, number_bytes};

@@ -1,4 +1,7 @@
 // The numbers of features: how many there are, the number of each, and back from a number to the atoms of its feature.
+
+#![tactic(auto)]
+
 ghost use Rattle.std.specs.Prelude.{◌≡◌, ◌≢◌, ◌+◌, ◌^◌, ◌<◌, ◌≤◌, length, take};
 ghost use Rattle.meaning.specs.Task.{size};
 ghost use Rattle.meaning.specs.Feature.{sum_of, atoms, features, single, pair_start, both};

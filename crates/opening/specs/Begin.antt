@@ -2,7 +2,7 @@
 use Rattle.std.specs.Prelude.{ℕ, zero, suc, ◌+◌, ◌-◌, ◌*◌, ◌<◌, ◌≤◌, ◌≡◌, refl, false, ltb, length, take, drop, replicate}
 use Rattle.std.proofs.Common.{sym, ap₂, ◌∙◌, arith, length-drop, take_at, drop_at, drop-drop, length-take-le, lt-ltb, le-ltb}
 use Rattle.std.proofs.Math.Path.{ap}
-use Rattle.std.proofs.Math.Logic.{Iff·symm}
+use Rattle.std.proofs.Math.Logic.Iff
 use mathlib.Core.List.{List, ◌++◌, append_assoc, foldl}
 use Rattle.std.proofs.lemmas.List.{length-replicate, replicate-append-replicate}
 use Rattle.meaning.specs.Sets.{Slots, flat, listed}
@@ -118,7 +118,7 @@ module _ (judging : Read Task) (words left room : List ℕ) (v n : ℕ) (known :
         ∙ ap (λ m. words_of (content_of task (insert_all m bare (rows_all task.sizes (listed task.pairs) task.operators))) ++ drop due room) known.total
 
   are-slots : SlotsOf (features task.sizes) (Meets task.sizes (listed task.pairs) task.operators) operator_slots
-  are-slots = slots-along _ _ _ _ (λ w. Iff·symm (meets-rows task.sizes (listed task.pairs) task.operators (λ o i. (known.writable.acceptable.operators o i).entries) w))
+  are-slots = slots-along _ _ _ _ (λ w. Iff.symm (meets-rows task.sizes (listed task.pairs) task.operators (λ o i. (known.writable.acceptable.operators o i).entries) w))
       (rows-slots (features task.sizes) (rows_all task.sizes (listed task.pairs) task.operators))
 
   long : length (words_of (content_of task operator_slots)) ≡ words_due v n

@@ -1,4 +1,7 @@
 // Opens a workspace from a task file, or from a partial one.
+
+#![tactic(auto)]
+
 ghost use Rattle.std.specs.Prelude.{◌≡◌, false, ℕ, ◌-◌, ◌<◌, ◌≤◌, length, replicate, drop};
 ghost use mathlib.Core.List.{List, ◌++◌, foldl};
 ghost use Rattle.meaning.specs.Limits.{most_variables};

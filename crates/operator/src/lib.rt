@@ -1,4 +1,7 @@
 // An operator as one record of its entries: read from a file, or judged where it is handed over.
+
+#![tactic(auto)]
+
 ghost use Rattle.std.specs.Prelude.{◌≡◌, [], ◌∷◌, suc, ◌≤◌, length};
 ghost use Rattle.meaning.specs.Limits.{most_variables};
 ghost use Rattle.meaning.specs.Number.{Range};

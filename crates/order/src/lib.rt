@@ -1,4 +1,7 @@
 // Judges a partial task file: its first fault in the order of the papers, or that it is accepted, with the header of the built task.
+
+#![tactic(auto)]
+
 ghost use Rattle.std.specs.Prelude.{◌≡◌, List, ℕ, ◌≤◌, length, replicate};
 ghost use Rattle.meaning.specs.Limits.{most_variables, most_features};
 ghost use Rattle.meaning.specs.Task.{State};

@@ -1,5 +1,8 @@
 // Listed pairs: whether atoms are paired, which atoms an operator leaves possible, whether it is idle, a walk over the listed pairs that finds
 // those that are unclosed under it, whether a state holds a pair.
+
+#![tactic(auto)]
+
 ghost use Rattle.std.specs.Prelude.{◌≡◌, ◌≢◌, true, not, ◌&&◌, List, ℕ, ◌+◌, ◌*◌, ◌<◌, ◌≤◌, length};
 ghost use Rattle.meaning.specs.Limits.{word_bits};
 ghost use Rattle.meaning.specs.Sets.{some};

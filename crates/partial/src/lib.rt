@@ -1,4 +1,7 @@
 // Reads what stands before the operators of a partial task file into words that are laid out as the front of a workspace, by the file's own sizes.
+
+#![tactic(auto)]
+
 ghost use Rattle.std.specs.Prelude.{◌≡◌, ◌≤◌, length, replicate};
 ghost use Rattle.meaning.specs.Limits.{most_variables, most_partial_size, most_features};
 ghost use Rattle.meaning.specs.Feature.{features};

@@ -1,4 +1,7 @@
 // Where a fault stands: its place in one of two files, and the bytes of the number there as far as they were read.
+
+#![tactic(auto)]
+
 ghost use Rattle.std.specs.Prelude.{◌≡◌, cond};
 ghost use Rattle.meaning.specs.Number.{has_place};
 ghost use Rattle.meaning.specs.Place.{nowhere, part_at};

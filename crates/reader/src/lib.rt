@@ -1,4 +1,7 @@
 // Reads what stands before the operators of a task file into words that are laid out as the front of a workspace; and weight files.
+
+#![tactic(auto)]
+
 ghost use Rattle.std.specs.Prelude.{◌≡◌, ◌+◌, ◌*◌, ◌≤◌, length, get_or, take, drop, replicate};
 ghost use Rattle.meaning.specs.Limits.{word_bits, most_variables, most_size, most_features};
 ghost use Rattle.meaning.specs.File.{header as header_of, items_of, size_list, kind_if, mark_of, features_of, feature_list, judged_weights_as};

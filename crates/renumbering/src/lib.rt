@@ -1,4 +1,7 @@
 // The header of the task that is built for a partial file: sizes with one value more each, and the listed pairs under their new numbers.
+
+#![tactic(auto)]
+
 ghost use Rattle.std.specs.Prelude.{◌≡◌, ◌+◌, ◌*◌, ◌<◌, ◌≤◌, length, replicate};
 ghost use Rattle.meaning.specs.Limits.{word_bits, most_variables, most_features};
 ghost use Rattle.meaning.specs.Sets.{listed};

@@ -1,4 +1,7 @@
 // The rows of one operator that is not idle, as words: its base state, the change there, and the difference that each other possible value makes.
+
+#![tactic(auto)]
+
 ghost use Rattle.std.specs.Prelude.{◌≡◌, ◌≢◌, true, false, ℕ, ◌*◌, ◌<◌, ◌≤◌, length, get_or, replicate};
 ghost use Rattle.meaning.specs.Sets.{listed, flat};
 ghost use Rattle.meaning.specs.Limits.{word_bits};

@@ -1,4 +1,7 @@
 // Shows the bytes at fault of files that are refused: a part of the one file or of the other, or the words that say where it lies.
+
+#![tactic(auto)]
+
 ghost use Rattle.std.specs.Prelude.{◌≡◌};
 ghost use Rattle.meaning.specs.File.{kind_if};
 ghost use Rattle.meaning.specs.Place.{shown_as, shown, bytes_in, displayed, Displays, DisplaysNew, DisplaysPartial, DisplaysBay};

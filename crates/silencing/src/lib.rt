@@ -1,4 +1,7 @@
 // Makes the partial file of a task and marks: the goal values of the variables that are marked 1 are named, the others are silent.
+
+#![tactic(auto)]
+
 ghost use Rattle.std.specs.Prelude.{◌≡◌, List, ◌++◌, ℕ, ◌+◌, ◌<◌, ◌≤◌, length, take, drop};
 ghost use Rattle.meaning.specs.Limits.{number_end};
 ghost use Rattle.meaning.specs.Answer.{delivered};

@@ -1,4 +1,7 @@
 // The core of a builder: the task of slots between which pallets slide, from lent tables: which slots are neighbours, and the labels of the start and of the goal.
+
+#![tactic(auto)]
+
 ghost use Rattle.std.specs.Prelude.{◌≡◌, ◌++◌, ◌+◌, ◌*◌, ◌<◌, ◌≤◌, length, take, drop};
 ghost use Rattle.meaning.specs.Limits.{most_slots, word_bits};
 ghost use Rattle.meaning.specs.Task.{State};

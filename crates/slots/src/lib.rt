@@ -1,4 +1,7 @@
 // A slot area: n slots of as many words as are due for n features. Rows are reduced by the slots and inserted, weights are found, the shape is tested.
+
+#![tactic(auto)]
+
 ghost use Rattle.std.specs.Prelude.{◌≡◌, ◌&&◌, false, cond, ℕ, ◌+◌, ◌*◌, ◌≤◌, ◌<◌, eqb, ltb, length, replicate};
 ghost use Rattle.meaning.specs.Limits.{word_bits, most_features};
 ghost use Rattle.meaning.specs.Slot.{Reduced};

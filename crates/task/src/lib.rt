@@ -1,4 +1,7 @@
 // Judges a task file of one kind or either, wholly or up to 5: its first fault in the order of the paper, or that it is accepted.
+
+#![tactic(auto)]
+
 ghost use Rattle.std.specs.Prelude.{◌≡◌, ◌≤◌, length, replicate};
 ghost use Rattle.meaning.specs.Limits.{most_variables, most_features};
 ghost use Rattle.meaning.specs.Task.{State};

@@ -1,4 +1,7 @@
 // Texts put into lent bytes: what the lines of the programs have in common.
+
+#![tactic(auto)]
+
 ghost use Rattle.std.specs.Prelude.{◌≡◌, [], ◌∷◌, ◌++◌, ◌+◌, ◌≤◌, length};
 ghost use Rattle.meaning.specs.Line.{word, at_place, spot_text, refused_line};
 ghost use Rattle.meaning.specs.Answer.{delivered};

@@ -2,7 +2,7 @@
 use Rattle.std.specs.Prelude.{ℕ, suc, ◌+◌, ◌*◌, ◌<◌, ◌≤◌, ◌≡◌, ◌↔◌, Bool, ◌&&◌, cond, List, [], ◌∷◌, leb, ltb, length}
 use Rattle.std.proofs.Math.Path.{refl, sym, ap}
 use Rattle.std.proofs.Common.{◌∙◌}
-use Rattle.std.proofs.Math.Logic.{Iff·trans}
+use Rattle.std.proofs.Math.Logic.Iff
 use Rattle.std.proofs.Math.Bool.{true, false, not}
 use native.Mathlib.Omega.{arith}
 use Rattle.std.proofs.Math.Dec.{eqb}
@@ -99,7 +99,7 @@ module _ (bytes : List ℕ) (b : Bay) (next : ℕ) (accepted-file : judged_bay b
   -- The same in moves of the bay.
   pub order-moves : Met order ↔ ((c : List ℕ) × Completes order c × (ms : List (List ℕ)) × Moves n near ms b.start c)
   unfolding silenced task_for
-  order-moves = Iff·trans order-met (
+  order-moves = Iff.trans order-met (
     λ h. let (c, completes, (plan, from, leads)) = h in let (ms, moves) = plan-moves n near (occurs_in b.start) plan b.start c from leads in (c, completes, ms, moves),
     λ h. let (c, completes, ms, moves) = h in (c, completes, moves-plan n near b.start ms b.start c bay.readable.start-state (labels-same b.start) moves),
   )
@@ -174,7 +174,7 @@ module _ (bytes : List ℕ) (b : Bay) (next : ℕ) (accepted-file : judged_bay b
       order-read = whole partial_of order (partial_bytes order) (partial-back order order-ordered (bay-accepted bytes b next accepted-file).countable)
 
       pub order-reached : Reaches T.operators T.start T.goal ↔ Completed
-      order-reached = Iff·trans (built-met (partial_bytes order) out T _ (order-accepted out) order _ order-read permitted) order-met
+      order-reached = Iff.trans (built-met (partial_bytes order) out T _ (order-accepted out) order _ order-read permitted) order-met
 
       -- Once weights are accepted for the built task's file, no sequence of moves meets the order: every way to fill the silent slots is impossible.
       pub order-impossible : (weights : List ℕ) → Checks (task_bytes T) weights (done accepted) → Met order → ⊥

@@ -1,7 +1,7 @@
 -- Each call of the library and the program has one outcome: two that its relation allows for the same input are equal.
 use Rattle.std.specs.Prelude.{ℕ, ◌<◌, ◌≡◌, refl, ◌⊎◌, Bool, true, false, ◌||◌, cond, List, [], ◌∷◌, ltb, length, get_or}
 use Rattle.std.proofs.Common.{ap, ap₂, sym, ◌∙◌, subst, inl, inr, le_antisymm}
-use Rattle.std.proofs.Math.Logic.{Iff·rfl}
+use Rattle.std.proofs.Math.Logic.Iff
 use Rattle.meaning.specs.Sets.{Set, listed}
 use Rattle.meaning.specs.Limits.{most_input, fault_words}
 use Rattle.meaning.specs.Task.{Task}
@@ -88,7 +88,7 @@ opens-only judged room = read_only judged _ (λ reason. refuses reason room)
     (λ T. let due = words_due (length T.sizes) (features T.sizes) in
     if-only (ltb (length room) due) _ _ (is-only (refuses Small room))
     (λ a b h h'. h.2
-    ∙ ap (λ slots. writes due (words_of (content_of T slots)) room) (slots-only _ _ _ h.0 h'.0 (λ w. Iff·rfl) h.1 h'.1)
+    ∙ ap (λ slots. writes due (words_of (content_of T slots)) room) (slots-only _ _ _ h.0 h'.0 (λ w. Iff.rfl) h.1 h'.1)
     ∙ sym h'.2))
 
 -- ---- finding
@@ -112,7 +112,7 @@ finds-only workspace room = formed-or workspace (λ c. FindsBy c room) (refuses 
 -- ---- edits
 
 pub changes-only : (c : Content) (edit : Edit) → AtMostOne (Changes c edit)
-changes-only c (add_operator r) a b h h' = h.2 ∙ ap (with_slots c) (slots-only _ _ _ h.0 h'.0 (λ w. Iff·rfl) h.1 h'.1) ∙ sym h'.2
+changes-only c (add_operator r) a b h h' = h.2 ∙ ap (with_slots c) (slots-only _ _ _ h.0 h'.0 (λ w. Iff.rfl) h.1 h'.1) ∙ sym h'.2
 changes-only c (replace_start values) a b h h' = h ∙ sym h'
 changes-only c (replace_goal values) a b h h' = h ∙ sym h'
 

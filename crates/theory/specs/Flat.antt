@@ -105,9 +105,12 @@ module _ {A : Type 0} where
   get_d-in (x ∷ xs) zero d h = here refl
   get_d-in (x ∷ xs) (suc i) d h = there (get_d-in xs i d (omega arith))
 
+  get_d-along : (a d : A) (l : List A) → In a l → (i : ℕ) × (i < length l) × (get_or l i d ≡ a)
+  get_d-along a d l (here {x} {xs} q) = (0, omega arith, sym q)
+  get_d-along a d l (there {x} {xs} m) = let (i, h, e) = get_d-along a d xs m in (suc i, omega arith, e)
+
   pub in-get_d : (l : List A) (a d : A) → In a l → (i : ℕ) × (i < length l) × (get_or l i d ≡ a)
-  in-get_d l a d (here {x} {xs} q) = (0, omega arith, sym q)
-  in-get_d l a d (there {x} {xs} m) = let (i, h, e) = in-get_d xs a d m in (suc i, omega arith, e)
+  in-get_d l a d = get_d-along a d l
 
   pub table-in : (n : ℕ) (f : ℕ → A) (i : ℕ) → i < n → In (f i) (table n f)
   unfolding table

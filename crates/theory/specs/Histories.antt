@@ -3,7 +3,8 @@
 use Rattle.std.specs.Prelude.{ℕ, ◌≤◌, ◌≡◌, refl, ◌↔◌, true, cond, ltb, length, take, drop}
 use Rattle.std.proofs.Common.{ap, sym, ◌∙◌, arith, take-append-drop, take_at, le-ltb}
 use Rattle.std.proofs.Math.Path.{subst}
-use Rattle.std.proofs.Math.Logic.{inl, inr, Iff·rfl}
+use Rattle.std.proofs.Math.Logic.{inl, inr}
+use Rattle.std.proofs.Math.Logic.Iff
 use mathlib.Core.List.Memᴰ.{append_cases}
 use mathlib.Core.List.Memᴰ.{eq_of_singleton}
 use mathlib.Core.List.{List, [], ◌∷◌, ◌++◌, Memᴰ as In}
@@ -229,7 +230,7 @@ same-stands T U workspace q S = subst (λ task. StandsFor task workspace) alike 
 -- Two workspaces that stand for one task.
 module _ (T : Task) (ws us : List ℕ) (S : StandsFor T ws) (R : StandsFor T us) where
   one-content : content_of T S.slots ≡ content_of T R.slots
-  one-content = ap (content_of T) (slots-only _ _ _ S.slots R.slots (λ w. Iff·rfl) S.are R.are)
+  one-content = ap (content_of T) (slots-only _ _ _ S.slots R.slots (λ w. Iff.rfl) S.are R.are)
 
   -- They begin with the same words,
   pub same-words : take (due_for T) ws ≡ take (due_for T) us

@@ -1,7 +1,7 @@
 -- Inserting a row into a family of slots: it stays reduced, and the stored weights become those that also meet the row evenly.
 use Rattle.std.specs.Prelude.{ℕ, ◌<◌, ◌≡◌, refl, ◌≢◌, ◌↔◌, true, false, ◌&&◌, cond, eqb, ltb}
 use Rattle.std.proofs.Common.{sym, ◌∙◌, arith, eqb-true, lt-ltb, le-ltb}
-use Rattle.std.proofs.Math.Logic.{Iff·trans}
+use Rattle.std.proofs.Math.Logic.Iff
 use Rattle.std.proofs.Math.Bool.{and-false, and-true}
 use Rattle.std.proofs.lemmas.Bool.{eqb-false}
 use Rattle.meaning.specs.Sets.{◌⊕◌, Set, Slots}
@@ -126,5 +126,5 @@ module _ {n : ℕ} {S : Slots} (R : Reduced n S) (r : Set) where
   pub insert-stored : (w : Set) → Stored n (insert n S r) w ↔ (Stored n S w × (dot n w r ≡ false))
   insert-stored w = elim (least n (rest n S r)) [
     | nothing h ↦ rw (insert-none n S r h) (λ k. (k, sym (rest-dot w k) ∙ dot-none n w _ h), λ k. k.0)
-    | found p l k ↦ rw (insert-put n S r p l k) (Iff·trans (put-stored R (rest-fresh p l k) w) (λ h. (h.0, sym (rest-dot w h.0) ∙ h.1), λ h. (h.0, rest-dot w h.0 ∙ h.1)))
+    | found p l k ↦ rw (insert-put n S r p l k) (Iff.trans (put-stored R (rest-fresh p l k) w) (λ h. (h.0, sym (rest-dot w h.0) ∙ h.1), λ h. (h.0, rest-dot w h.0 ∙ h.1)))
   ]

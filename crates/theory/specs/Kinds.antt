@@ -2,7 +2,7 @@
 use Rattle.std.specs.Prelude.{ℕ, zero, suc, ◌+◌, ◌-◌, ◌<◌, ◌≤◌, ◌≢◌, ◌↔◌, ◌⊎◌, Bool, not, cond, List, [], ◌∷◌, ◌++◌, eqb, leb, ltb, length, get_or, take, drop, replicate}
 use Rattle.std.proofs.Math.Path.{◌≡◌, refl}
 use Rattle.std.proofs.Common.{ap, sym, ◌∙◌, inl, inr, arith, length-append}
-use Rattle.std.proofs.Math.Logic.{Iff·rfl, Iff·trans}
+use Rattle.std.proofs.Math.Logic.Iff
 use borrow.Author.Tests.{eqb-true, eqb-false, eq-eqb, ltb-true, le-leb, le-ltb}
 use Rattle.meaning.specs.Sets.{table, listed}
 use Rattle.meaning.specs.Limits.{most_variables, most_features, group, most_groups, number_end}
@@ -237,10 +237,10 @@ module _ (kind : Kind) (task room left : List ℕ) (k : ℕ) (converts : Convert
 
   -- So the calls that take either kind answer alike for both.
   pub opens-same : (room' : List ℕ) (outcome : Outcome ℕ) → Opens (take k left) room' outcome ↔ Opens task room' outcome
-  opens-same room' outcome = rw (converted.came, converted.went) Iff·rfl
+  opens-same room' outcome = rw (converted.came, converted.went) Iff.rfl
 
   pub checks-same : (weights : List ℕ) (answer : Answer Verdict) → Checks (take k left) weights answer ↔ Checks task weights answer
-  checks-same weights answer = rw (converted.came, converted.went) Iff·rfl
+  checks-same weights answer = rw (converted.came, converted.went) Iff.rfl
 
   -- Converted back, with room for them, it is the same bytes and nothing else.
   pub there_and_back : Bytes task → (room' : List ℕ) → length task ≤ length room' → (outcome : Outcome ℕ)
@@ -248,7 +248,7 @@ module _ (kind : Kind) (task room left : List ℕ) (k : ℕ) (converts : Convert
   there_and_back small room' fits outcome =
       let c = converted in
       let bytes : task ≡ task_bytes_as (other kind) c.named = (Files.accepted-as task (other kind) c.named (length task) c.came-as).2 small in
-      rw (other-other kind, c.went-as, ← bytes, delivered-written task room' (length task) refl fits) Iff·rfl
+      rw (other-other kind, c.went-as, ← bytes, delivered-written task room' (length task) refl fits) Iff.rfl
 
 -- "Old to new and back gives the same bytes,
 pub old-new-old : (task room new : List ℕ) (k : ℕ) → ConvertsToNew task room (record { answer = done k; lent = new }) → Bytes task
@@ -294,7 +294,7 @@ module _ (kind : Kind) (task weights room left : List ℕ) (k : ℕ) (converts :
 
   -- A checker that is told their kind gives both the same verdict.
   pub checks-same-weights : (answer : Answer Verdict) → ChecksAs kind (judged_task task) (take k left) answer ↔ ChecksAs (other kind) (judged_task task) weights answer
-  checks-same-weights answer = let c = weights-converted in rw (c.accepted, c.came, c.went) Iff·rfl
+  checks-same-weights answer = let c = weights-converted in rw (c.accepted, c.came, c.went) Iff.rfl
 
   -- Converted back, beside any file that names the same task, it is the same bytes.
   pub weights-there-and-back : Bytes weights → (task' : List ℕ) (T : Task) (i j : ℕ) → judged_task task ≡ got T i → judged_task task' ≡ got T j
@@ -305,7 +305,7 @@ module _ (kind : Kind) (task weights room left : List ℕ) (k : ℕ) (converts :
       let same : judged_task task' ≡ got c.beside j = e' ∙ ap (λ U. got U j) (got-value (sym e ∙ c.accepted)) in
       let n = features c.beside.sizes in
       let bytes : weights ≡ weight_bytes_as (other kind) c.named = Files.weights-bytes-as weights (other kind) n c.named (length weights) c.came small in
-      rw (same, other-other kind, c.went, ← bytes, delivered-written weights room' (length weights) refl fits) Iff·rfl
+      rw (same, other-other kind, c.went, ← bytes, delivered-written weights room' (length weights) refl fits) Iff.rfl
 
 weights-back-beside : (kind : Kind) (task weights room left : List ℕ) (k : ℕ) → ConvertsWeights kind task weights room (record { answer = done k; lent = left }) → Bytes weights
     → (room' : List ℕ) → length weights ≤ length room' → (outcome : Outcome ℕ)
@@ -360,7 +360,7 @@ check-partial-new-refuses file = checks-exactly gapped (judged_partial left_out 
 module _ (judged : Read Task) (T : Task) (next : ℕ) (e : judged ≡ got T next) (new old fs : List ℕ) (i j : ℕ)
     (reads-new : judged_weights_as gapped (features T.sizes) new ≡ got fs i) (reads_old : judged_weights (features T.sizes) old ≡ got fs j) where
   checks-alike : (answer : Answer Verdict) → ChecksAs gapped judged new answer ↔ ChecksAs plain judged old answer
-  checks-alike answer = rw (e, reads-new, reads_old) Iff·rfl
+  checks-alike answer = rw (e, reads-new, reads_old) Iff.rfl
 
 -- check_new,
 pub check-new-alike : (file : List ℕ) (T : Task) (next : ℕ) → judged_task file ≡ got T next → (new old fs : List ℕ) (i j : ℕ)
@@ -384,7 +384,7 @@ pub new-accepts-exactly : (file : List ℕ) (T : Task) (next : ℕ) → judged_t
     → judged_weights_as gapped (features T.sizes) new ≡ got fs end → ChecksNew file new (done accepted) ↔ Separates T (listed fs)
 new-accepts-exactly file T next e new fs end read =
     let again = old-weights T new fs end (few-features file T next e) read in
-    Iff·trans (check-new-alike file T next e new (weight_bytes fs) fs end _ read again (done accepted)) (accepts-exactly file T next e (weight_bytes fs) fs _ again)
+    Iff.trans (check-new-alike file T next e new (weight_bytes fs) fs end _ read again (done accepted)) (accepts-exactly file T next e (weight_bytes fs) fs _ again)
 
 -- Where new weights are accepted, old ones are.
 accepted-old : (judged : Read Task) → ((T : Task) (next : ℕ) → judged ≡ got T next → features T.sizes ≤ most_features) → (new : List ℕ)

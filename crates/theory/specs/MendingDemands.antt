@@ -2,7 +2,7 @@
 -- back unchanged, that kept and dropped pairs are the list that came; demands 2 and 3 on the mended task; and the pair behind a refusal 6 or 7.
 use Rattle.std.specs.Prelude.{ℕ, ◌+◌, ◌<◌, ◌≤◌, ◌≡◌, refl, ◌≢◌, ◌⊎◌, ◌↔◌, Bool, true, false, not, ◌&&◌, ◌||◌, cond, List, [], ◌∷◌, ◌++◌, eqb, leb, ltb, length, get_or, take, drop}
 use Rattle.std.proofs.Common.{ap, sym, ◌∙◌, subst, inl, inr, true≢false, arith, le-ltb}
-use Rattle.std.proofs.Math.Logic.{Iff·rfl, Iff·trans}
+use Rattle.std.proofs.Math.Logic.Iff
 use Rattle.std.proofs.Math.Bool.{and_comm}
 use Rattle.std.proofs.lemmas.Bool.{not-true, not-false}
 use Rattle.meaning.specs.Sets.{Set, any_of, listed, all_of}
@@ -504,10 +504,10 @@ pub data AskedAgain (T : Task) : List ℕ → Type 0 where
 
 module _ (T : Task) (known : Files.Readable T) where
   asked-same : (pairs : List ℕ) → AskedAgain T pairs → Run (atoms T.sizes) pairs (features T.sizes) × ((kept : List ℕ) → Largest T kept ↔ Largest (mended T pairs) kept)
-  asked-same _ as-it-came = (known.pairs, λ kept. Iff·rfl)
+  asked-same _ as-it-came = (known.pairs, λ kept. Iff.rfl)
   asked-same _ (without pairs left f a named increasing out) =
       let (run, same) = asked-same pairs a in
-      (increasing, λ kept. Iff·trans (same kept) (named-out (mended T pairs) (listed-readable T known pairs run) f named left out kept))
+      (increasing, λ kept. Iff.trans (same kept) (named-out (mended T pairs) (listed-readable T known pairs run) f named left out kept))
 
   -- Where no pair is named any more, since the list is good, it is what mend keeps.
   pub asked-kept : (pairs : List ℕ) → AskedAgain T pairs → Good T (listed pairs) → Largest T pairs

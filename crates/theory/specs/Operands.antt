@@ -45,7 +45,7 @@ values-fine (d ∷ ds) [] rest l e = absurd (omega arith)
 values-fine (d ∷ ds) (x ∷ xs) rest l e =
     let (inside, e₁) = need-fine _ _ _ e in
     let (others, last) = values-fine ds xs rest (omega arith) e₁ in
-    (λ i. elim i [ zero ↦ λ h. ltb-true _ _ inside | suc j ↦ λ h. others j (omega arith) ], last)
+    (λ i. elim i as (λ i. i < length (d ∷ ds) → value (x ∷ xs) i < size (d ∷ ds) i) [ zero ↦ λ h. ltb-true x d inside | suc j ↦ λ h. others j (omega arith) ], last)
 
 -- An operator edit that is found fine brings an operator under which the pairs are closed.
 pub add-fine : (c : Content) (r : OperatorRecord) → edit_judged c (add_operator r) ≡ fine

@@ -47,11 +47,15 @@ length-applied [] s = refl
 length-applied (e ∷ es) s = length-applied es (set s e.variable e.after) ∙ length-set s e.variable e.after
 
 module _ (sizes : List ℕ) where
+  fine_along : (e : Entry) (k : ℕ) (o : Operator) → In e o → Entries sizes k o
+      → (k ≤ e.variable) × (e.variable < length sizes) × (e.before < size sizes e.variable) × (e.after < size sizes e.variable)
+  fine_along e k o (here {x} {xs} q) h = rw q (h.0, h.1, h.2, h.3)
+  fine_along e k o (there {x} {xs} m) h = let r = fine_along e (suc x.variable) xs m h.4 in (omega (arith, h.0, r.0), r.1, r.2, r.3)
+
   -- The ranges of an entry.
   pub in-fine : (k : ℕ) (o : Operator) (e : Entry) → In e o → Entries sizes k o
       → (k ≤ e.variable) × (e.variable < length sizes) × (e.before < size sizes e.variable) × (e.after < size sizes e.variable)
-  in-fine k o e (here {x} {xs} q) h = rw q (h.0, h.1, h.2, h.3)
-  in-fine k o e (there {x} {xs} m) h = let r = in-fine (suc x.variable) xs e m h.4 in (omega (arith, h.0, r.0), r.1, r.2, r.3)
+  in-fine k o e = fine_along e k o
 
   pub names-below : (k : ℕ) (o : Operator) (i : ℕ) → Entries sizes k o → i < k → names o i ≡ false
   names-below k o i h l = elim (test (names o i)) [
@@ -62,20 +66,26 @@ module _ (sizes : List ℕ) where
   pub names-range : (k : ℕ) (o : Operator) (i : ℕ) → Entries sizes k o → names o i ≡ true → i < length sizes
   names-range k o i h = by_name (λ j. j < length sizes) o i (λ e m. (in-fine k o e m h).1)
 
+  rise_along : (e e' : Entry) (k : ℕ) (o : Operator) → Entries sizes k o → Earlier e e' o → e.variable < e'.variable
+  rise_along e e' k o h (first {x} {l} q m) = rw q (in-fine (suc x.variable) l e' m h.4).0
+  rise_along e e' k o h (further {x} {l} t) = rise_along e e' (suc x.variable) l h.4 t
+
   pub entries-rise : (k : ℕ) (o : Operator) (e e' : Entry) → Entries sizes k o → Earlier e e' o → e.variable < e'.variable
-  entries-rise k o e e' h (first {x} {l} q m) = rw q (in-fine (suc x.variable) l e' m h.4).0
-  entries-rise k o e e' h (further {x} {l} t) = entries-rise (suc x.variable) l e e' h.4 t
+  entries-rise k o e e' = rise_along e e' k o
 
   -- Of two entries the one with the smaller variable stands first: `two_none` and `two_at` then speak of any two.
   pub entries-earlier : (k : ℕ) (o : Operator) (e e' : Entry) → Entries sizes k o → In e o → In e' o → e.variable < e'.variable → Earlier e e' o
   entries-earlier k o e e' h = earlier-by (λ x. x.variable) o (λ a b. entries-rise k o a b h) e e'
 
+  field_along : (field : Entry → ℕ) (e : Entry) (k : ℕ) (o : Operator) → In e o → Entries sizes k o → field_of field o e.variable ≡ field e
+  unfolding field_of
+  field_along field e k o (here {x} {xs} q) h = rw (q, eq-eqb x.variable x.variable refl)
+  field_along field e k o (there {x} {xs} m) h =
+      rw (ne_eqb x.variable e.variable (λ z. omega (arith, (in-fine (suc x.variable) xs e m h.4).0))) (field_along field e (suc x.variable) xs m h.4)
+
   -- The entry for its variable is found.
   pub field_at : (field : Entry → ℕ) (k : ℕ) (o : Operator) (e : Entry) → In e o → Entries sizes k o → field_of field o e.variable ≡ field e
-  unfolding field_of
-  field_at field k o e (here {x} {xs} q) h = rw (q, eq-eqb x.variable x.variable refl)
-  field_at field k o e (there {x} {xs} m) h =
-      rw (ne_eqb x.variable e.variable (λ z. omega (arith, (in-fine (suc x.variable) xs e m h.4).0))) (field_at field (suc x.variable) xs e m h.4)
+  field_at field k o e = field_along field e k o
 
   pub before-range : (k : ℕ) (o : Operator) (i : ℕ) → Entries sizes k o → names o i ≡ true → before_of o i < size sizes i
   before-range k o i h = by_name (λ j. before_of o j < size sizes j) o i (λ e m. rw (field_at (λ x. x.before) k o e m h) (in-fine k o e m h).2)

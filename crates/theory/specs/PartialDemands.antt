@@ -2,7 +2,7 @@
 -- says of the order.
 use Rattle.std.specs.Prelude.{ℕ, suc, ◌<◌, ◌≤◌, ◌≡◌, refl, ◌≢◌, ◌↔◌, Bool, true, false, not, cond, ltb, length, take, drop}
 use Rattle.std.proofs.Common.{ap, sym, ◌∙◌, subst, arith, ltb-false, le-ltb}
-use Rattle.std.proofs.Math.Logic.{Iff·rfl, Iff·trans}
+use Rattle.std.proofs.Math.Logic.Iff
 use mathlib.Core.List.{List, ◌++◌, Memᴰ as In}
 use Rattle.meaning.specs.Sets.{Set, listed, all_of}
 use Rattle.meaning.specs.Limits.{number_end}
@@ -146,10 +146,10 @@ module _ (file : List ℕ) (out : Partial → ℕ → ℕ → Bool) (T : Task) (
 
   -- "Demands 2 and 3 read on the built task with the operators it kept": whatever a call may answer for the partial file, it may answer for the built task's file.
   pub opens-built : (room : List ℕ) (outcome : Outcome ℕ) → OpensAs (judged_partial out file) room outcome ↔ Opens (task_bytes T) room outcome
-  opens-built room outcome = rw (judged, built-accepted) Iff·rfl
+  opens-built room outcome = rw (judged, built-accepted) Iff.rfl
 
   pub checks-built : (weights : List ℕ) (answer : Answer Verdict) → ChecksAs plain (judged_partial out file) weights answer ↔ Checks (task_bytes T) weights answer
-  checks-built weights answer = rw (judged, built-accepted) Iff·rfl
+  checks-built weights answer = rw (judged, built-accepted) Iff.rfl
 
   -- The file that a builder writes is that file: whoever opens or checks it does what is done for the partial file, word for word.
   pub record BuiltFile (room lent : List ℕ) (k : ℕ) : Type 0 where
@@ -297,7 +297,7 @@ silenced-file file marks room lent k silences =
       partial = read;
       others = left.others;
       met = met;
-      built = λ out U next judged permitted. Iff·trans (built-met (take k lent) out U next judged P k read permitted) met;
+      built = λ out U next judged permitted. Iff.trans (built-met (take k lent) out U next judged P k read permitted) met;
       passes = λ out few free. ap (judged_partial out) left.front
           ∙ partial-accepted P ordered out few ok.acceptable.free (λ o m. (ok.acceptable.closed-under o m, free o m))
           ∙ ap (got (built_task P (out P))) left.width;

@@ -2,7 +2,7 @@
 use Rattle.std.specs.Prelude.{ℕ, zero, suc, ◌+◌, ◌-◌, ◌<◌, ◌≤◌, ◌≡◌, refl, ◌↔◌, false, not, ◌&&◌, cond, eqb}
 use Rattle.std.proofs.Math.Path.{ap, fun_ext}
 use Rattle.std.proofs.Common.{ap₂, sym, ◌∙◌, arith, add-zero, add-suc}
-use Rattle.std.proofs.Math.Logic.{Iff·trans, Iff·symm}
+use Rattle.std.proofs.Math.Logic.Iff
 use Rattle.std.proofs.Math.Bool.{true, and-false}
 use borrow.Author.Tests.{eqb-true}
 use Rattle.meaning.specs.Sets.{◌⊕◌, Set, Slots}
@@ -113,7 +113,7 @@ module _ {n : ℕ} {P : Set} {S : Slots} (h : Part n P S) where
   -- Settling keeps the weights that meet all slots evenly.
   settled-stored : (w : Set) → Stored n (settled n P S) w ↔ Stored n S w
   unfolding settled
-  settled-stored w = Iff·trans (settle-stored h.two w) (parts-stored w)
+  settled-stored w = Iff.trans (settle-stored h.two w) (parts-stored w)
 
   -- A slot is empty or has its index as least member.
   pub part_low : (i f : ℕ) → f < i → S i f ≡ false
@@ -149,8 +149,8 @@ module _ {n : ℕ} {P : Set} {S : Slots} (h : Part n P S) where
 module _ {n : ℕ} {P : Set} {S : Slots} (h : Part n P S) (r : Set) where
   -- A family whose weights are those that also meet the row evenly settles to what inserting the row gives: there is one such reduced family.
   settled-inserted : {P' : Set} {S' : Slots} → Part n P' S' → ((w : Set) → Stored n S' w ↔ (Stored n S w × (dot n w r ≡ false))) → settled n P' S' ≡ insert n (settled n P S) r
-  settled-inserted h' weights = same-slots (settled-reduced h') (insert-reduced (settled-reduced h) r) (λ w. Iff·trans (settled-stored h' w) (Iff·trans (weights w) (Iff·trans
-      (λ k. ((settled-stored h w).1 k.0, k.1), λ k. ((settled-stored h w).0 k.0, k.1)) (Iff·symm (insert-stored (settled-reduced h) r w)))))
+  settled-inserted h' weights = same-slots (settled-reduced h') (insert-reduced (settled-reduced h) r) (λ w. Iff.trans (settled-stored h' w) (Iff.trans (weights w) (Iff.trans
+      (λ k. ((settled-stored h w).1 k.0, k.1), λ k. ((settled-stored h w).0 k.0, k.1)) (Iff.symm (insert-stored (settled-reduced h) r w)))))
 
   -- What the slots leave of it.
   left-dot : (w : Set) → Stored n S w → dot n w (rest n S r) ≡ dot n w r
@@ -227,7 +227,7 @@ module _ {n : ℕ} {P : Set} {S : Slots} (h : Part n P S) (r : Set) where
     put-part = record { two = rw (now-pending, still-settled) (put_two h.two fresh away); filled = put-filled }
 
     put-weights : (w : Set) → Stored n (put_later P S p (rest n S r)) w ↔ (Stored n S w × (dot n w r ≡ false))
-    put-weights w = Iff·trans (Iff·symm (parts-stored put-part w)) (rw (now-pending, still-settled) (to, back))
+    put-weights w = Iff.trans (Iff.symm (parts-stored put-part w)) (rw (now-pending, still-settled) (to, back))
       where
         to : (Stored n (settled_in P S) w × Stored n (put (only P S) p (rest n S r)) w) → (Stored n S w × (dot n w r ≡ false))
         to (a, k) = let (b, e) = (put-stored h.two.pending fresh w).0 k in let s = (parts-stored h w).0 (a, b) in (s, sym (left-dot w s) ∙ e)

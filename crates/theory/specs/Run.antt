@@ -62,10 +62,13 @@ unfolding Run
 run_length lo hi [] r = omega arith
 run_length lo hi (x ∷ l) r = omega (arith, run_length (suc x) hi l r.1)
 
-pub run_in : (lo hi : ℕ) (l : List ℕ) (f : ℕ) → Run lo l hi → In f l → (lo ≤ f) × (f < hi)
+run_along : (f hi lo : ℕ) (l : List ℕ) → Run lo l hi → In f l → (lo ≤ f) × (f < hi)
 unfolding Run
-run_in lo hi l f r (here {x} {xs} q) = omega (arith, run_length (suc x) hi xs r.1)
-run_in lo hi l f r (there {x} {xs} m) = omega (arith, run_in (suc x) hi xs f r.1 m)
+run_along f hi lo l r (here {x} {xs} q) = omega (arith, run_length (suc x) hi xs r.1)
+run_along f hi lo l r (there {x} {xs} m) = omega (arith, run_along f hi (suc x) xs r.1 m)
+
+pub run_in : (lo hi : ℕ) (l : List ℕ) (f : ℕ) → Run lo l hi → In f l → (lo ≤ f) × (f < hi)
+run_in lo hi l f = run_along f hi lo l
 
 -- A run whose numbers are all from another bound on begins there.
 pub run_inside : (lo hi lo' : ℕ) (l : List ℕ) → lo' ≤ hi → Run lo l hi → ((f : ℕ) → In f l → lo' ≤ f) → Run lo' l hi

@@ -130,10 +130,14 @@ every-not n p i l q = elim (test (every n p)) [ on e ↦ absurd (clash (every-at
 
 -- ---- lists: some element passes
 
-pub any_at : {A : Type 0} (p : A → Bool) (l : List A) (a : A) → In a l → p a ≡ true → any_of p l ≡ true
+-- Along a list the element stays: in a lemma that goes down a list it stands before it.
+any_along : {A : Type 0} (p : A → Bool) (a : A) (l : List A) → In a l → p a ≡ true → any_of p l ≡ true
 unfolding any_of
-any_at p l a (here {x} {xs} q) e = or_left (p x) (any_of p xs) (rw (← q) e)
-any_at p l a (there {x} {xs} m) e = or_right (p x) (any_of p xs) (any_at p xs a m e)
+any_along p a l (here {x} {xs} q) e = or_left (p x) (any_of p xs) (rw (← q) e)
+any_along p a l (there {x} {xs} m) e = or_right (p x) (any_of p xs) (any_along p a xs m e)
+
+pub any_at : {A : Type 0} (p : A → Bool) (l : List A) (a : A) → In a l → p a ≡ true → any_of p l ≡ true
+any_at p l a = any_along p a l
 
 pub any-not : {A : Type 0} (p : A → Bool) (l : List A) → ((a : A) → In a l → p a ≡ false) → any_of p l ≡ false
 unfolding any_of
@@ -177,10 +181,13 @@ unfolding all_of
 all-each p [] h = refl
 all-each p (x ∷ xs) h = and_both (p x) (all_of p xs) (h x (here refl)) (all-each p xs (λ a m. h a (there m)))
 
-pub all-at : {A : Type 0} (p : A → Bool) (l : List A) → all_of p l ≡ true → (a : A) → In a l → p a ≡ true
+all_along : {A : Type 0} (p : A → Bool) (a : A) (l : List A) → all_of p l ≡ true → In a l → p a ≡ true
 unfolding all_of
-all-at p l e a (here {x} {xs} q) = rw q (and_left (p x) (all_of p xs) e)
-all-at p l e a (there {x} {xs} m) = all-at p xs (and_right (p x) (all_of p xs) e) a m
+all_along p a l e (here {x} {xs} q) = rw q (and_left (p x) (all_of p xs) e)
+all_along p a l e (there {x} {xs} m) = all_along p a xs (and_right (p x) (all_of p xs) e) m
+
+pub all-at : {A : Type 0} (p : A → Bool) (l : List A) → all_of p l ≡ true → (a : A) → In a l → p a ≡ true
+all-at p l e a = all_along p a l e
 
 pub all-not : {A : Type 0} (p : A → Bool) (l : List A) (a : A) → In a l → p a ≡ false → all_of p l ≡ false
 all-not p l a m q = elim (test (all_of p l)) [ on e ↦ absurd (clash (all-at p l e a m) q) | off e ↦ e ]
@@ -225,10 +232,13 @@ earlier-by key l rises a b m k h = elim (earlier-either a b l m k) [
   | inr u ↦ elim u [ inl z ↦ let e : key a ≡ key b = ap key z in absurd (omega arith) | inr t ↦ let e : key b < key a = rises b a t in absurd (omega arith) ]
 ]
 
-pub two_at : {A : Type 0} (r : A → A → Bool) (l : List A) (a b : A) → Earlier a b l → r a b ≡ true → two_of r l ≡ true
+two_along : {A : Type 0} (r : A → A → Bool) (a b : A) (l : List A) → Earlier a b l → r a b ≡ true → two_of r l ≡ true
 unfolding two_of
-two_at r l a b (first {x} {l = xs} q m) e = or_left (any_of (r x) xs) (two_of r xs) (any_at (r x) xs b m (rw (← q) e))
-two_at r l a b (further {x} {l = xs} t) e = or_right (any_of (r x) xs) (two_of r xs) (two_at r xs a b t e)
+two_along r a b l (first {x} {l = xs} q m) e = or_left (any_of (r x) xs) (two_of r xs) (any_at (r x) xs b m (rw (← q) e))
+two_along r a b l (further {x} {l = xs} t) e = or_right (any_of (r x) xs) (two_of r xs) (two_along r a b xs t e)
+
+pub two_at : {A : Type 0} (r : A → A → Bool) (l : List A) (a b : A) → Earlier a b l → r a b ≡ true → two_of r l ≡ true
+two_at r l a b = two_along r a b l
 
 pub two_none : {A : Type 0} (r : A → A → Bool) (l : List A) → two_of r l ≡ false → (a b : A) → Earlier a b l → r a b ≡ false
 two_none r l e a b t = elim (test (r a b)) [ on q ↦ absurd (clash (two_at r l a b t q) e) | off q ↦ q ]

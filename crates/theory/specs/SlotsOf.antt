@@ -2,7 +2,7 @@
 use Rattle.std.specs.Prelude.{ℕ, ◌<◌, ◌≡◌, ◌≢◌, ◌↔◌, true, false, eqb, ltb}
 use Rattle.std.proofs.Common.{sym, ◌∙◌, arith, eqb-true, ltb-true, ltb-false}
 use Rattle.std.proofs.Math.Path.{fun_ext}
-use Rattle.std.proofs.Math.Logic.{Iff·rfl}
+use Rattle.std.proofs.Math.Logic.Iff
 use Rattle.std.proofs.lemmas.Bool.{eqb-false}
 use Rattle.meaning.specs.Sets.{◌⊕◌, Set, Slots}
 use Rattle.theory.specs.Truth.{on, off, test, clash, xor-false-same}
@@ -79,4 +79,4 @@ slots-only n Meets Meets' S S' h D D' = slots_same (slots-along n Meets Meets' S
 
 -- Two reduced families with the same stored weights are one.
 pub same-slots : {n : ℕ} {S S' : Slots} → Reduced n S → Reduced n S' → ((w : Set) → Stored n S w ↔ Stored n S' w) → S ≡ S'
-same-slots {n} {S} {S'} R R' h = slots_same (slots-of-stored (Stored n S') R h) (slots-of-stored (Stored n S') R' (λ w. Iff·rfl))
+same-slots {n} {S} {S'} R R' h = slots_same (slots-of-stored (Stored n S') R h) (slots-of-stored (Stored n S') R' (λ w. Iff.rfl))

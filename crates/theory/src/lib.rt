@@ -1,1 +1,3 @@
 // The theorems about the definitions stand in specs/; there is no code here.
+
+#![tactic(auto)]

@@ -1,4 +1,7 @@
 // The checker's line: the verdict on weights for a task, as text in lent bytes.
+
+#![tactic(auto)]
+
 ghost use Rattle.std.specs.Prelude.{◌≡◌, length};
 ghost use Rattle.meaning.specs.Number.{Small, refusal};
 ghost use Rattle.meaning.specs.Answer.{refused, delivered};

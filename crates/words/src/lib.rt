@@ -1,4 +1,7 @@
 // Sets of features in slices of 64-bit words: members and their count, changes of one feature, sums, parities of what two sets share.
+
+#![tactic(auto)]
+
 ghost use Rattle.std.specs.Prelude.{◌≡◌, ◌&&◌, ◌*◌, ◌^◌, ◌≤◌, ◌<◌, length, replicate};
 ghost use Rattle.meaning.specs.Limits.{word_bits};
 ghost use Rattle.meaning.specs.Sets.{odd, shared};

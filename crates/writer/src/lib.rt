@@ -1,5 +1,8 @@
 // The parts of task files, written into lent bytes: how many bytes a part has, and the part written at a place; what stands before the operators, as a whole;
 // and whole weight files, of a list of features or of a set in words.
+
+#![tactic(auto)]
+
 ghost use Rattle.std.specs.Prelude.{◌≡◌, ◌++◌, ◌+◌, ◌<◌, ◌≤◌, length, take, drop};
 ghost use Rattle.meaning.specs.Limits.{number_end};
 ghost use Rattle.meaning.specs.Number.{refusal as refusal_number, number_bytes};

@@ -54,6 +54,7 @@ module _ (a : Set) where
   -- The walk meets each member in its turn: at f so many are behind it, and f is the one at that place.
   pub members-from : (f n : ℕ) → f < n → a f ≡ true → (rest : List ℕ) × (members n a ≡ members f a ++ (f ∷ rest))
   unfolding members flat
+  members-from f zero h e = absurd (omega arith)
   members-from f (suc n) h e = elim (order f n) [
     | less l ↦ let (rest, q) = members-from f n l e in
         (rest ++ cond (a n) (n ∷ []) [], ap (λ m. m ++ cond (a n) (n ∷ []) []) q ∙ append_assoc (members f a) (f ∷ rest) (cond (a n) (n ∷ []) []))

@@ -1,0 +1,42 @@
+-- `gap_at` answers by the number that was read and by where the sum lies: past the range, below it, or inside.
+use Prim.Native.Nat.{◌+◌, ◌<◌, ◌≤◌}
+use mathlib.Core.Path.{◌≡◌, sym, ap, ◌∙◌}
+use mathlib.Core.Bool.{and-false}
+use native.Mathlib.Omega.{arith}
+use borrow.Author.Rules.{rules}
+use borrow.Author.Tests.{lt-ltb, le-ltb, le-leb, lt-leb}
+use Rattle.meaning.specs.Number.{number, got, fault, Range}
+use Rattle.meaning.specs.File.{gapped, feature_of}
+use Rattle.number.specs.Answers.{number_of}
+use Rattle.number.proofs.gap_at.Goals as goal
+use Rattle.number.proofs.gap_at.Goals.{In-Got}
+
+-- The number that was read.
+read : (c : In-Got) → number c.args.bytes.now c.args.at ≡ got c.in-Got.n c.in-Got.next
+read c = sym c.number_at.ensures ∙ ap number_of c.in-Got.is
+
+-- A sum that passes the range.
+past : (c : In-Got) → let a = c.args in a.high ≤ a.least + c.in-Got.n → fault Range a.at ≡ feature_of gapped a.low a.high a.least a.bytes.now a.at
+unfolding feature_of
+past c h = simp (read c, le-ltb _ _ h, and-false)
+
+pub returns-then-high-least : goal.returns-then-high-least
+returns-then-high-least c = past (goal.at.returns-then-high-least c).In-Got (omega (arith, c.if-high-least.true))
+
+pub returns-then-high-least-2 : goal.returns-then-high-least-2
+returns-then-high-least-2 c = past (goal.at.returns-then-high-least-2 c).In-Got (omega (arith, c.if-high-least-2.true, c.if-high-least.false))
+
+pub returns-then-feature-low : goal.returns-then-feature-low
+unfolding feature_of
+returns-then-feature-low c = simp (read (goal.at.returns-then-feature-low c).In-Got, lt-leb _ _ c.if-feature-low.true)
+
+pub returns-else-feature-low : goal.returns-else-feature-low
+unfolding feature_of
+returns-else-feature-low c =
+    let a = c.args in
+    let under : a.least + c.in-Got.n < a.high = omega (arith, c.if-high-least-2.false, c.if-high-least.false) in
+    simp (read (goal.at.returns-else-feature-low c).In-Got, le-leb _ _ c.if-feature-low.false, lt-ltb _ _ under)
+
+pub returns-in-Fault : goal.returns-in-Fault
+unfolding feature_of
+returns-in-Fault c = simp (sym c.number_at.ensures ∙ ap number_of c.in-Fault.is)

@@ -1,0 +1,16 @@
+-- `atoms_from` meets its contract: from variable k on the atoms are counted, and from j on too once k is there.
+use Prim.Native.Nat.{◌+◌, ◌-◌, ◌≤◌}
+use mathlib.Core.Path.{◌≡◌}
+use native.Mathlib.Omega.{arith}
+use lib.ListN.{length}
+use Rattle.meaning.specs.Feature.{atoms}
+use Rattle.numbering.specs.Sizes.{sum-small}
+use Rattle.numbering.specs.Sums.{all-atoms}
+use Rattle.numbering.specs.Blocks.{From, from-turn}
+use Rattle.numbering.proofs.atoms_from.Given as goal
+
+abbrev pub invariant-loop-k : goal.invariant-loop-k
+invariant-loop-k l = (l.i ≤ l.k) × (l.k ≤ length l.sizes) × From l.sizes l.k l.sum × (l.k ≤ l.j → From l.sizes l.j l.second)
+
+abbrev pub decreases-loop-k : goal.decreases-loop-k
+decreases-loop-k l = l.k

@@ -1,0 +1,14 @@
+-- `words::add`: the loop writes `summed` from the front (`Written`); each word that it reads is still that of before.
+use Prim.Native.Nat.{◌-◌}
+use mathlib.Core.Path.{◌≡◌, refl, sym}
+use native.Mathlib.Omega.{arith}
+use lib.ListN.{length}
+use Rattle.words.specs.Change.{summed, length-summed, get_d-summed}
+use Rattle.words.specs.Written.{Written, written-word, written_next, written-done}
+use Rattle.words.proofs.add.Given as goal
+
+abbrev pub invariant-loop-i : goal.invariant-loop-i
+invariant-loop-i l = Written l.initial.into (summed l.initial.into l.from) l.i l.into
+
+abbrev pub decreases-loop-i : goal.decreases-loop-i
+decreases-loop-i l = length l.initial.into - l.i

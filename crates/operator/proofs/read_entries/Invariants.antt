@@ -1,0 +1,30 @@
+-- `read_entries` reads entry by entry: at each turn the entries that are held, with those that are read from here on, are all entries.
+use Prim.Native.Nat.{◌+◌, ◌-◌, ◌<◌, ◌≤◌}
+use mathlib.Core.Path.{◌≡◌, sym, ap, ◌∙◌}
+use mathlib.Core.List.{[], ◌∷◌}
+use native.Mathlib.Omega.{arith}
+use native.Mathlib.Nat.{sub-zero}
+use borrow.Author.Rules.{rules}
+use lib.ListN.{length, length-set}
+use Rattle.meaning.specs.Sets.{table}
+use Rattle.meaning.specs.Limits.{most_variables}
+use Rattle.meaning.specs.Number.{got}
+use Rattle.meaning.specs.File.{entries_of}
+use Rattle.meaning.specs.Answer.{operator_in}
+use Rattle.theory.specs.Parts.{entries-said}
+use Rattle.theory.specs.Slices.{entry_of}
+use Rattle.operator.specs.Records.{first_of, entry_read_of}
+use Rattle.operator.specs.Laws.{behind, behind-none, held_more, read_more, read-fault, read_all}
+use Rattle.operator.proofs.read_entries.Given as goal
+
+abbrev pub invariant-loop-k : goal.invariant-loop-k
+invariant-loop-k l =
+    (l.k ≤ l.count)
+    × (l.operator.count ≡ l.count)
+    × (length l.operator.variables ≡ most_variables)
+    × (length l.operator.befores ≡ most_variables)
+    × (length l.operator.afters ≡ most_variables)
+    × (entries_of l.sizes l.count 0 l.bytes l.at ≡ behind (first_of l.k l.operator) (entries_of l.sizes (l.count - l.k) l.least l.bytes l.next))
+
+abbrev pub decreases-loop-k : goal.decreases-loop-k
+decreases-loop-k l = l.count - l.k

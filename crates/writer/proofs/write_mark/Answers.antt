@@ -1,0 +1,17 @@
+-- `write_mark` writes a 0 for the new kind, and nothing for the old one.
+use mathlib.Core.Path.{refl, ap}
+use native.Mathlib.Omega.{arith}
+use lib.ListN.{length}
+use borrow.Author.Rules.{rules}
+use Rattle.meaning.specs.File.{kind_if, mark_bytes}
+use Rattle.writer.proofs.write_mark.Goals as goal
+
+pub write_number-requires : goal.write_number-requires
+write_number-requires c =
+    (omega arith, omega (arith, c.requires, ap (λ b. length (mark_bytes (kind_if b))) c.if-gapped.true))
+
+pub returns-then-gapped : goal.returns-then-gapped
+returns-then-gapped c = let w = c.write_number.ensures in simp c.if-gapped.true (omega (arith, w.0), w.1)
+
+pub returns : goal.returns
+returns c = simp c.if-gapped.false (refl, refl)

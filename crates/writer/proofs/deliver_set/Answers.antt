@@ -48,8 +48,7 @@ all c = remains-all _ 0 _ (omega (arith, fits c))
 after-mark : (c : After-write_mark-next) → Remains c.args.room.now 0 (file (goal.at.After-write_mark-next c).Start) c.write_mark-next.new.room c.write_mark-next.result (members (goal.at.After-write_mark-next c).Start)
 unfolding weight_bytes_as
 after-mark c =
-    let w = c.write_mark-next.ensures in
-    remains-after (all (goal.at.After-write_mark-next c).Else-room-mark_width) (mark_bytes (kind_if c.args.gapped)) _ _ _ refl (omega (arith, w.0)) w.1
+    remains-after (all (goal.at.After-write_mark-next c).Else-room-mark_width) (mark_bytes (kind_if c.args.gapped)) _ _ _ refl (omega (arith, c.write_mark-next.ensures.after)) c.write_mark-next.ensures.written
 
 pub write_mark-next-requires : goal.write_mark-next-requires
 unfolding weight_bytes_as
@@ -61,6 +60,5 @@ write_set-requires c =
 
 pub returns : goal.returns
 returns c =
-    let w = c.write_set.ensures in
-    let done = remains-none (remains-after (after-mark (goal.at.returns c).After-write_mark-next) (members (goal.at.returns c).Start) [] _ _ (sym (append-nil (members (goal.at.returns c).Start))) w.0 w.1) refl in
+    let done = remains-none (remains-after (after-mark (goal.at.returns c).After-write_mark-next) (members (goal.at.returns c).Start) [] _ _ (sym (append-nil (members (goal.at.returns c).Start))) c.write_set.ensures.after c.write_set.ensures.written) refl in
     delivered-done (file (goal.at.returns c).Start) c.args.room.now _ _ (fits (goal.at.returns c).Else-room-mark_width) done.0 done.1

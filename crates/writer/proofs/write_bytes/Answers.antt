@@ -20,5 +20,5 @@ shape_of-room c = c.loop-i.invariant.1
 
 pub returns : goal.returns
 returns c =
-    let inv = c.loop-i.invariant in
-    copied_all _ _ _ _ _ inv.2 (omega (arith, inv.0, c.loop-i-test.false))
+    let inv = c.loop-i.invariant in let told =
+    copied_all _ _ _ _ _ inv.2 (omega (arith, inv.0, c.loop-i-test.false)) in record { after = told.0; written = told.1 }

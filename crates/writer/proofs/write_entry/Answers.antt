@@ -32,10 +32,8 @@ returns c =
     let first = number_bytes a.variable in
     let second = number_bytes a.before in
     let third = number_bytes a.after in
-    let w₁ = c.write_number-second.ensures in
-    let w₂ = c.write_number-third.ensures in
-    let w₃ = c.write_number.ensures in
     let all = remains-all a.room.now a.at (first ++ (second ++ third)) c.requires.3 in
-    let two = remains-after all first (second ++ third) _ _ refl w₁.0 w₁.1 in
-    let one = remains-after two second third _ _ refl w₂.0 w₂.1 in
-    remains-none (remains-after one third [] _ _ (sym (append-nil third)) w₃.0 w₃.1) refl
+    let two = remains-after all first (second ++ third) _ _ refl c.write_number-second.ensures.after c.write_number-second.ensures.written in
+    let one = remains-after two second third _ _ refl c.write_number-third.ensures.after c.write_number-third.ensures.written in
+    let told = remains-none (remains-after one third [] _ _ (sym (append-nil third)) c.write_number.ensures.after c.write_number.ensures.written) refl in
+    record { after = told.0; written = told.1 }

@@ -26,19 +26,19 @@ after-mark : (c : After-write_mark-first) → Remains c.args.room.now 0 (due (go
     (counted number_bytes c.args.sizes.now ++ (bytes_of number_bytes c.args.start.now ++ (bytes_of number_bytes c.args.goal.now ++ pairs (goal.at.After-write_mark-first c).Start)))
 unfolding front_bytes
 after-mark c =
-    let w = c.write_mark-first.ensures in remains-after (whole (goal.at.After-write_mark-first c).Start) (mark_bytes (kind_if c.args.gapped)) _ _ _ refl (omega (arith, w.0)) w.1
+    remains-after (whole (goal.at.After-write_mark-first c).Start) (mark_bytes (kind_if c.args.gapped)) _ _ _ refl (omega (arith, c.write_mark-first.ensures.after)) c.write_mark-first.ensures.written
 
 after-sizes : (c : After-write_list-second) → Remains c.args.room.now 0 (due (goal.at.After-write_list-second c).Start) c.write_list-second.new.room c.write_list-second.result (bytes_of number_bytes c.args.start.now ++ (bytes_of number_bytes c.args.goal.now ++ pairs (goal.at.After-write_list-second c).Start))
 after-sizes c =
-    let w = c.write_list-second.ensures in remains-after (after-mark (goal.at.After-write_list-second c).After-write_mark-first) (counted number_bytes c.args.sizes.now) _ _ _ refl w.0 w.1
+    remains-after (after-mark (goal.at.After-write_list-second c).After-write_mark-first) (counted number_bytes c.args.sizes.now) _ _ _ refl c.write_list-second.ensures.after c.write_list-second.ensures.written
 
 after-start : (c : After-write_numbers-third) → Remains c.args.room.now 0 (due (goal.at.After-write_numbers-third c).Start) c.write_numbers-third.new.room c.write_numbers-third.result (bytes_of number_bytes c.args.goal.now ++ pairs (goal.at.After-write_numbers-third c).Start)
 after-start c =
-    let w = c.write_numbers-third.ensures in remains-after (after-sizes (goal.at.After-write_numbers-third c).After-write_list-second) (bytes_of number_bytes c.args.start.now) _ _ _ refl w.0 w.1
+    remains-after (after-sizes (goal.at.After-write_numbers-third c).After-write_list-second) (bytes_of number_bytes c.args.start.now) _ _ _ refl c.write_numbers-third.ensures.after c.write_numbers-third.ensures.written
 
 after-goal : (c : After-write_numbers-fourth) → Remains c.args.room.now 0 (due (goal.at.After-write_numbers-fourth c).Start) c.write_numbers-fourth.new.room c.write_numbers-fourth.result (pairs (goal.at.After-write_numbers-fourth c).Start)
 after-goal c =
-    let w = c.write_numbers-fourth.ensures in remains-after (after-start (goal.at.After-write_numbers-fourth c).After-write_numbers-third) (bytes_of number_bytes c.args.goal.now) _ _ _ refl w.0 w.1
+    remains-after (after-start (goal.at.After-write_numbers-fourth c).After-write_numbers-third) (bytes_of number_bytes c.args.goal.now) _ _ _ refl c.write_numbers-fourth.ensures.after c.write_numbers-fourth.ensures.written
 
 pub write_mark-first-requires : goal.write_mark-first-requires
 unfolding front_bytes
@@ -62,6 +62,5 @@ write_set-requires c =
 
 pub returns : goal.returns
 returns c =
-    let w = c.write_set.ensures in
-    let all = remains-none (remains-after (after-goal (goal.at.returns c).After-write_numbers-fourth) (pairs (goal.at.returns c).Start) [] _ _ (sym (append-nil (pairs (goal.at.returns c).Start))) w.0 w.1) refl in
+    let all = remains-none (remains-after (after-goal (goal.at.returns c).After-write_numbers-fourth) (pairs (goal.at.returns c).Start) [] _ _ (sym (append-nil (pairs (goal.at.returns c).Start))) c.write_set.ensures.after c.write_set.ensures.written) refl in
     record { after = omega (arith, all.0); written = all.1 }

@@ -23,8 +23,7 @@ returns c =
     let a = c.args in
     let values = a.values.now in
     let rest = bytes_of number_bytes values in
-    let w₁ = c.write_number-next.ensures in
-    let w₂ = c.write_numbers.ensures in
     let all = remains-all a.room.now a.at (counted number_bytes values) c.requires.1 in
-    let one = remains-after all (number_bytes (length values)) rest _ _ refl w₁.0 w₁.1 in
-    remains-none (remains-after one rest [] _ _ (sym (append-nil rest)) w₂.0 w₂.1) refl
+    let one = remains-after all (number_bytes (length values)) rest _ _ refl c.write_number-next.ensures.after c.write_number-next.ensures.written in
+    let told = remains-none (remains-after one rest [] _ _ (sym (append-nil rest)) c.write_numbers.ensures.after c.write_numbers.ensures.written) refl in
+    record { after = told.0; written = told.1 }

@@ -11,7 +11,7 @@ write_number-requires c =
     (omega arith, omega (arith, c.requires, ap (λ b. length (mark_bytes (kind_if b))) c.if-gapped.true))
 
 pub returns-then-gapped : goal.returns-then-gapped
-returns-then-gapped c = let w = c.write_number.ensures in simp c.if-gapped.true (omega (arith, w.0), w.1)
+returns-then-gapped c = simp c.if-gapped.true (omega (arith, c.write_number.ensures.after), c.write_number.ensures.written)
 
 pub returns : goal.returns
-returns c = simp c.if-gapped.false (refl, refl)
+returns c = let told = simp c.if-gapped.false (refl, refl) in record { after = told.0; written = told.1 }

@@ -47,11 +47,10 @@ loop-f-preserved c =
     let n = word_bits * length words in
     let turn = c.loop-f in
     let number = c.number_for in
-    let written = c.write_number-next.ensures in
     let next = c.next_member-f-in-loop-f.ensures in
     let more = ahead-next kind (has words) n turn.least turn.f _ turn.invariant.0 (omega (arith, c.loop-f-test.true)) next in
     let split = more ∙ ap (λ k. number_bytes k ++ ahead kind (has words) n (turn.f + 1) c.next_member-f-in-loop-f.result) (sym number.ensures) in
-    (reached (has words) n (turn.f + 1) _ next, next.above, remains-after turn.invariant.2 (number_bytes number.result) _ _ _ split written.0 written.1)
+    (reached (has words) n (turn.f + 1) _ next, next.above, remains-after turn.invariant.2 (number_bytes number.result) _ _ _ split c.write_number-next.ensures.after c.write_number-next.ensures.written)
 
 pub shape_of-room : goal.shape_of-room
 shape_of-room c = c.loop-f.invariant.2.kept
@@ -63,4 +62,5 @@ returns c =
     let n = word_bits * length words in
     let turn = c.loop-f in
     let end : turn.f ≡ n = omega (arith, turn.invariant.0.within, c.loop-f-test.false) in
-    remains-none turn.invariant.2 (ahead_none (kind_if a.gapped) (has words) n turn.least turn.f end)
+    let told = remains-none turn.invariant.2 (ahead_none (kind_if a.gapped) (has words) n turn.least turn.f end) in
+    record { after = told.0; written = told.1 }

@@ -24,11 +24,10 @@ loop-i-preserved c =
     let turn = c.loop-i in
     let values = c.args.values.now in
     let more = bytes-more number_bytes values turn.i 0 c.loop-i-test.true in
-    let written = c.write_number-next.ensures in
-    (omega arith, remains-after turn.invariant.1 (number_bytes (get_or values turn.i 0)) _ _ _ more written.0 written.1)
+    (omega arith, remains-after turn.invariant.1 (number_bytes (get_or values turn.i 0)) _ _ _ more c.write_number-next.ensures.after c.write_number-next.ensures.written)
 
 pub shape_of-room : goal.shape_of-room
 shape_of-room c = c.loop-i.invariant.1.kept
 
 pub returns : goal.returns
-returns c = remains-none c.loop-i.invariant.1 (bytes-none number_bytes c.args.values.now c.loop-i.i c.loop-i-test.false)
+returns c = let told = remains-none c.loop-i.invariant.1 (bytes-none number_bytes c.args.values.now c.loop-i.i c.loop-i-test.false) in record { after = told.0; written = told.1 }

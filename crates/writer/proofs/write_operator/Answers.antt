@@ -27,8 +27,7 @@ after-count c =
     let o = entries_in a.variables.now a.befores.now a.afters.now in
     let all = remains-all a.room.now a.at (operator_bytes o) c.requires.1 in
     let split = operator-split a.variables.now a.befores.now a.afters.now in
-    let written = c.write_number-next.ensures in
-    remains-after all (number_bytes (length a.variables.now)) (bytes_of entry_bytes o) _ _ split written.0 written.1
+    remains-after all (number_bytes (length a.variables.now)) (bytes_of entry_bytes o) _ _ split c.write_number-next.ensures.after c.write_number-next.ensures.written
 
 pub loop-i-init : goal.loop-i-init
 loop-i-init c = (omega arith, remains-all _ _ _ (after-count (goal.at.loop-i-init c).After-write_number-next).fits)
@@ -51,8 +50,7 @@ loop-i-preserved c =
     let i = turn.i in
     let e = entry_in a.variables.now a.befores.now a.afters.now i in
     let more = entries-more a.variables.now a.befores.now a.afters.now i c.loop-i-test.true in
-    let written = c.write_entry-next.ensures in
-    (omega arith, remains-after turn.invariant.1 (entry_bytes e) _ _ _ more written.0 written.1)
+    (omega arith, remains-after turn.invariant.1 (entry_bytes e) _ _ _ more c.write_entry-next.ensures.after c.write_entry-next.ensures.written)
 
 pub shape_of-room : goal.shape_of-room
 shape_of-room c = c.loop-i.invariant.1.kept ∙ (after-count (goal.at.shape_of-room c).After-write_number-next).kept
@@ -65,4 +63,5 @@ returns c =
     let rest = bytes_of entry_bytes o in
     let all : length o ≤ turn.i = omega (arith, length-held (length a.variables.now) a.variables.now a.befores.now a.afters.now) in
     let written = remains-none turn.invariant.1 (bytes-none entry_bytes o turn.i all) in
-    remains-none (remains-after (after-count (goal.at.returns c).After-write_number-next) rest [] _ _ (sym (append-nil rest)) written.0 written.1) refl
+    let told = remains-none (remains-after (after-count (goal.at.returns c).After-write_number-next) rest [] _ _ (sym (append-nil rest)) written.0 written.1) refl in
+    record { after = told.0; written = told.1 }

@@ -26,8 +26,7 @@ after-count c =
     let members = members_in c.args.words.now in
     let count = c.count in
     let split = features-split (kind_if c.args.gapped) members ∙ ap (λ n. number_bytes n ++ spelled (goal.at.After-write_number-next c).Start) (sym count.ensures) in
-    let w = c.write_number-next.ensures in
-    remains-after (remains-all _ _ _ c.requires.1) (number_bytes count.result) (spelled (goal.at.After-write_number-next c).Start) _ _ split w.0 w.1
+    remains-after (remains-all _ _ _ c.requires.1) (number_bytes count.result) (spelled (goal.at.After-write_number-next c).Start) _ _ split c.write_number-next.ensures.after c.write_number-next.ensures.written
 
 pub write_number-next-requires : goal.write_number-next-requires
 write_number-next-requires c =
@@ -45,5 +44,5 @@ write_members-requires c =
 pub returns : goal.returns
 returns c =
     let members = spelled (goal.at.returns c).Start in
-    let w = c.write_members.ensures in
-    remains-none (remains-after (after-count (goal.at.returns c).After-write_number-next) members [] _ _ (sym (append-nil members)) w.0 w.1) refl
+    let told = remains-none (remains-after (after-count (goal.at.returns c).After-write_number-next) members [] _ _ (sym (append-nil members)) c.write_members.ensures.after c.write_members.ensures.written) refl in
+    record { after = told.0; written = told.1 }

@@ -44,5 +44,5 @@ pub returns : goal.returns
 returns c =
     let a = c.args in
     file-delivered (kind_if a.gapped) a.count a.own.now a.sizes.now a.start.now a.goal.now a.pairs.now a.room.now (fits (goal.at.returns c).Else-room-front)
-    _ _ c.write_front-second.ensures.0 c.write_front-second.ensures.1 _ _ c.write_number-third.ensures.0 c.write_number-third.ensures.1
-    _ _ c.write_bytes.ensures.0 c.write_bytes.ensures.1
+    _ _ c.write_front-second.ensures.after c.write_front-second.ensures.written _ _ c.write_number-third.ensures.after c.write_number-third.ensures.written
+    _ _ c.write_bytes.ensures.after c.write_bytes.ensures.written

@@ -40,6 +40,5 @@ pub returns-else-room-list_width : goal.returns-else-room-list_width
 unfolding weight_bytes
 returns-else-room-list_width c =
     let a = c.args in
-    let written = c.write_list.ensures in
-    delivered-done (counted number_bytes a.weights.now) a.room.now _ _ (omega arith) written.0 written.1
+    delivered-done (counted number_bytes a.weights.now) a.room.now _ _ (omega arith) c.write_list.ensures.after c.write_list.ensures.written
     ∙ sym (weights-delivered _ a.room.now (accepted (goal.at.returns-else-room-list_width c).In-Fine))

@@ -23,7 +23,7 @@ const LEAST_SIDE: usize = 1;
 const MOST_SIDE: usize = 9;
 
 // What stands in front of a bay file: rows, columns and the place after them; or the first fault.
-#[derive(Drop)]
+#[derive(Clone, Copy)]
 pub enum Sides {
     Got(usize, usize, usize),
     Fault(Reason, usize),

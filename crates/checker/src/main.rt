@@ -19,7 +19,7 @@ const TASK_BYTES: usize = MOST_TASK + 1;
 const WEIGHT_BYTES: usize = MOST_WEIGHTS + 1;
 
 // How many bytes a file has, as far as there is room for them, if it could be read.
-#[derive(Drop)]
+#[derive(Clone, Copy)]
 struct Loaded {
     is_read: bool,
     count: usize,

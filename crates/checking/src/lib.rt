@@ -25,7 +25,7 @@ use number::Step;
 use task::Judged;
 
 // The checker's answers: accepted, rejected as the ends are alike, rejected at an operator, or refused with the paper's number.
-#[derive(Drop)]
+#[derive(Clone, Copy)]
 pub enum Verdict {
     Accepted,
     EndsAlike,

@@ -28,7 +28,7 @@ use limits::{ATOM_WORDS, MOST_VARIABLES, MOST_WORDS};
 use rows::Place;
 
 // A walk over an operator's rows: whether a row is at hand, and from which value of which variable on the next one is looked for.
-#[derive(Drop)]
+#[derive(Clone, Copy)]
 struct Walk {
     more: bool,
     variable: usize,

@@ -19,14 +19,14 @@ use number::Reason;
 use operator::{Judgement, Operator};
 
 // What an edit comes to: it is done, or refused with the paper's number.
-#[derive(Drop)]
+#[derive(Clone, Copy)]
 pub enum Edited {
     Done,
     Refused(u64),
 }
 
 // The two ends of a task, which may be given other values.
-#[derive(Drop)]
+#[derive(Clone, Copy)]
 enum End {
     Start,
     Goal,

@@ -19,7 +19,7 @@ use limits::MOST_WORDS;
 use number::Reason;
 
 // Weights are found, there are none, or the call is refused.
-#[derive(Drop)]
+#[derive(Clone, Copy)]
 pub enum Found {
     Separated,
     Nothing,

@@ -11,7 +11,7 @@ ghost use Rattle.forgetting.specs.Out.{named_by, against_at, against_by, out_by}
 ghost use Rattle.forgetting.specs.Kept.{FoundIn, Found, kept_in};
 
 // A forgetting operator: its variable, and the value that it forgets. At the end the variable is the number of variables, and the value is 0.
-#[derive(Drop)]
+#[derive(Clone, Copy)]
 pub struct Kept {
     pub variable: usize,
     pub value: usize,

@@ -15,7 +15,7 @@ use limits::{LEAST_SIZE, LEAST_VARIABLES, MOST_FEATURES, MOST_SIZE, MOST_VARIABL
 use words::WORD_BITS;
 
 // Whether words are a well formed workspace, and how many variables and features it has then.
-#[derive(Drop)]
+#[derive(Clone, Copy)]
 pub enum Formed {
     Yes { variables: usize, features: usize },
     No,

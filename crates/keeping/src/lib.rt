@@ -34,28 +34,28 @@ use operator::Operator;
 use pairs::PairAt;
 
 // What one operator's turn comes to: the place after the operator, and whether it took a pair out.
-#[derive(Drop)]
+#[derive(Clone, Copy)]
 struct Turn {
     step: Step,
     dropped: bool,
 }
 
 // What is found at an operator: the place after it, and its least unclosed pair.
-#[derive(Drop)]
+#[derive(Clone, Copy)]
 struct Seen {
     step: Step,
     pair: usize,
 }
 
 // The first operator under which a list is not closed, and its least unclosed pair; the number of operators where there is none.
-#[derive(Drop)]
+#[derive(Clone, Copy)]
 struct Broken {
     operator: usize,
     pair: usize,
 }
 
 // What keeps a list from being good: the least pair that the start holds; or the least unclosed pair of the first operator, and that operator's number.
-#[derive(Drop)]
+#[derive(Clone, Copy)]
 pub enum Fault {
     Nothing,
     Held(usize),

@@ -12,7 +12,7 @@ use limits::SIZES_AT;
 use words::WORD_BITS;
 
 // Where each part of a workspace begins behind its sizes, and where the last part ends.
-#[derive(Drop)]
+#[derive(Clone, Copy)]
 pub struct Places {
     pub start: usize,
     pub goal: usize,

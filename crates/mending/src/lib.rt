@@ -17,7 +17,7 @@ use task::Judged;
 use writer::Written;
 
 // The list is good, the start holds a listed pair, the list is not closed under an operator, or the call is refused.
-#[derive(Drop)]
+#[derive(Clone, Copy)]
 pub enum PairFault {
     Good,
     Held,

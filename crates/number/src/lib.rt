@@ -9,7 +9,7 @@ ghost use Rattle.meaning.specs.File.{inside, item, rising, kind_if, gapped as ga
 ghost use Rattle.number.specs.Answers.{reason_of, number_of};
 
 // Why a call refuses.
-#[derive(Drop)]
+#[derive(Clone, Copy)]
 pub enum Reason {
     Ends,
     Padded,
@@ -28,14 +28,14 @@ pub enum Reason {
 }
 
 // What stands where a number is due: its value and the place after it; or a reason, and the place of the first byte of the number at fault.
-#[derive(Drop)]
+#[derive(Clone, Copy)]
 pub enum Number {
     Got(usize, usize),
     Fault(Reason, usize),
 }
 
 // What a reader of more than a number answers: the place after what it read; or the first fault.
-#[derive(Drop)]
+#[derive(Clone, Copy)]
 pub enum Step {
     Next(usize),
     Fault(Reason, usize),

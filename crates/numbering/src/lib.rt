@@ -11,7 +11,7 @@ ghost use Rattle.numbering.specs.Planes.{number_in, Spans};
 ghost use Rattle.numbering.specs.Order.{Stands, Follows, Contains, Joins};
 
 // Where the features of two variables stand: the number of the one with both values 0, and how far a step of each value leads.
-#[derive(Drop)]
+#[derive(Clone, Copy)]
 pub struct Plane {
     pub first: usize,
     pub step: usize,
@@ -19,7 +19,7 @@ pub struct Plane {
 }
 
 // How many atoms the variables from a first one on have, and those from a second one on.
-#[derive(Drop)]
+#[derive(Clone, Copy)]
 struct Rests {
     first: usize,
     second: usize,
@@ -27,7 +27,7 @@ struct Rests {
 
 // The features of two variables in order as a block of numbers, from `start` to right before `end`. A variable with itself has an empty one,
 // right before its block with the next variable.
-#[derive(Drop)]
+#[derive(Clone, Copy)]
 pub struct Block {
     pub first: usize,
     pub second: usize,
@@ -36,7 +36,7 @@ pub struct Block {
 }
 
 // A value of a block's first variable, and one of its second.
-#[derive(Drop)]
+#[derive(Clone, Copy)]
 pub struct Values {
     pub first: usize,
     pub second: usize,

@@ -29,7 +29,7 @@ use task::Judged;
 const PENDING_SHARE: usize = 32;
 
 // The number of words due, or the paper's number of a refusal.
-#[derive(Drop)]
+#[derive(Clone, Copy)]
 pub enum Opened {
     Opened(usize),
     Refused(u64),

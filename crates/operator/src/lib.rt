@@ -30,14 +30,14 @@ pub struct OperatorRead {
 }
 
 // What is wrong with an operator: the first fault, or nothing.
-#[derive(Drop)]
+#[derive(Clone, Copy)]
 pub enum Judgement {
     Fine,
     Faulty(Reason),
 }
 
 // An entry that was read: variable, before, after, and the place after it; or the first fault.
-#[derive(Drop)]
+#[derive(Clone, Copy)]
 enum EntryRead {
     Got(usize, usize, usize, usize),
     Fault(Reason, usize),

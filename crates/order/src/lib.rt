@@ -20,7 +20,7 @@ use reader::Header;
 
 // What a partial task file is judged to be: accepted, with how many variables and features the built task has, how many operators the file has and
 // how many forgetting ones are kept, and the place of the first operator; or the first fault.
-#[derive(Drop)]
+#[derive(Clone, Copy)]
 pub enum Judged {
     Accepted {
         variables: usize,

@@ -24,7 +24,7 @@ ghost use Rattle.pairs.specs.Walk.{Found, Reached};
 use numbering::Block;
 
 // A listed pair with its block; past the last one, a number that is no feature's.
-#[derive(Drop)]
+#[derive(Clone, Copy)]
 pub struct PairAt {
     pub feature: usize,
     pub block: Block,

@@ -11,7 +11,7 @@ ghost use Rattle.placing.specs.Answers.{spot_of, part_of};
 use number::Reason;
 
 // A place in the task or in the weights, or none.
-#[derive(Drop)]
+#[derive(Clone, Copy)]
 pub enum Spot {
     Nowhere,
     InTask(usize),
@@ -19,7 +19,7 @@ pub enum Spot {
 }
 
 // A part of the task or of the weights: where it begins, and how many bytes it has.
-#[derive(Drop)]
+#[derive(Clone, Copy)]
 pub enum Part {
     OfTask(usize, usize),
     OfWeights(usize, usize),

@@ -21,7 +21,7 @@ use number::{Number, Reason, Step};
 
 // What stands before the operators of a task file: how many variables, features and operators there are, and the place after it; or the
 // first fault.
-#[derive(Drop)]
+#[derive(Clone, Copy)]
 pub enum Header {
     Got {
         variables: usize,

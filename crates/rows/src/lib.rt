@@ -25,7 +25,7 @@ ghost use Rattle.rows.specs.Apart.{wanted_by, wanted_from, places_from};
 use numbering::Plane;
 
 // "kinds are absent, kept, made, used": whether an atom is true before and after.
-#[derive(Drop)]
+#[derive(Clone, Copy)]
 pub enum Kind {
     Absent,
     Kept,
@@ -37,7 +37,7 @@ pub enum Kind {
 const GRID: [[u8; 4]; 4] = [[0, 0, 0, 0], [0, 0, 1, 1], [0, 1, 1, 0], [0, 1, 0, 1]];
 
 // An atom of a variable that goes from one value to another, with its kind.
-#[derive(Drop)]
+#[derive(Clone, Copy)]
 struct Atom {
     variable: usize,
     value: usize,
@@ -45,7 +45,7 @@ struct Atom {
 }
 
 // A variable that goes from one value to another: as an entry says, or unnamed with its value kept.
-#[derive(Drop)]
+#[derive(Clone, Copy)]
 struct Move {
     variable: usize,
     before: usize,
@@ -506,7 +506,7 @@ fn next_wanted(sizes: &[u64], possible: &[u64], base: &[usize], u: usize, y: usi
 }
 
 // A variable with a value, or that there is none left.
-#[derive(Drop)]
+#[derive(Clone, Copy)]
 pub enum Place {
     At(usize, usize),
     Done,

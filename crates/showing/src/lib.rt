@@ -12,7 +12,7 @@ use number::Reason;
 use placing::Part;
 
 // Which of the two files holds the part, or that the room for its beginning and its length is too small.
-#[derive(Drop)]
+#[derive(Clone, Copy)]
 pub enum Displayed {
     Task,
     Weights,

@@ -19,7 +19,7 @@ use reader::Header;
 
 // What a task file is judged to be: accepted, with how many variables, features and operators it has and the place of the first operator; or the
 // first fault.
-#[derive(Drop)]
+#[derive(Clone, Copy)]
 pub enum Judged {
     Accepted {
         variables: usize,

@@ -23,14 +23,14 @@ use number::Reason;
 use words::WORD_BITS;
 
 // What is wrong with a list of features: the first fault, or nothing.
-#[derive(Drop)]
+#[derive(Clone, Copy)]
 enum Judged {
     Fine,
     Faulty(Reason),
 }
 
 // What a call that writes a file or a line answers: its length; or the paper's number of a refusal.
-#[derive(Drop)]
+#[derive(Clone, Copy)]
 pub enum Written {
     Done(usize),
     Refused(u64),

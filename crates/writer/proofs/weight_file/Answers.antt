@@ -4,7 +4,6 @@ use native.Mathlib.Omega.{arith}
 use lib.ListN.{take}
 use lib.Seq.{length-take-le}
 use borrow.Author.Rules.{rules}
-use borrow.Author.Tests.{not-true, not-false}
 use Rattle.meaning.specs.Number.{Range}
 use Rattle.theory.specs.Tells.{Tells, tells-no}
 use Rattle.words.specs.Next.{Empty}
@@ -20,29 +19,23 @@ pub returns-then-words-le-MOST_WORDS : goal.returns-then-words-le-MOST_WORDS
 returns-then-words-le-MOST_WORDS c =
     c.deliver_set.ensures ∙ set-delivered c.args.words.now (omega (arith, c.if-words-le-MOST_WORDS.true)) c.args.room.now
 
--- LOST part-is-empty-start : tie.Need-slice-bounds-is-empty-start
-part-is-empty-start c = search rules
-
--- LOST part-is-empty-end : tie.Need-slice-bounds-is-empty-end
-part-is-empty-end c = search rules
-
 pub returns-then-not-is_empty : goal.returns-then-not-is_empty
 returns-then-not-is_empty c =
     let a = c.args in
     let words = a.words.now in
-    let none = tells-no (subst (λ l. Tells c.is_empty.result (Empty l)) (lent-behind words most_words most_words refl) c.is_empty.ensures) (not-true _ c.if-not-is_empty.true) in
+    let none = tells-no (subst (λ l. Tells c.is_empty.result (Empty l)) (lent-behind words most_words most_words refl) c.is_empty.ensures) c.if-not-is_empty.true in
     refused-so c.refuse.result Range a.room.now c.refuse.ensures ∙ sym (weights-refused (members_in words) a.room.now _ (outside-range words (λ h. none (in-range-behind words h))))
 
 pub slice_bounds-deliver_set-end : goal.slice_bounds-deliver_set-end
-slice_bounds-deliver_set-end c = sym (length-take-le most_words c.args.words.now (omega (arith, c.if1.false)))
+slice_bounds-deliver_set-end c = sym (length-take-le most_words c.args.words.now (omega (arith, c.if-words-le-MOST_WORDS.false)))
 
 pub deliver_set-requires-2 : goal.deliver_set-requires-2
-deliver_set-requires-2 c = omega (arith, length-take-le most_words c.args.words.now (omega (arith, c.if1.false)))
+deliver_set-requires-2 c = omega (arith, length-take-le most_words c.args.words.now (omega (arith, c.if-words-le-MOST_WORDS.false)))
 
 pub returns : goal.returns
 returns c =
     let a = c.args in
     let words = a.words.now in
-    let empty = subst Empty (lent-behind words most_words most_words refl) (c.is-empty.ensures.yes (not-false _ c.if2.false)) in
+    let empty = subst Empty (lent-behind words most_words most_words refl) (c.is_empty.ensures.yes c.if-not-is_empty.false) in
     c.deliver_set-2.ensures ∙ set-delivered (take most_words words) (omega (arith, length-take-le most_words words (omega arith))) a.room.now
     ∙ ap (λ l. weights_written l a.room.now) (members-front most_words words empty)

@@ -14,4 +14,4 @@ pub returns-then-gapped : goal.returns-then-gapped
 returns-then-gapped c = simp c.if-gapped.true (omega (arith, c.write_number.ensures.after), c.write_number.ensures.written)
 
 pub returns : goal.returns
-returns c = let told = simp c.if-gapped.false (refl, refl) in record { after = told.0; written = told.1 }
+returns c = simp c.if-gapped.false (record { after = refl; written = refl })

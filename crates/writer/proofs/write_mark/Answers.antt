@@ -11,7 +11,7 @@ write_number-requires c =
     (omega arith, omega (arith, c.requires, ap (λ b. length (mark_bytes (kind_if b))) c.if-gapped.true))
 
 pub returns-then-gapped : goal.returns-then-gapped
-returns-then-gapped c = simp c.if-gapped.true (omega (arith, c.write_number.ensures.after), c.write_number.ensures.written)
+returns-then-gapped c = simp c.if-gapped.true (record { after = omega (arith, c.write_number.ensures.after); written = c.write_number.ensures.written })
 
 pub returns : goal.returns
 returns c = simp c.if-gapped.false (record { after = refl; written = refl })

@@ -1,0 +1,44 @@
+-- `is_unclosed`: a pair of two unnamed variables is not; another is if the operator leaves both its atoms.
+use mathlib.Core.Path.{◌≡◌, refl, sym, ◌∙◌}
+use mathlib.Core.Logic.{⊎_elim}
+use mathlib.Core.Bool.{true, ◌||◌}
+use native.Mathlib.Omega.{arith}
+use borrow.Author.Rules.{rules}
+use borrow.Author.Tests.{not-true, not-false}
+use Rattle.meaning.specs.Task.{Operator, names}
+use Rattle.theory.specs.Search.{and-none-left, or_left, or_right}
+use Rattle.theory.specs.Slices.{entries_in}
+use Rattle.pairs.specs.Walk.{unnamed-closed, named-decided}
+use Rattle.numbering.specs.Order.{values_join}
+use Rattle.pairs.proofs.is_unclosed.Goals as goal
+use Rattle.pairs.proofs.is_unclosed.Goals.{else-not-names-via-then-not-names+else-not-names-2, else-not-names-via-else-not-names, After-names, Joined-else-not-names}
+
+abbrev operator-of : (c : After-names) → Operator
+operator-of c = let a = c.args in entries_in a.variables.now a.befores.now a.afters.now
+
+-- Past the first test one of the variables is named.
+named : (c : Joined-else-not-names) → let b = c.args.pair.block in (names (operator-of (goal.at.Joined-else-not-names c).After-names) b.first || names (operator-of (goal.at.Joined-else-not-names c).After-names) b.second) ≡ true
+named c = 
+    let b = c.args.pair.block in
+    let o = operator-of (goal.at.Joined-else-not-names c).After-names in
+    elim c.else-not-names.branch [
+      | else-not-names-via-then-not-names+else-not-names-2 w ↦ or_right (names o b.first) _ (sym (w.names-then-not-names.ensures _ _) ∙ w.if-not-names-2.false)
+      | else-not-names-via-else-not-names w ↦ or_left (names o b.first) (names o b.second) (sym (c.names.ensures _ _) ∙ w.if-not-names.false)
+    ]
+
+pub returns-then-not-names-2 : goal.returns-then-not-names-2
+returns-then-not-names-2 c = let (ready, table, holds) = c.requires in
+    sym (unnamed-closed _ _ _ _ _ ready _ _ _ _ _ (values_join _ _ _ _ holds refl) (sym (c.names.ensures _ _) ∙ c.if-not-names.true)
+    (sym (c.names-then-not-names.ensures _ _) ∙ c.if-not-names-2.true))
+
+pub leaves-requires : goal.leaves-requires
+leaves-requires c = let (ready, table, holds) = c.requires in
+    (ready, table, omega (arith, c.values_in-values.ensures.ordered, c.values_in-values.ensures.place), c.values_in-values.ensures.first)
+
+pub returns-then-leaves : goal.returns-then-leaves
+returns-then-leaves c = sym (named-decided _ _ _ _ _ c.requires.0 _ _ _ _ _ c.values_in-values.ensures (named (goal.at.returns-then-leaves c).Joined-else-not-names)
+    ∙ rw (← c.leaves.ensures, c.if-leaves.true, ← c.leaves-then-leaves.ensures) refl)
+
+pub returns-else-leaves : goal.returns-else-leaves
+returns-else-leaves c = c.if-leaves.false ∙ sym (named-decided _ _ _ _ _ c.requires.0 _ _ _ _ _ c.values_in-values.ensures (named (goal.at.returns-else-leaves c).Joined-else-not-names)
+    ∙ and-none-left _ _ (sym c.leaves.ensures ∙ c.if-leaves.false))

@@ -1,0 +1,23 @@
+-- `put_pairs`: the pairs are renumbered into a part of the header, which is put back.
+use native.Mathlib.Omega.{arith}
+use borrow.Author.Rules.{rules}
+use Rattle.layout.specs.Places.{places-are}
+use Rattle.renumbering.specs.Header.{total-most, own-renumbers, pairs-put}
+use Rattle.renumbering.proofs.put_pairs.Goals as goal
+
+pub places_for-places-requires : goal.places_for-places-requires
+places_for-places-requires c = let p = c.requires in (p.0.headed.variables, omega (arith, total-most _ _ _ p.0, p.2))
+
+pub offset_bounds-header-pairs : goal.offset_bounds-header-pairs
+offset_bounds-header-pairs c = omega (arith, places-are _ _ _ c.places_for-places.ensures, c.requires.0.headed.variables)
+
+pub slice_bounds-renumber-count : goal.slice_bounds-renumber-count
+slice_bounds-renumber-count c = omega (arith, places-are _ _ _ c.places_for-places.ensures)
+
+pub renumber-requires : goal.renumber-requires
+renumber-requires c = let p = c.requires in
+    own-renumbers _ _ _ p.0 _ p.2 _ c.places_for-places.ensures _ _ c.sizes.ensures c.pairs.ensures _ _ p.1 p.3 p.4
+
+pub returns : goal.returns
+returns c = let p = c.requires in
+    pairs-put _ _ _ p.0 _ p.2 _ c.places_for-places.ensures _ _ c.sizes.ensures c.pairs.ensures _ _ c.renumber.ensures

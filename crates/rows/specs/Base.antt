@@ -14,7 +14,7 @@ use Rattle.theory.specs.Flat.{length-table, get_d-table, table-cong, in-get_d}
 use Rattle.theory.specs.Numbering.{single-below}
 use Rattle.theory.specs.Slots.{lead}
 use Rattle.theory.specs.Possible.{possible_atoms, possible-at}
-use Rattle.theory.specs.Slices.{entries_in, entry-fine, entries-rise}
+use Rattle.theory.specs.Slices.{entries_in, Given, entry-fine, entries-rise}
 use Rattle.theory.specs.Rows.{base_value, base}
 use Rattle.words.specs.Next.{Clear}
 use Rattle.rows.specs.Given.{entry_other, names-listed, before_at}
@@ -75,7 +75,7 @@ unfolding lead
 lead-cong zero a b h = refl
 lead-cong (suc n) a b h = rw (lead-cong n a b (λ f l. h f (omega arith)), h n (omega arith))
 
-module _ {sizes variables befores afters : List ℕ} where
+module _ {sizes variables befores afters : List ℕ} (given : Given sizes variables befores afters) where
   befores-at : (s : List ℕ) → length s ≡ length sizes → (n k : ℕ) → k < n → n ≤ length variables → get_or (with_befores n variables befores s) (get_or variables k 0) 0 ≡ get_or befores k 0
   unfolding with_befores
   befores-at s e zero k l r = absurd (omega arith)

@@ -1,0 +1,16 @@
+-- `fill_least` meets its contract: the loop writes the least values from the front (`Written`).
+use Prim.Native.Nat.{◌-◌}
+use mathlib.Core.Path.{refl, sym, ◌∙◌}
+use native.Mathlib.Omega.{arith}
+use lib.ListN.{length}
+use Rattle.meaning.specs.Workspace.{has}
+use Rattle.words.specs.Next.{next-lead}
+use Rattle.words.specs.Written.{Written, written_next, written-done}
+use Rattle.rows.specs.Base.{least_values, length-least, least_at}
+use Rattle.rows.proofs.fill_least.Given as goal
+
+abbrev pub invariant-loop-u : goal.invariant-loop-u
+invariant-loop-u l = Written l.initial.base (least_values l.sizes (has l.possible)) l.u l.base
+
+abbrev pub decreases-loop-u : goal.decreases-loop-u
+decreases-loop-u l = length l.initial.base - l.u

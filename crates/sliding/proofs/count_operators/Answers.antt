@@ -1,4 +1,5 @@
 -- `count_operators` multiplies two counts: the product is a count of operators, so it is small.
+use Prim.Native.Nat.{◌*◌}
 use mathlib.Core.Path.{ap₂, ◌∙◌}
 use native.Mathlib.Omega.{arith}
 use Rattle.sliding.specs.Counts.{operators-counted, operators-few}

@@ -1,0 +1,15 @@
+-- `put_numbered`: three parts one behind the other.
+use native.Mathlib.Omega.{arith}
+use Rattle.text.specs.Parts.{numbered-put}
+use Rattle.text.proofs.put_numbered.Goals as goal
+
+pub put-requires : goal.put-requires
+put-requires c =
+    let first = c.put-first.ensures in
+    omega (arith, first.place, c.put_word-second.ensures.place)
+
+pub returns : goal.returns
+returns c =
+    let number = c.args.number in
+    let first = c.put-first.ensures in
+    numbered-put _ number (omega (arith, first.place)) first c.put_word-second.ensures c.put.ensures

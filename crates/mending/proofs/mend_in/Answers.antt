@@ -1,0 +1,49 @@
+-- `mend_in`: the pairs that are kept, the parts of the header, and the file that is written from them.
+use Prim.Native.Nat.{ℕ}
+use mathlib.Core.Path.{◌≡◌, refl, ◌∙◌}
+use mathlib.Core.List.{List}
+use native.Mathlib.Omega.{arith}
+use lib.ListN.{length}
+use borrow.Author.Rules.{rules}
+use Rattle.meaning.specs.Workspace.{words_for}
+use Rattle.theory.specs.Spent.{Bytes}
+use Rattle.layout.specs.Parts.{Headed, headed-sizes}
+use Rattle.task.specs.Answer.{left-room, read_left}
+use Rattle.writer.specs.Copied.{lent-behind}
+use Rattle.mending.specs.Answer.{at-within, mended-front, mends-so}
+use Rattle.mending.proofs.mend_in.Goals as goal
+use Rattle.mending.proofs.mend_in.Goals.{After-fill_kept, Start}
+
+-- All words of the header are there, and the bytes are bytes.
+room : (s : Start) → Headed s.args.v s.args.n s.args.header.now
+room s = left-room (read_left s.requires.0.1)
+
+small : (c : After-fill_kept) → Bytes c.args.task.now
+small c i = omega (arith, c.type_inv.task i)
+
+long : (c : After-fill_kept) → length c.fill_kept.new.kept ≡ words_for c.args.n
+long c = c.fill_kept.auto.kept ∙ c.requires.1
+
+pub slice_bounds-write_task-count : goal.slice_bounds-write_task-count
+slice_bounds-write_task-count c = at-within c.requires.0.1
+
+pub slice_bounds-write_task-start : goal.slice_bounds-write_task-start
+slice_bounds-write_task-start c = omega (arith, at-within c.requires.0.1)
+
+pub sizes-requires : goal.sizes-requires
+sizes-requires c = headed-sizes (room (goal.at.sizes-requires c).Start)
+
+pub start-requires : goal.start-requires
+start-requires c = room (goal.at.start-requires c).Start
+
+pub goal-requires : goal.goal-requires
+goal-requires c = room (goal.at.goal-requires c).Start
+
+pub write_task-requires : goal.write_task-requires
+write_task-requires c = mended-front c.requires.0.1 _ _ _ c.fill_kept.new.kept c.sizes.ensures c.start.ensures c.goal.ensures (long (goal.at.write_task-requires c).After-fill_kept)
+
+pub returns : goal.returns
+returns c =
+    let a = c.args in
+    mends-so c.requires.0.1 _ _ _ c.fill_kept.new.kept c.sizes.ensures c.start.ensures c.goal.ensures (long (goal.at.returns c).After-fill_kept) (small (goal.at.returns c).After-fill_kept) c.fill_kept.ensures _ c.is_gapped.ensures _ a.room.now _
+    (lent-behind a.task.now a.at a.at refl) c.write_task.ensures

@@ -1,0 +1,19 @@
+-- `judge_forgetting`: the walk stands at one that is kept, or at the end, and those before are allowed.
+use Prim.Native.Nat.{◌-◌}
+use mathlib.Core.Path.{sym, ◌∙◌}
+use mathlib.Core.Bool.{false}
+use native.Mathlib.Omega.{arith}
+use lib.ListN.{length}
+use borrow.Author.Rules.{rules}
+use borrow.Author.Tests.{not-true, not-false}
+use Rattle.meaning.specs.Workspace.{has}
+use Rattle.forgetting.specs.Out.{out_by}
+use Rattle.forgetting.specs.Kept.{kept_in, stands-below, stands-few}
+use Rattle.checking.specs.Forgetting.{Passing, passing-first, passing-next, passing-breaks, passing-ends}
+use Rattle.checking.proofs.judge_forgetting.Given as goal
+
+abbrev pub invariant-loop-kept : goal.invariant-loop-kept
+invariant-loop-kept l = Passing l.sizes (has l.pairs) (has l.weights) (out_by l.sizes (has l.pairs) l.goal false) l.kept l.k
+
+abbrev pub decreases-loop-kept : goal.decreases-loop-kept
+decreases-loop-kept l = length (kept_in l.sizes (has l.pairs) l.goal false) - l.k

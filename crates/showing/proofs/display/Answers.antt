@@ -1,0 +1,29 @@
+-- `display`: the part that was found lies within its file, and is lent from there.
+use mathlib.Core.Path.{◌≡◌, sym, ap, ◌∙◌}
+use native.Mathlib.Omega.{arith}
+use Rattle.meaning.specs.Place.{of_task, of_weights, shown}
+use Rattle.placing.specs.Answers.{part_of}
+use Rattle.showing.specs.Answer.{place_in, part-within, task-bytes, weight-bytes}
+use borrow.Author.Rules.{rules}
+use Rattle.showing.proofs.display.Goals as goal
+use Rattle.showing.proofs.display.Goals.{In-OfTask, In-OfWeights}
+
+in-task : (c : In-OfTask) → let a = c.args in
+    of_task c.in-OfTask.place c.in-OfTask.many ≡ shown a.task.now a.weights.now
+in-task c = sym (ap part_of c.in-OfTask.is) ∙ c.locate.ensures
+
+in-weights : (c : In-OfWeights) → let a = c.args in
+    of_weights c.in-OfWeights.place c.in-OfWeights.many ≡ shown a.task.now a.weights.now
+in-weights c = sym (ap part_of c.in-OfWeights.is) ∙ c.locate.ensures
+
+pub overflow_add-end : goal.overflow_add-end
+overflow_add-end c = omega (arith, part-within _ _ _ (in-task c))
+
+pub overflow_add-end-in-OfWeights : goal.overflow_add-end-in-OfWeights
+overflow_add-end-in-OfWeights c = omega (arith, part-within _ _ _ (in-weights c))
+
+pub returns-in-OfTask : goal.returns-in-OfTask
+returns-in-OfTask c = let a = c.args in record { result_value = task-bytes _ _ _ _ (in-task (goal.at.returns-in-OfTask c).In-OfTask); placed = ap (place_in a.task.ptr a.weights.ptr) (in-task (goal.at.returns-in-OfTask c).In-OfTask) }
+
+pub returns-in-OfWeights : goal.returns-in-OfWeights
+returns-in-OfWeights c = let a = c.args in record { result_value = weight-bytes _ _ _ _ (in-weights (goal.at.returns-in-OfWeights c).In-OfWeights); placed = ap (place_in a.task.ptr a.weights.ptr) (in-weights (goal.at.returns-in-OfWeights c).In-OfWeights) }

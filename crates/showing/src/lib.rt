@@ -31,7 +31,7 @@ pub fn locate(task: &[u8], gapped: bool, weights: &[u8]) -> Part
 
 // The bytes at fault, taken from whichever of the two files holds them.
 pub fn display<'a>(task: &'a [u8], weights: &'a [u8]) -> &'a [u8]
-    ensures result_value { result.now ≡ bytes_in task.now weights.now (shown task.now weights.now) }
+    ensures bytes { result.now ≡ bytes_in task.now weights.now (shown task.now weights.now) }
     ensures placed { result.ref_ptr ≡ place_in task.entry.ref_ptr weights.entry.ref_ptr (shown task.now weights.now) }
 {
     match locate(task, false, weights) {

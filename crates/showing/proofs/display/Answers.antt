@@ -23,7 +23,13 @@ pub overflow_add-end-in-OfWeights : goal.overflow_add-end-in-OfWeights
 overflow_add-end-in-OfWeights c = omega (arith, part-within _ _ _ (in-weights c))
 
 pub returns-in-OfTask : goal.returns-in-OfTask
-returns-in-OfTask c = let a = c.args in record { result_value = task-bytes _ _ _ _ (in-task (goal.at.returns-in-OfTask c).In-OfTask); placed = ap (place_in a.task.ref_ptr a.weights.ref_ptr) (in-task (goal.at.returns-in-OfTask c).In-OfTask) }
+returns-in-OfTask c = let a = c.args in record { bytes = task-bytes _ _ _ _ (in-task (goal.at.returns-in-OfTask c).In-OfTask); placed = ap (place_in a.task.ref_ptr a.weights.ref_ptr) (in-task (goal.at.returns-in-OfTask c).In-OfTask) }
 
 pub returns-in-OfWeights : goal.returns-in-OfWeights
-returns-in-OfWeights c = let a = c.args in record { result_value = weight-bytes _ _ _ _ (in-weights (goal.at.returns-in-OfWeights c).In-OfWeights); placed = ap (place_in a.task.ref_ptr a.weights.ref_ptr) (in-weights (goal.at.returns-in-OfWeights c).In-OfWeights) }
+returns-in-OfWeights c = let a = c.args in record { bytes = weight-bytes _ _ _ _ (in-weights (goal.at.returns-in-OfWeights c).In-OfWeights); placed = ap (place_in a.task.ref_ptr a.weights.ref_ptr) (in-weights (goal.at.returns-in-OfWeights c).In-OfWeights) }
+
+pub slice_bounds-result-end : goal.slice_bounds-result-end
+slice_bounds-result-end c = omega (arith, part-within _ _ _ (in-task (goal.at.slice_bounds-result-end c).In-OfTask))
+
+pub slice_bounds-result-end-in-OfWeights : goal.slice_bounds-result-end-in-OfWeights
+slice_bounds-result-end-in-OfWeights c = omega (arith, part-within _ _ _ (in-weights (goal.at.slice_bounds-result-end-in-OfWeights c).In-OfWeights))

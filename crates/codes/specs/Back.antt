@@ -58,8 +58,8 @@ module _ {A : Type 0} {result_code : A → Code} (table : Table result_code) whe
 pub verdict-table : Table verdict_code
 verdict-table = record {
   result = λ c. verdict_at c.case c.value;
-  result-back = λ v. elim v [ accepted ↦ refl | ends_alike ↦ refl | breaks j ↦ refl ];
-  no-refusal = λ v. elim v [ accepted ↦ refl | ends_alike ↦ refl | breaks j ↦ refl ];
+  result-back = λ v. elim v as (λ v. verdict_at (verdict_code v).case (verdict_code v).value ≡ v) [ accepted ↦ refl | ends_alike ↦ refl | breaks j ↦ refl ];
+  no-refusal = λ v. elim v as (λ v. eqb (verdict_code v).case refused_case ≡ false) [ accepted ↦ refl | ends_alike ↦ refl | breaks j ↦ refl ];
 }
   where
     verdict_at : ℕ → ℕ → Verdict
@@ -73,8 +73,8 @@ length-table = record { result = λ c. c.value; result-back = λ k. refl; no-ref
 pub finding-table : Table finding_code
 finding-table = record {
   result = λ c. cond (eqb c.case 0) separated none;
-  result-back = λ f. elim f [ none ↦ refl | separated ↦ refl ];
-  no-refusal = λ f. elim f [ none ↦ refl | separated ↦ refl ];
+  result-back = λ f. elim f as (λ f. cond (eqb (finding_code f).case 0) separated none ≡ f) [ none ↦ refl | separated ↦ refl ];
+  no-refusal = λ f. elim f as (λ f. eqb (finding_code f).case refused_case ≡ false) [ none ↦ refl | separated ↦ refl ];
 }
 
 pub edit-table : Table edit_code
@@ -83,8 +83,8 @@ edit-table = record { result = λ c. tt; result-back = λ u. refl; no-refusal = 
 pub fault-table : Table fault_code
 fault-table = record {
   result = λ c. fault_at c.case;
-  result-back = λ f. elim f [ no_fault ↦ refl | start_holds ↦ refl | operator_breaks ↦ refl ];
-  no-refusal = λ f. elim f [ no_fault ↦ refl | start_holds ↦ refl | operator_breaks ↦ refl ];
+  result-back = λ f. elim f as (λ f. fault_at (fault_code f).case ≡ f) [ no_fault ↦ refl | start_holds ↦ refl | operator_breaks ↦ refl ];
+  no-refusal = λ f. elim f as (λ f. eqb (fault_code f).case refused_case ≡ false) [ no_fault ↦ refl | start_holds ↦ refl | operator_breaks ↦ refl ];
 }
   where
     fault_at : ℕ → PairFault
@@ -95,8 +95,8 @@ fault-table = record {
 pub holder-table : Table holder_code
 holder-table = record {
   result = λ c. cond (eqb c.case 0) task_holds weights_hold;
-  result-back = λ h. elim h [ task_holds ↦ refl | weights_hold ↦ refl ];
-  no-refusal = λ h. elim h [ task_holds ↦ refl | weights_hold ↦ refl ];
+  result-back = λ h. elim h as (λ h. cond (eqb (holder_code h).case 0) task_holds weights_hold ≡ h) [ task_holds ↦ refl | weights_hold ↦ refl ];
+  no-refusal = λ h. elim h as (λ h. eqb (holder_code h).case refused_case ≡ false) [ task_holds ↦ refl | weights_hold ↦ refl ];
 }
 
 -- ---- one number and one memory

@@ -1,0 +1,19 @@
+-- `written_number`: each case has the number that the table gives it.
+use mathlib.Core.Path.{ap, sym, ◌∙◌, subst}
+use native.Mathlib.Omega.{arith}
+use Rattle.writer.specs.Answer.{written_of}
+use Rattle.codes.specs.Code.{number_of, answer_code, length_code, Fits}
+use borrow.Author.Rules.{rules}
+use Rattle.codes.proofs.written_number.Goals as goal
+
+pub coded-requires : goal.coded-requires
+coded-requires c = (omega arith, omega (arith, subst (λ a. Fits length_code (written_of a)) c.in-Done.is c.requires))
+
+pub coded-requires-in-Refused : goal.coded-requires-in-Refused
+coded-requires-in-Refused c = (omega arith, omega (arith, subst (λ a. Fits length_code (written_of a)) c.in-Refused.is c.requires))
+
+pub returns-in-Done : goal.returns-in-Done
+returns-in-Done c = c.coded.ensures ∙ sym (ap (λ a. number_of (answer_code length_code (written_of a))) c.in-Done.is)
+
+pub returns-in-Refused : goal.returns-in-Refused
+returns-in-Refused c = c.coded-in-Refused.ensures ∙ sym (ap (λ a. number_of (answer_code length_code (written_of a))) c.in-Refused.is)

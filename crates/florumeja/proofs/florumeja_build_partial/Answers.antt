@@ -1,0 +1,10 @@
+-- `florumeja_build_partial`: the value fits, so that the number says the answer.
+use Rattle.meaning.specs.Partial.{left_out}
+use Rattle.writer.specs.Answer.{outcome_of}
+use Rattle.florumeja.specs.Fits.{builds-partial-fit}
+use borrow.Author.Rules.{rules}
+use Rattle.florumeja.proofs.florumeja_build_partial.Goals as goal
+
+pub written_number-requires : goal.written_number-requires
+written_number-requires c = let start = c.args in
+    builds-partial-fit left_out start.partial.now start.room.now (outcome_of c.build_partial.result _) c.build_partial.ensures

@@ -1,0 +1,10 @@
+-- `florumeja_build_partial_lean`: the value fits, so that the number says the answer.
+use Rattle.meaning.specs.Partial.{left_out_lean}
+use Rattle.writer.specs.Answer.{outcome_of}
+use Rattle.florumeja.specs.Fits.{builds-partial-fit}
+use borrow.Author.Rules.{rules}
+use Rattle.florumeja.proofs.florumeja_build_partial_lean.Goals as goal
+
+pub written_number-requires : goal.written_number-requires
+written_number-requires c = let start = c.args in
+    builds-partial-fit left_out_lean start.partial.now start.room.now (outcome_of c.build_partial_lean.result _) c.build_partial_lean.ensures

@@ -1,0 +1,10 @@
+-- `florumeja_check_line`: the value fits, so that the number says the answer.
+use native.Mathlib.Omega.{arith}
+use Rattle.writer.specs.Answer.{outcome_of}
+use Rattle.florumeja.specs.Fits.{verdict-lines-fit}
+use borrow.Author.Rules.{rules}
+use Rattle.florumeja.proofs.florumeja_check_line.Goals as goal
+
+pub written_number-requires : goal.written_number-requires
+written_number-requires c = let start = c.args in
+    verdict-lines-fit start.task.now start.weights.now start.room.now (omega arith, omega arith) (outcome_of c.line.result _) c.line.ensures

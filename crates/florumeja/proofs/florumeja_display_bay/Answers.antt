@@ -1,0 +1,11 @@
+-- `florumeja_display_bay`: the value fits, so that the number says the answer.
+use Rattle.meaning.specs.Place.{shown_bay}
+use Rattle.showing.specs.Answer.{leaving_of}
+use Rattle.florumeja.specs.Fits.{displays-fit}
+use borrow.Author.Rules.{rules}
+use Rattle.florumeja.proofs.florumeja_display_bay.Goals as goal
+
+pub displayed_number-requires : goal.displayed_number-requires
+displayed_number-requires c =
+    let start = c.args in
+    displays-fit (shown_bay start.bay.now) start.room.now (leaving_of c.display_bay.result _) c.display_bay.ensures

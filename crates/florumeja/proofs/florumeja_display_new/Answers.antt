@@ -1,0 +1,12 @@
+-- `florumeja_display_new`: the value fits, so that the number says the answer.
+use Rattle.meaning.specs.File.{gapped}
+use Rattle.meaning.specs.Place.{shown_as}
+use Rattle.showing.specs.Answer.{leaving_of}
+use Rattle.florumeja.specs.Fits.{displays-fit}
+use borrow.Author.Rules.{rules}
+use Rattle.florumeja.proofs.florumeja_display_new.Goals as goal
+
+pub displayed_number-requires : goal.displayed_number-requires
+displayed_number-requires c =
+    let start = c.args in
+    displays-fit (shown_as gapped start.task.now start.weights.now) start.room.now (leaving_of c.display_new.result _) c.display_new.ensures

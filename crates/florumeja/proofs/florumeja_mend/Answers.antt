@@ -1,0 +1,9 @@
+-- `florumeja_mend`: the value fits, so that the number says the answer.
+use Rattle.writer.specs.Answer.{outcome_of}
+use Rattle.florumeja.specs.Fits.{mends-fit}
+use borrow.Author.Rules.{rules}
+use Rattle.florumeja.proofs.florumeja_mend.Goals as goal
+
+pub written_number-requires : goal.written_number-requires
+written_number-requires c = let start = c.args in
+    mends-fit start.task.now start.room.now (outcome_of c.mend.result _) c.mend.ensures

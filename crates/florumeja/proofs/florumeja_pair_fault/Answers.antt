@@ -1,0 +1,9 @@
+-- `florumeja_pair_fault`: the value fits, so that the number says the answer.
+use Rattle.mending.specs.Answer.{fault_of}
+use Rattle.florumeja.specs.Fits.{faults-fit}
+use borrow.Author.Rules.{rules}
+use Rattle.florumeja.proofs.florumeja_pair_fault.Goals as goal
+
+pub fault_number-requires : goal.fault_number-requires
+fault_number-requires c = let start = c.args in
+    faults-fit start.task.now start.room.now (record { answer = fault_of c.pair_fault.result; lent = _ }) c.pair_fault.ensures

@@ -1,0 +1,10 @@
+-- `florumeja_to_old`: the value fits, so that the number says the answer.
+use Rattle.meaning.specs.File.{plain}
+use Rattle.writer.specs.Answer.{outcome_of}
+use Rattle.florumeja.specs.Fits.{converts-fit}
+use borrow.Author.Rules.{rules}
+use Rattle.florumeja.proofs.florumeja_to_old.Goals as goal
+
+pub written_number-requires : goal.written_number-requires
+written_number-requires c = let start = c.args in
+    converts-fit plain start.task.now start.room.now (outcome_of c.to_old.result _) c.to_old.ensures

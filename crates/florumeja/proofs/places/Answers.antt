@@ -1,0 +1,19 @@
+-- `places`: each turn copies one more place.
+use Prim.Native.Nat.{◌-◌, ◌≤◌}
+use mathlib.Core.Path.{◌≡◌, refl}
+use native.Mathlib.Omega.{arith}
+use lib.ListN.{length, length-set}
+use borrow.Author.Rules.{rules}
+use Rattle.meaning.specs.Limits.{most_variables}
+use Rattle.florumeja.specs.Places.{SamePlaces, place-copied}
+use Rattle.florumeja.proofs.places.Goals as goal
+
+pub loop-i-init : goal.loop-i-init
+loop-i-init c = (omega arith, refl, λ i l. absurd (omega arith))
+
+pub loop-i-preserved : goal.loop-i-preserved
+loop-i-preserved c = let l = c.loop-i in
+    (omega arith, simp length-set l.invariant.1, place-copied l.copied c.args.words.now l.i _ (omega arith) l.invariant.2 c.place.ensures)
+
+pub returns : goal.returns
+returns c = λ i l. c.loop-i.invariant.2 i (omega arith)

@@ -1,0 +1,15 @@
+-- `places`: each turn copies one more place.
+use Prim.Native.Nat.{◌-◌, ◌≤◌}
+use mathlib.Core.Path.{◌≡◌, refl}
+use native.Mathlib.Omega.{arith}
+use lib.ListN.{length, length-set}
+use borrow.Author.Rules.{rules}
+use Rattle.meaning.specs.Limits.{most_variables}
+use Rattle.florumeja.specs.Places.{SamePlaces, place-copied}
+use Rattle.florumeja.proofs.places.Given as goal
+
+abbrev pub invariant-loop-i : goal.invariant-loop-i
+invariant-loop-i l = (l.i ≤ most_variables) × (length l.copied ≡ most_variables) × SamePlaces l.i l.copied l.words
+
+abbrev pub decreases-loop-i : goal.decreases-loop-i
+decreases-loop-i l = most_variables - l.i

@@ -7,9 +7,12 @@ ghost use Rattle.meaning.specs.Line.{bay_line};
 ghost use Rattle.decimal.specs.Put.{Put};
 ghost use Rattle.text.specs.Parts.{most_digits, refused_bytes};
 
-use libc::{STDERR_FILENO, STDOUT_FILENO};
 use text::REFUSED_BYTES;
 use writer::Written;
+
+const STDOUT_FILENO: i32 = 1;
+
+const STDERR_FILENO: i32 = 2;
 
 // An accepted bay file has at most 2 + 2 * 16 numbers of one byte each. So whatever stands behind these bytes changes no answer and no place: a longer file is
 // refused for a fault in front of it, or because bytes are left over.

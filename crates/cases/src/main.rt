@@ -4,8 +4,9 @@
 
 ghost use Rattle.std.specs.Prelude.{◌+◌, ◌≤◌, length};
 
-use libc::STDOUT_FILENO;
 use verdicts::VERDICT_BYTES;
+
+const STDOUT_FILENO: i32 = 1;
 
 // How many bytes say how long a file is.
 const LENGTH_BYTES: usize = 2;

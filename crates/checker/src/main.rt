@@ -4,11 +4,19 @@
 
 #![tactic(auto)]
 
-ghost use Rattle.std.specs.Prelude.{◌≡◌};
+ghost use Rattle.std.specs.Prelude.{◌≡◌, IfOk};
 ghost use Rattle.io.specs.Counts.{IsPrefixLen};
 
-use libc::{STDERR_FILENO, STDOUT_FILENO};
+use std::alloc::AllocError;
+use std::env::FillError;
+use std::fs::File;
+use std::io::{Error, Read};
+use std::rt::{Env, Files};
 use verdicts::{MOST_TASK, MOST_WEIGHTS, VERDICT_BYTES};
+
+const STDOUT_FILENO: i32 = 1;
+
+const STDERR_FILENO: i32 = 2;
 
 // The program's own name, and the two files.
 const ARGUMENTS: usize = 3;
@@ -26,47 +34,114 @@ struct Loaded {
 }
 
 // Says what failed, and why.
-fn failed(what: &[u8]) -> Loaded
+fn failed(what: &[u8], why: &[u8]) -> Loaded
     ensures { result.count ≡ 0 }
 {
-    os::fail(what);
+    io::write_all(STDERR_FILENO, what);
+    io::write_all(STDERR_FILENO, b": ");
+    io::write_all(STDERR_FILENO, why);
+    io::write_all(STDERR_FILENO, b"\n");
     Loaded {
         is_read: false,
         count: 0,
     }
 }
 
-// Reads an open file. Where a read fails fewer bytes are counted, and the next read fails too.
-fn read(fd: i32, path: &[u8], bytes: &mut [u8]) -> Loaded
-    ensures { IsPrefixLen result.count bytes.new }
+// Says what failed in the system's words, without its number.
+fn failed_by(rt: &HostRuntime, what: &[u8], error: &Error) -> Result<Loaded, AllocError>
+    ensures { IfOk result (λ loaded. loaded.count ≡ 0) }
 {
-    let count = io::read_full(fd, &mut *bytes);
-    let mut next = [0u8; 1];
-    if libc::read(fd, &mut next) < 0 {
-        return failed(path);
+    let told = format!(in rt.alloc(); "{error}")?;
+    let words = told.as_str();
+    let why = match words.split_once(" (os error") {
+        Some((before, _)) => before,
+        None => words,
+    };
+    Ok(failed(what, why.as_bytes()))
+}
+
+// Reads an open file as far as there is room, and answers how many bytes it has till then; where a read fails, with its fault.
+fn fill(file: &mut File, bytes: &mut [u8]) -> (usize, Option<Error>)
+    ensures { IsPrefixLen result.0 bytes.new }
+{
+    let mut count = 0;
+    while count < bytes.len() {
+        match file.read(&mut bytes[count..]) {
+            Ok(0) => {
+                return (count, None);
+            }
+            Ok(more) => {
+                count += more;
+            }
+            Err(error) => {
+                return (count, Some(error));
+            }
+        }
     }
-    Loaded {
+    (count, None)
+}
+
+// Reads an open file. Where a read fails nothing is loaded.
+fn read(
+    rt: &HostRuntime,
+    file: &mut File,
+    path: &[u8],
+    bytes: &mut [u8],
+) -> Result<Loaded, AllocError>
+    ensures { IfOk result (λ loaded. IsPrefixLen loaded.count bytes.new) }
+{
+    let (count, fault) = fill(file, bytes);
+    if let Some(error) = fault {
+        return failed_by(rt, path, &error);
+    }
+    let mut next = [0u8; 1];
+    if let Err(error) = file.read(&mut next) {
+        return failed_by(rt, path, &error);
+    }
+    Ok(Loaded {
         is_read: true,
         count: count,
+    })
+}
+
+// Opens the file of this name and reads it.
+fn load_file(rt: &HostRuntime, path: &[u8], bytes: &mut [u8]) -> Result<Loaded, AllocError>
+    ensures { IfOk result (λ loaded. IsPrefixLen loaded.count bytes.new) }
+{
+    let name = match str::from_utf8(path) {
+        Ok(name) => name,
+        Err(_) => {
+            return Ok(failed(path, b"Invalid argument"));
+        }
+    };
+    match File::open(rt, name) {
+        Ok(file) => {
+            let mut file = file;
+            read(rt, &mut file, path, bytes)
+        }
+        Err(error) => failed_by(rt, path, &error),
     }
 }
 
 // Reads the file that an argument names.
-fn load(argument: usize, bytes: &mut [u8]) -> Loaded
-    ensures { IsPrefixLen result.count bytes.new }
+fn load(rt: &HostRuntime, argument: usize, bytes: &mut [u8]) -> Result<Loaded, AllocError>
+    ensures { IfOk result (λ loaded. IsPrefixLen loaded.count bytes.new) }
 {
     let mut path = io::buffer();
-    let length = os::arg(argument, &mut path);
-    if os::errno() != 0 {
-        return failed(b"argument");
+    match rt.arg(argument, &mut path) {
+        Ok(length) => load_file(rt, &path[..length], bytes),
+        Err(FillError::TooLong) => Ok(failed(b"argument", b"File name too long")),
+        Err(FillError::NotPresent) => Ok(failed(b"argument", b"Invalid argument")),
     }
-    let fd = os::open_read(&path[..length]);
-    if fd < 0 {
-        return failed(&path[..length]);
+}
+
+// Whether the program was given this argument.
+fn is_given(rt: &HostRuntime, argument: usize) -> bool {
+    let mut word = io::buffer();
+    match rt.arg(argument, &mut word) {
+        Err(FillError::NotPresent) => false,
+        _ => true,
     }
-    let loaded = read(fd, &path[..length], &mut *bytes);
-    libc::close(fd);
-    loaded
 }
 
 // Shows the bytes at fault on standard error, in hexadecimal, if there are any.
@@ -99,26 +174,27 @@ fn print<'a>(task: &'a [u8], weights: &'a [u8]) {
 }
 
 // Checks the second file against the first, in the room that each has.
-fn check(task: &mut [u8], weights: &mut [u8]) {
-    let first = load(1, &mut *task);
+fn check(rt: &HostRuntime, task: &mut [u8], weights: &mut [u8]) -> Result<(), AllocError> {
+    let first = load(rt, 1, task)?;
     if !first.is_read {
-        return;
+        return Ok(());
     }
-    let second = load(2, &mut *weights);
+    let second = load(rt, 2, weights)?;
     if !second.is_read {
-        return;
+        return Ok(());
     }
     let n = first.count;
     let m = second.count;
     print(&task[..n], &weights[..m]);
+    Ok(())
 }
 
-fn main() {
-    if os::arg_count() != ARGUMENTS {
+fn main(rt: HostRuntime) -> Result<(), AllocError> {
+    if !is_given(&rt, ARGUMENTS - 1) || is_given(&rt, ARGUMENTS) {
         io::write_all(STDERR_FILENO, b"usage: checker TASK WEIGHTS\n");
-        return;
+        return Ok(());
     }
     let mut task = [0u8; TASK_BYTES];
     let mut weights = [0u8; WEIGHT_BYTES];
-    check(&mut task, &mut weights);
+    check(&rt, &mut task, &mut weights)
 }

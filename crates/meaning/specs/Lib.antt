@@ -18,11 +18,8 @@ pub mod Convert
 pub mod Line
 pub mod History
 pub mod Before
-pub mod Facts
 pub mod PlaceFacts
 pub mod KindFacts
-pub mod FactsOfA
 pub mod LimitFacts
 pub mod LotFacts
 pub mod PartialFacts
-pub mod MendFacts

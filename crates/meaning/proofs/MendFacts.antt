@@ -16,7 +16,7 @@ use Rattle.meaning.specs.File.{item, judge, rising, ended, items_of, size_list, 
 use Rattle.meaning.specs.File.{bytes_of, counted, entry_bytes, operator_bytes, weight_bytes, gaps_from, list_bytes, task_bytes_as, task_bytes}
 use Rattle.meaning.specs.Answer.{done, Outcome, writes, delivered}
 use Rattle.meaning.specs.Mend.{Good, Within, Sublist, Largest, Dropped, mended, Mends, Drops, PairFault, no_fault, start_holds, operator_breaks, LeastHeld, LeastUnclosed, FaultsPairs}
-use Rattle.meaning.specs.Facts.{pair_of_two}
+use Rattle.meaning.proofs.Facts.{pair_of_two}
 
 -- To name one of these on an `unfolding` line opens what pairs are judged with, what files are read with, what bytes are written with.
 pairing : Unit {0}

@@ -12,7 +12,7 @@ use Rattle.meaning.specs.File.{item, judge, ended, items_of, size_list, header, 
 use Rattle.meaning.specs.Workspace.{Content, words_for, packed, words_of, WellFormed}
 use Rattle.meaning.specs.Answer.{Answer, done, Outcome, refuses, Opens, Finding, separated, SeparatesIn, FindsIn, Finds}
 use Rattle.meaning.specs.Line.{Found, nothing, separating, Says}
-use Rattle.meaning.specs.Facts.{pair_of_two, state-none, state-more}
+use Rattle.meaning.proofs.Facts.{pair_of_two, state-none, state-more}
 
 abbrev file_a : List ℕ
 file_a = 2 ∷ 2 ∷ 2 ∷ 0 ∷ 0 ∷ 0 ∷ 1 ∷ 0 ∷ 0 ∷ []

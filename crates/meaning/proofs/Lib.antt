@@ -1,0 +1,3 @@
+mod Facts
+mod FactsOfA
+mod MendFacts

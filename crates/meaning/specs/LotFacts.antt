@@ -1,7 +1,6 @@
 -- Small facts that pin down what lots are, computed. Nothing else builds on them.
 use Rattle.std.specs.Prelude.{ℕ, ◌≡◌, refl, List, [], ◌∷◌, ◌++◌}
 use Rattle.meaning.specs.Sets.{every, flat}
-use Rattle.meaning.specs.Task.{Operator}
 use Rattle.meaning.specs.Feature.{sum_of, pairs_of, atoms, pair_start, double}
 use Rattle.meaning.specs.Number.{Gaps, Unequal, refusal, got, fault, groups, number, numbers_on}
 use Rattle.meaning.specs.File.{item, judge, limited, items_of, ended}

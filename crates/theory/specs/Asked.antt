@@ -1,9 +1,7 @@
 -- What the tool asks of an order, call by call, and what an accepted verdict says then.
 use Rattle.std.specs.Prelude.{ℕ, ◌≡◌, List, take}
 use Rattle.std.proofs.Common.{sym, ◌∙◌, subst}
-use Rattle.meaning.specs.Task.{Task}
 use Rattle.meaning.specs.Number.{got}
-use Rattle.meaning.specs.File.{judged_task}
 use Rattle.meaning.specs.Answer.{done, accepted, Checks}
 use Rattle.meaning.specs.Bay.{Bay, slot_count, neighbours, judged_bay, bay_task, Builds}
 use Rattle.meaning.specs.Partial.{Met, Completes, silenced, Silences, BuildsPartialLean}

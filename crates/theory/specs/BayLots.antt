@@ -4,8 +4,8 @@ use Rattle.std.proofs.Math.Path.{refl, sym, ap₂}
 use Rattle.std.proofs.Common.{◌∙◌, arith}
 use Rattle.std.proofs.Math.Dec.{eqb}
 use borrow.Author.Tests.{eq-eqb, lt-ltb}
-use Rattle.meaning.specs.Sets.{flat, every}
-use Rattle.meaning.specs.Task.{Operator, Task}
+use Rattle.meaning.specs.Sets.{flat}
+use Rattle.meaning.specs.Task.{Operator}
 use Rattle.meaning.specs.Feature.{double}
 use Rattle.meaning.specs.Number.{Read}
 use Rattle.meaning.specs.Bay.{bay_sizes, occurrences, one_gap, equal_lots, judged_lots, once_in, occurs_in, slide, bay_pairs, bay_operators, task_for}

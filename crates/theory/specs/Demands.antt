@@ -22,11 +22,10 @@ use Rattle.theory.specs.Sound.{sound}
 use Rattle.theory.specs.Reading.{by-got}
 use Rattle.theory.specs.ReadBack.{read_back, weights-back}
 use Rattle.theory.specs.Accepted as Files
-use Rattle.theory.specs.Untouched.{Untouched, edit-untouched}
 use Rattle.theory.specs.Histories.{StandsFor, due_for, opened-due, opened-stands, begins-stands, edited-stands, after-due, same-stands, stands-opens, same-words, same-finds}
 use Rattle.theory.specs.Finder.{none_right, some_right, found_right}
 use Rattle.theory.specs.Determined.{finds-only, edits-only, prints-only}
-use Rattle.theory.specs.Refusals.{Faulty, FaultyIn, open_judged, check_judged, find_judged, build_judged, print_judged, RefusesExactly, refuses-exactly, answers-exactly, prints-refused, finds-refused, edits-refused, opens-exactly, checks-exactly, builds-exactly}
+use Rattle.theory.specs.Refusals.{Faulty, FaultyIn, open_judged, check_judged, build_judged, print_judged, RefusesExactly, refuses-exactly, answers-exactly, prints-refused, edits-refused, opens-exactly, checks-exactly, builds-exactly}
 use Rattle.theory.specs.Delivered.{builds-leave}
 use Rattle.theory.specs.BayMoves.{Moves}
 use Rattle.theory.specs.BayTask.{bay-read, bay-moves, bay-unsolvable}
@@ -40,10 +39,6 @@ use Rattle.theory.specs.BayTask.{bay-read, bay-moves, bay-unsolvable}
 -- The task's first fault; then 8.
 pub open-refuses : (task room : List ℕ) → RefusesExactly (Opens task room) room (Faulty (open_judged (judged_task task) room))
 open-refuses task = opens-exactly (judged_task task)
-
--- 9, then 8.
-pub find-refuses : (workspace room : List ℕ) → RefusesExactly (Finds workspace room) room (FaultyIn workspace (find_judged room))
-find-refuses workspace room = refuses-exactly (finds-only workspace room) (λ n left. finds-refused n left workspace room)
 
 -- 9, then the operand's first fault; there is no 8.
 pub edit-refuses : (workspace : List ℕ) (edit : Edit) → RefusesExactly (Edits workspace edit) workspace (FaultyIn workspace (λ c. edit_judged c edit))
@@ -219,7 +214,3 @@ module _ (T U : Task) (file room workspace lent edited : List ℕ) (next k : ℕ
   pub edited-least : (lent lent' : List ℕ) → Finds edited lent (record { answer = done separated; lent = lent' })
       → (w : Set) × LeastOf (features U.sizes) (Separates U) w × (lent' ≡ packed (features U.sizes) w ++ drop (length (packed (features U.sizes) w)) lent)
   edited-least = found_right U edited stands
-
--- "Replacing a start or goal touches only its own words", and adding a move only those of the slots: accepted or refused, and of any workspace.
-pub own-words : (workspace : List ℕ) (edit : Edit) (outcome : Outcome (Unit {0})) → Edits workspace edit outcome → Untouched workspace edit outcome.lent
-own-words = edit-untouched

@@ -14,7 +14,7 @@ use Rattle.meaning.specs.Pair.{paired, possible, clashing, stuck, idle, closed, 
 use Rattle.meaning.specs.Number.{got}
 use Rattle.meaning.specs.File.{operators_of, Writable}
 use Rattle.meaning.specs.Mend.{Good, Within, Sublist, Largest, Dropped, mended}
-use Rattle.theory.specs.Truth.{on, off, test, clash, same}
+use Rattle.theory.specs.Truth.{on, off, test, clash}
 use Rattle.theory.specs.Search.{and_left, and_right, and_both, and-none-left, and-none-right, or_left, or_right, or-either, or-neither, or-none-left, or-none-right, true-together}
 use Rattle.theory.specs.Search.{some_at, some-get, some-not, some-none, some-cong, any_at, any-get, any-not, any_none, any-cong, two_at, two-get, two-cong, member, nobody, which_of, earlier-left, earlier-right, listed_in, in-listed}
 use Rattle.theory.specs.Run.{members, run_in, run-same, run-members, run_inside, listed-members}

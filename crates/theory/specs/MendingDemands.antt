@@ -6,17 +6,16 @@ use Rattle.std.proofs.Math.Logic.Iff
 use Rattle.std.proofs.Math.Bool.{and_comm}
 use Rattle.std.proofs.lemmas.Bool.{not-true, not-false}
 use Rattle.meaning.specs.Sets.{Set, any_of, listed, all_of}
-use Rattle.meaning.specs.Limits.{number_end, fault_words}
+use Rattle.meaning.specs.Limits.{fault_words}
 use Rattle.meaning.specs.Task.{Task, Run}
 use Rattle.meaning.specs.Feature.{atoms, features}
 use Rattle.meaning.specs.Pair.{idle, closed, holds, held_pair, unclosed_pair}
 use Rattle.meaning.specs.Slot.{LeastMember}
 use Rattle.meaning.specs.Weight.{Separates, LeastOf, Unsolvable}
 use Rattle.meaning.specs.Number.{Reason, Held, Unclosed, Small, refusal, Read, got, fault, on_read}
-use Rattle.meaning.specs.File.{Kind, kind_of, task_of, judged_pairs, judged_task, judged_weights, weight_bytes, task_bytes_as, task_bytes}
+use Rattle.meaning.specs.File.{Kind, kind_of, task_of, judged_pairs, judged_task, judged_weights, weight_bytes, task_bytes_as}
 use Rattle.meaning.specs.Workspace.{words_for, has, packed}
 use Rattle.meaning.specs.Answer.{Answer, done, refused, Outcome, refuses, writes, delivered, by_read, accepted, Checks, Opens, Finding, none, separated, Finds, fine, need}
-use Rattle.meaning.specs.History.{Event, Edited, task_after, SameTask}
 use Rattle.meaning.specs.Mend.{Good, Largest, Dropped, mended, Mends, Drops, PairFault, no_fault, start_holds, operator_breaks, LeastHeld, LeastUnclosed, FindsFault, FaultsPairs}
 use Rattle.theory.specs.Truth.{on, off, test, clash}
 use Rattle.theory.specs.Search.{and_left, and_right, and_both, or-none-left, or-none-right, some-not, all-each, all-not, true-together}
@@ -36,7 +35,7 @@ use Rattle.theory.specs.Mending.{largest-only, largest-exists, dropped-exists, g
 use Rattle.theory.specs.Determined.{mends-only, drops-only, faults-only}
 use Rattle.theory.specs.Refusals.{Faulty, room_judged, file_judged, fault_judged, FaultyMend, FaultyDrop, RefusesExactly, refuses-exactly, mends-refused, drops-refused, faults-refused}
 use Rattle.theory.specs.Delivered.{not-refused, delivered-written, delivered-leaves}
-use Rattle.theory.specs.Demands.{Afresh, accepts-exactly, accepted-unsolvable, none-exactly, some-found, least-given, found-accepted, written-afresh}
+use Rattle.theory.specs.Demands.{accepts-exactly, accepted-unsolvable, none-exactly, some-found, least-given, found-accepted}
 
 -- ---- demand 1: refusals
 
@@ -376,12 +375,6 @@ module _ (task room left : List ℕ) (k : ℕ) (mends : Mends task room (record 
     pub mended-found : (lent lent' : List ℕ) → Finds workspace lent (record { answer = done separated; lent = lent' })
         → Checks (take k left) (weight_bytes (members (features mended_task.sizes) (has lent'))) (done accepted)
     mended-found = found-accepted (take k left) mended_task k file.accepted-as space workspace due opens
-
-    -- Demand 3: the workspace, changed only by edits, refused ones among them, has the words and the answers of one that is opened afresh from the mended task's file with these edits.
-    pub mended-edited : (U : Task) (lent edited : List ℕ) (events : List Event) → take due lent ≡ take due workspace → Edited lent events edited
-        → SameTask (task_after mended_task events) U → length U.operators < number_end → Afresh (task_bytes U) edited due
-    mended-edited U lent edited events begins edits same =
-        written-afresh mended_task U (take k left) space workspace lent edited k due events file.accepted-as opens begins edits same
 
 -- ---- the pair behind a refusal
 

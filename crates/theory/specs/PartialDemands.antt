@@ -14,7 +14,6 @@ use Rattle.meaning.specs.Number.{Held, Unclosed, Outgrown, Read, got, fault, on_
 use Rattle.meaning.specs.File.{plain, judged_pairs, judged_task, judged_weights, weight_bytes, task_bytes}
 use Rattle.meaning.specs.Workspace.{words_for, has, packed}
 use Rattle.meaning.specs.Answer.{Answer, done, refused, Outcome, Verdict, accepted, ChecksAs, Checks, OpensAs, Opens, Finding, none, separated, Finds, Judged, fine, faulty, need}
-use Rattle.meaning.specs.History.{Event, Edited, task_after, SameTask}
 use Rattle.meaning.specs.Partial.{Partial, Reaches, Met, Ordered, built_sizes, built_pairs, built_task, left_out, left_out_lean, partial_of, partial_bytes, judged_partial}
 use Rattle.meaning.specs.Partial.{OpensPartial, ChecksPartial, BuildsBy, BuildsPartialLean, silenced, marks_judged, silences_by, Silences}
 use Rattle.theory.specs.Truth.{clash}
@@ -28,7 +27,7 @@ use Rattle.theory.specs.Determined.{silences-only}
 use Rattle.theory.specs.Refusals.{Faulty, RefusesExactly, refuses-exactly, file_judged, open_judged, check_judged, build_judged, silence_judged}
 use Rattle.theory.specs.Refusals.{opens-exactly, checks-exactly, builds-exactly, silences-refused}
 use Rattle.theory.specs.Delivered.{Leaves, not-refused, delivered-leaves, builds-leave}
-use Rattle.theory.specs.Demands.{Afresh, accepts-exactly, not-accepted, accepted-unsolvable, none-exactly, some-found, least-given, found-accepted, written-afresh}
+use Rattle.theory.specs.Demands.{accepts-exactly, not-accepted, accepted-unsolvable, none-exactly, some-found, least-given, found-accepted}
 use Rattle.theory.specs.PartialPairs.{built-run, built-count, paired-known, paired-unknown}
 use Rattle.theory.specs.PartialPlans.{Permitted, letter-permitted, lean-permitted}
 use Rattle.theory.specs.PartialFile.{AcceptedPartial, accepted-partial}
@@ -213,15 +212,6 @@ module _ (file : List ℕ) (out : Partial → ℕ → ℕ → Bool) (T : Task) (
     pub partial-found : (lent lent' : List ℕ) → Finds workspace lent (record { answer = done separated; lent = lent' })
         → ChecksAs plain (judged_partial out file) (weight_bytes (members (features T.sizes) (has lent'))) (done accepted)
     partial-found lent lent' finds = (checks-built _ (done accepted)).1 (found-accepted (task_bytes T) T (length (task_bytes T)) built-accepted room workspace k as-built lent lent' finds)
-
-    -- ---- demand 3
-
-    -- The workspace, changed only by edits, refused ones among them, has the words and the answers of one that is opened afresh from the built task's file with these edits. "An edit of its
-    -- workspace brings back none that were left out, so after one the answer speaks of the moves kept": U has the moves that the built task kept, and those that were added.
-    pub partial-edited : (U : Task) (lent edited : List ℕ) (events : List Event) → take k lent ≡ take k workspace → Edited lent events edited → SameTask (task_after T events) U
-        → length U.operators < number_end → Afresh (task_bytes U) edited k
-    partial-edited U lent edited events begins edits same =
-        written-afresh T U (task_bytes T) room workspace lent edited (length (task_bytes T)) k events built-accepted as-built begins edits same
 
 -- ---- what an accepted verdict says of the order
 

@@ -8,7 +8,7 @@ _florumeja_files() {
 
 _florumeja() {
     local word=${COMP_WORDS[COMP_CWORD]} before=${COMP_WORDS[COMP_CWORD - 1]}
-    local commands='ask report verify find check build silence mend convert open show' options
+    local commands='ask report find check build silence mend convert open' options
     COMPREPLY=()
 
     # The script of a checkout installs as well.
@@ -28,24 +28,22 @@ _florumeja() {
         mapfile -t COMPREPLY < <(compgen -W 'auto always never' -- "$word")
         return
         ;;
-    -o | --output | --weights | --task | --evidence | --to)
+    -o | --output | --weights | --task | --to)
         _florumeja_files "$word"
         return
         ;;
-    # Nobody but the one who asks knows the marks, the shape, or how long to wait.
-    --marks | --bay | --ways) return ;;
+    # Nobody but the one who asks knows the marks, or the shape.
+    --marks | --bay) return ;;
     esac
     case ${COMP_WORDS[1]} in
-    ask) options='--evidence --weights --task --cells --ways --csv --progress --json --help' ;;
-    report) options='--output --cells --ways --progress --json --help' ;;
-    verify) options='--json --help' ;;
+    ask) options='--weights --task --progress --json --help' ;;
+    report) options='--output --progress --json --help' ;;
     find | open) options='--output --partial --lean --progress --json --help' ;;
     build) options='--output --partial --lean --json --help' ;;
     check) options='--new --partial --lean --json --help' ;;
     silence) options='--marks --output --json --help' ;;
     mend) options='--bay --output --json --help' ;;
     convert) options='--output --weights --to --old --new --json --help' ;;
-    show) options='--json --help' ;;
     install)
         _florumeja_files "$word"
         return

@@ -28,8 +28,6 @@ const ALIKE: [u64; 16] = [2, 2, 2, 0, 1, 0, 1, 0, 0, 0, 0, 0, 0, 0, 0, 0];
 
 /// A task that begins so, with a workspace that would be large, is opened slowly.
 const SLOW: [u8; 6] = [5, 64, 64, 64, 64, 2];
-/// A bay file that begins so is built slowly.
-const SLOW_BAY: [u8; 2] = [1, 9];
 const SLOWLY: Duration = Duration::from_millis(1500);
 
 /// Opens every task of no bytes as one workspace, and all others as another; a task that asks for a
@@ -121,12 +119,6 @@ unsafe fn write(bytes: &[u8], room: *mut u8, length: usize) -> u64 {
     bytes.len() as u64
 }
 
-/// Takes every goal, and leaves the workspace as it is.
-#[no_mangle]
-pub extern "C" fn florumeja_replace_goal(_: *mut u64, _: usize, _: *const u64, _: usize) -> u64 {
-    0
-}
-
 /// A task of no bytes; for three rows, an answer outside the table of answers, and four are refused.
 ///
 /// # Safety
@@ -138,11 +130,7 @@ pub unsafe extern "C" fn florumeja_build(
     _: *mut u8,
     _: usize,
 ) -> u64 {
-    let bay = std::slice::from_raw_parts(bay, length);
-    if bay.starts_with(&SLOW_BAY) {
-        sleep(SLOWLY);
-    }
-    match bay {
+    match std::slice::from_raw_parts(bay, length) {
         [3, ..] => UNKNOWN,
         [4, ..] => REFUSED | 2,
         _ => 0,

@@ -1,6 +1,5 @@
 //! Reads the words of a command line against the options that a command takes.
 
-use crate::words::shown;
 use std::ffi::{OsStr, OsString};
 use std::os::unix::ffi::OsStrExt;
 
@@ -34,15 +33,6 @@ impl Choice {
         word == self.long || self.short.is_some_and(|short| word == short)
     }
 
-    /// The option as a usage line and a message show it: -o FILE.
-    pub fn brief(&self) -> String {
-        let word = self.short.unwrap_or(self.long);
-        match self.value {
-            Some(value) => format!("{word} {value}"),
-            None => word.to_string(),
-        }
-    }
-
     /// The option as a line of help shows it.
     pub fn shown(&self) -> String {
         let mut words = self.long.to_string();
@@ -74,12 +64,6 @@ impl Arguments {
     }
 }
 
-/// Whether a program asks, on a command line that may not fit.
-pub fn ask_for_json(words: &[OsString]) -> bool {
-    let mut words = words.iter().take_while(|word| *word != "--");
-    words.any(|word| JSON.is(word))
-}
-
 /// Parts options from files; the message says what does not fit.
 pub fn read(words: &[OsString], choices: &[&'static Choice]) -> Result<Arguments, String> {
     let mut arguments = Arguments {
@@ -94,7 +78,7 @@ pub fn read(words: &[OsString], choices: &[&'static Choice]) -> Result<Arguments
             arguments.files.push(word.clone());
         } else {
             let (name, attached) = split(word);
-            let shown = shown(name);
+            let shown = name.to_string_lossy();
             let choice = choices.iter().find(|choice| choice.is(name));
             let choice = choice.ok_or_else(|| format!("unknown option {shown}"))?;
             let value = value(choice, attached, &mut words)?;
@@ -112,17 +96,15 @@ fn value<'a>(
     attached: Option<&OsStr>,
     words: &mut impl Iterator<Item = &'a OsString>,
 ) -> Result<OsString, String> {
-    let Some(name) = choice.value else {
-        return match attached {
-            None => Ok(OsString::new()),
-            Some(_) => Err(format!("{} takes no value", choice.long)),
-        };
-    };
-    let value = attached.or_else(|| words.next().map(OsString::as_os_str));
-    // No option means anything by an empty value; in a script it is a variable that was not set.
-    let value = value.filter(|value| !value.is_empty());
-    let value = value.ok_or_else(|| format!("{} needs a {name}", choice.long));
-    value.map(OsStr::to_os_string)
+    match (choice.value, attached) {
+        (None, None) => Ok(OsString::new()),
+        (None, Some(_)) => Err(format!("{} takes no value", choice.long)),
+        (Some(_), Some(value)) => Ok(value.to_os_string()),
+        (Some(name), None) => words
+            .next()
+            .cloned()
+            .ok_or_else(|| format!("{} needs a {name}", choice.long)),
+    }
 }
 
 // Parts --weights=FILE at its first equals sign.
@@ -171,29 +153,8 @@ mod tests {
     fn what_does_not_fit_is_named() {
         let message = |words: &[&str]| read_words(words).err().unwrap();
         assert_eq!(message(&["--jsn"]), "unknown option --jsn");
-        assert_eq!(message(&["--\u{1b}[31m"]), "unknown option --?[31m");
         assert_eq!(message(&["--json=1"]), "--json takes no value");
         assert_eq!(message(&["--weights"]), "--weights needs a FILE");
         assert_eq!(message(&["--json", "--json"]), "--json is given twice");
-        for words in [&["--weights="][..], &["--weights", ""], &["-w", "", "a"]] {
-            assert_eq!(message(words), "--weights needs a FILE");
-        }
-    }
-
-    #[test]
-    fn a_file_named_json_asks_for_nothing() {
-        let asks = |words: &[&str]| {
-            let words: Vec<OsString> = words.iter().map(OsString::from).collect();
-            ask_for_json(&words)
-        };
-        assert!(asks(&["--jsn", "a", "--json", "--", "b"]));
-        assert!(!asks(&["--jsn", "--", "--json"]));
-        assert!(!asks(&["json", "--json=1"]));
-    }
-
-    #[test]
-    fn options_are_brief_in_a_usage_line() {
-        assert_eq!(WEIGHTS.brief(), "-w FILE");
-        assert_eq!(JSON.brief(), "--json");
     }
 }

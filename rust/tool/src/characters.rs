@@ -1,8 +1,5 @@
 //! Which characters show themselves, and how the others are named.
 
-/// How a text in UTF-16 begins.
-pub const UTF_16: [&[u8]; 2] = [b"\xff\xfe", b"\xfe\xff"];
-
 /// What parts labels.
 pub fn is_blank(character: char) -> bool {
     matches!(character, ' ' | '\t')
@@ -28,8 +25,7 @@ fn is_sign(character: char) -> bool {
 }
 
 fn is_letter(character: char) -> bool {
-    let hidden = is_right_to_left(character) || is_filler(character) || is_combining(character);
-    character.is_alphanumeric() && !hidden
+    character.is_alphanumeric() && !is_right_to_left(character) && !is_filler(character)
 }
 
 // One such letter turns its whole line round on the screen, labels and all.
@@ -47,30 +43,6 @@ fn is_right_to_left(character: char) -> bool {
 // Letters of Hangul that show nothing.
 fn is_filler(character: char) -> bool {
     matches!(character, '\u{115f}' | '\u{1160}' | '\u{3164}' | '\u{ffa0}')
-}
-
-// Marks that are drawn on the letter before them.
-fn is_combining(character: char) -> bool {
-    matches!(
-        character,
-        '\u{300}'..='\u{36f}'
-            | '\u{1ab0}'..='\u{1aff}'
-            | '\u{1dc0}'..='\u{1dff}'
-            | '\u{20d0}'..='\u{20ff}'
-            | '\u{fe20}'..='\u{fe2f}'
-    )
-}
-
-// Pictures, and what makes a picture of the character before it.
-fn is_emoji(character: char) -> bool {
-    matches!(
-        character,
-        '\u{2300}'..='\u{23ff}'
-            | '\u{2600}'..='\u{27bf}'
-            | '\u{2b00}'..='\u{2bff}'
-            | '\u{fe00}'..='\u{fe0f}'
-            | '\u{1f000}'..='\u{1faff}'
-    )
 }
 
 /// A character by number, with its name where nothing is seen of it and it is a usual one.
@@ -97,7 +69,6 @@ fn name(character: char) -> Option<&'static str> {
         '\u{a0}' | '\u{202f}' => "no-break space",
         '\u{ad}' => "soft hyphen",
         '\u{200b}' => "zero width space",
-        '\u{200d}' => "zero width joiner",
         '\u{200e}' | '\u{200f}' | '\u{202a}'..='\u{202e}' | '\u{2066}'..='\u{2069}' => {
             "a mark that changes the direction of the text"
         }
@@ -106,11 +77,6 @@ fn name(character: char) -> Option<&'static str> {
         '\u{3000}' => "ideographic space",
         '\u{feff}' => "byte order mark",
         c if is_right_to_left(c) => "its line would be shown from right to left",
-        c if is_combining(c) => {
-            "a mark that combines with the letter before it; type the letter with its mark as one \
-             character"
-        }
-        c if is_emoji(c) => "an emoji or a drawn sign",
         _ => return None,
     })
 }
@@ -134,7 +100,7 @@ mod tests {
         let formats = "\u{ad}\u{180e}\u{200b}\u{200c}\u{200d}\u{2060}\u{2062}\u{206f}\u{feff}\u{fff9}\u{e0001}";
         let directions =
             "\u{61c}\u{200e}\u{200f}\u{202a}\u{202e}\u{2066}\u{2069}\u{5d0}\u{627}\u{660}";
-        let combining = "\u{300}\u{345}\u{363}\u{338}\u{34f}\u{20dd}\u{fe0f}\u{1d173}\u{e0100}";
+        let combining = "\u{300}\u{338}\u{34f}\u{20dd}\u{fe0f}\u{1d173}\u{e0100}";
         let fillers = "\u{115f}\u{1160}\u{3164}\u{ffa0}";
         let unassigned = "\u{378}\u{590}\u{e000}\u{fffc}\u{fffd}\u{f0000}\u{10ffff}";
         let others = [
@@ -155,19 +121,5 @@ mod tests {
             named('\u{5d0}'),
             "U+05D0 (its line would be shown from right to left)"
         );
-        let mark =
-            "a mark that combines with the letter before it; type the letter with its mark as \
-                    one character";
-        for character in "\u{308}\u{36f}\u{1dc4}\u{20dd}\u{fe20}".chars() {
-            let number = format!("U+{:04X}", character as u32);
-            assert_eq!(named(character), format!("{number} ({mark})"));
-        }
-        for character in "\u{1f4e6}\u{1f69a}\u{2705}\u{26a0}\u{fe0f}\u{2b50}".chars() {
-            let number = format!("U+{:04X}", character as u32);
-            assert_eq!(
-                named(character),
-                format!("{number} (an emoji or a drawn sign)")
-            );
-        }
     }
 }

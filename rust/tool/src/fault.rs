@@ -3,9 +3,7 @@
 use crate::characters::is_plain;
 use crate::json::Json;
 use crate::pair_list::Culprit;
-use crate::place::{Detail, Place};
-use crate::refusal::{Refusal, Subject};
-use crate::words::{cell_name, place};
+use crate::place::Place;
 
 /// How much of a long line is shown, and how much of it before the place.
 const WIDEST_PART: usize = 70;
@@ -22,21 +20,15 @@ const NOT_MENDED: &str = "florumeja mend mends task files, not partial files";
 #[derive(Debug)]
 pub enum Fault {
     /// The text of a bay is at fault at one place.
-    Text(Box<TextFault>),
+    Text(TextFault),
     /// The library refused, by this number.
     Refused(u32),
-    /// The same, and what is at fault.
-    Known(Refusal),
-    /// The library refused a binary file at this place.
-    Placed(Box<Place>),
-    /// The library refused a binary file at no place, and this is what is counted in it.
-    Counted(Detail),
-    /// Another fault, and what may help.
-    Explained(Box<Fault>, String),
+    /// The same, and what may help.
+    Explained(u32, String),
+    /// The library refused a binary file at this place, and what may help.
+    Placed(Box<Place>, Option<String>),
     /// The library refused a pair list, and this pair is behind it.
     Pair(Culprit),
-    /// There is not enough memory: it takes so many megabytes more.
-    Memory(usize),
     /// Files, the command line, or answers that do not fit together.
     Failure(String),
 }
@@ -46,13 +38,11 @@ pub enum Fault {
 pub struct TextFault {
     pub line: usize,
     pub column: usize,
-    /// Which cell of the line, from 1, where the text is of a spreadsheet.
-    pub cell: Option<usize>,
     pub expected: String,
     pub found: String,
     pub source: String,
     /// The library's refusal, where it was the library that found the fault.
-    pub refusal: Option<Refusal>,
+    pub refusal: Option<u32>,
 }
 
 impl Fault {
@@ -68,102 +58,71 @@ impl Fault {
 
     /// Says of a partial file that limits and pairs are judged on the task that is built of it.
     pub fn of_partial(self) -> Fault {
-        match self.refusal().map(|refusal| refusal.number) {
-            Some(2) => self.known(Subject::BuiltTask).explained(ONE_MORE_VALUE),
+        match self.refusal() {
+            Some(2) => self.explained(ONE_MORE_VALUE),
             Some(6) => self.explained(NOT_MENDED),
             Some(7) => self.explained(&format!("{NO_LONGER_IDLE}; {NOT_MENDED}")),
             _ => self,
         }
     }
 
-    /// Says of a refusal of which only the number is known what is at fault.
-    pub fn known(self, subject: Subject) -> Fault {
-        match self {
-            Fault::Refused(number) => Fault::Known(Refusal::about(number, Some(subject))),
-            other => other,
-        }
-    }
-
     /// Adds to a refusal what may help, unless something does already.
     pub fn explained(self, words: &str) -> Fault {
+        let words = words.to_string();
         match self {
-            Fault::Refused(_) | Fault::Known(_) | Fault::Placed(_) | Fault::Counted(_) => {
-                self.with_help(words)
-            }
+            Fault::Refused(number) => Fault::Explained(number, words),
+            Fault::Placed(place, None) => Fault::Placed(place, Some(words)),
             other => other,
         }
-    }
-
-    /// Adds to any fault what may help.
-    pub fn with_help(self, words: &str) -> Fault {
-        Fault::Explained(Box::new(self), words.to_string())
     }
 
     /// One line that says what is wrong.
     pub fn words(&self) -> String {
         match self {
             Fault::Text(fault) => fault.words(),
-            Fault::Refused(number) => Refusal::new(*number).words(),
-            Fault::Known(refusal) => refusal.words(),
-            Fault::Placed(place) => {
-                format!("refused {}: {}", place.refusal, place.words())
+            Fault::Refused(number) => refusal_words(*number),
+            Fault::Explained(number, words) => format!("{} ({words})", refusal_words(*number)),
+            Fault::Placed(place, help) => {
+                let help = help.as_ref().map(|words| format!(" ({words})"));
+                let refused = format!("refused {}: {}", place.refusal, place.words());
+                refused + &help.unwrap_or_default()
             }
-            Fault::Counted(detail) => {
-                format!("refused {}: {}", detail.refusal().number, detail.words())
-            }
-            Fault::Explained(fault, words) => format!("{} ({words})", fault.words()),
             Fault::Pair(culprit) => {
-                let refusal = Refusal::new(culprit.refusal()).words();
+                let refusal = refusal_words(culprit.refusal());
                 format!("{refusal} ({}; {MEND})", culprit.words())
-            }
-            Fault::Memory(megabytes) => {
-                format!("there is not enough memory: this takes {megabytes} MB more")
             }
             Fault::Failure(words) => words.clone(),
         }
     }
 
-    /// The refusal, where it was the library that refused.
-    pub fn refusal(&self) -> Option<Refusal> {
+    // The number, where it was the library that refused.
+    fn refusal(&self) -> Option<u32> {
         match self {
             Fault::Text(fault) => fault.refusal,
-            Fault::Refused(number) => Some(Refusal::new(*number)),
-            Fault::Known(refusal) => Some(*refusal),
-            Fault::Placed(place) => Some(place.about()),
-            Fault::Counted(detail) => Some(detail.refusal()),
-            Fault::Explained(fault, _) => fault.refusal(),
-            Fault::Pair(culprit) => Some(Refusal::new(culprit.refusal())),
-            Fault::Memory(_) | Fault::Failure(_) => None,
+            Fault::Refused(number) | Fault::Explained(number, _) => Some(*number),
+            Fault::Placed(place, _) => Some(place.refusal),
+            Fault::Pair(culprit) => Some(culprit.refusal()),
+            Fault::Failure(_) => None,
         }
     }
 
     /// The word that leads a line about it.
     pub fn heading(&self) -> &'static str {
         match self {
-            Fault::Explained(fault, _) => fault.heading(),
-            Fault::Memory(_) | Fault::Failure(_) => "ERROR",
+            Fault::Failure(_) => "ERROR",
             _ => "REFUSED",
         }
-    }
-
-    /// The same with the words behind it.
-    pub fn headed(&self) -> String {
-        format!("{}: {}", self.heading(), self.words())
     }
 
     /// All that is known, for a person: the words, then the line of the text or the bytes around the
     /// place, with a mark below.
     pub fn message(&self, name: &str) -> String {
-        format!("{name}: {}{}", self.words(), self.pointer())
-    }
-
-    fn pointer(&self) -> String {
-        match self {
+        let pointer = match self {
             Fault::Text(fault) => fault.pointer(),
-            Fault::Placed(place) => place.pointer().to_string(),
-            Fault::Explained(fault, _) => fault.pointer(),
+            Fault::Placed(place, _) => place.pointer().to_string(),
             _ => String::new(),
-        }
+        };
+        format!("{name}: {}{pointer}", self.words())
     }
 
     /// The same for a program.
@@ -174,34 +133,25 @@ impl Fault {
             ("answer", Json::Text(answer)),
             ("message", Json::Text(self.words())),
         ];
-        let refusal = self.refusal().map(|refusal| refusal.json());
+        let refusal = self.refusal().map(refusal_json);
         fields.extend(refusal.map(|refusal| ("refusal", refusal)));
-        fields.extend(self.fields());
-        Json::Object(fields)
-    }
-
-    // What only this fault has.
-    fn fields(&self) -> Vec<(&'static str, Json)> {
         match self {
-            Fault::Text(fault) => fault.fields(),
-            Fault::Placed(place) => place.fields(),
-            Fault::Counted(detail) => detail.fields(),
-            Fault::Explained(fault, _) => fault.fields(),
-            Fault::Pair(culprit) => vec![("pair", culprit.json())],
-            Fault::Refused(_) | Fault::Known(_) | Fault::Memory(_) | Fault::Failure(_) => {
-                Vec::new()
-            }
+            Fault::Text(fault) => fields.extend(fault.fields()),
+            Fault::Placed(place, _) => fields.extend(place.fields()),
+            Fault::Pair(culprit) => fields.push(("pair", culprit.json())),
+            Fault::Refused(_) | Fault::Explained(..) | Fault::Failure(_) => {}
         }
+        Json::Object(fields)
     }
 }
 
 impl TextFault {
     fn words(&self) -> String {
+        let TextFault { line, column, .. } = self;
         let (expected, found) = (&self.expected, &self.found);
-        let place = place(self.line, self.column, self.cell);
-        let place = format!("{place}: expected {expected}, found {found}");
+        let place = format!("line {line}, column {column}: expected {expected}, found {found}");
         match self.refusal {
-            Some(refusal) => format!("{place} ({})", refusal.words()),
+            Some(number) => format!("{place} ({})", refusal_words(number)),
             None => place,
         }
     }
@@ -219,21 +169,41 @@ impl TextFault {
     }
 
     fn fields(&self) -> Vec<(&'static str, Json)> {
-        let mut fields = match self.cell {
-            Some(cell) => vec![
-                ("cell", Json::Text(cell_name(self.line, cell))),
-                ("row", Json::number(self.line)),
-                ("column", Json::number(cell)),
-            ],
-            None => vec![
-                ("line", Json::number(self.line)),
-                ("column", Json::number(self.column)),
-            ],
-        };
-        fields.push(("expected", Json::text(&self.expected)));
-        fields.push(("found", Json::text(&self.found)));
-        fields
+        vec![
+            ("line", Json::number(self.line)),
+            ("column", Json::number(self.column)),
+            ("expected", Json::text(&self.expected)),
+            ("found", Json::text(&self.found)),
+        ]
     }
+}
+
+/// A refusal by number and in words.
+pub fn refusal_words(number: u32) -> String {
+    let meaning = match number {
+        1 => "input ends inside what is due",
+        2 => "the count of variables, a size, the count of features, or a bay dimension breaks its limit",
+        3 => "a value, variable, entry count, feature, label or mark is outside its range, a list of new values or marks has the wrong length, or a new file does not begin with 0",
+        4 => "entries, pairs or weights do not increase",
+        5 => "bytes are left over",
+        6 => "the start holds a listed pair",
+        7 => "the pairs are not closed under an operator",
+        8 => "lent room is too small",
+        9 => "a workspace is not well formed",
+        10 => "a bay has no gap or more than one",
+        11 => "start and goal do not hold each label equally often",
+        12 => "a number is not in its shortest form",
+        13 => "the third byte of a number says that more follows",
+        _ => "a number that this tool has no words for",
+    };
+    format!("refused {number}: {meaning}")
+}
+
+fn refusal_json(number: u32) -> Json {
+    Json::Object(vec![
+        ("number", Json::number(number as usize)),
+        ("words", Json::Text(refusal_words(number))),
+    ])
 }
 
 fn plain(character: char) -> char {

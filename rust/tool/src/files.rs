@@ -5,24 +5,17 @@ use crate::words::reason;
 use std::ffi::{OsStr, OsString};
 use std::fs::{self, File};
 use std::io::{self, Read};
-use std::os::unix::ffi::OsStrExt;
 use std::os::unix::fs::MetadataExt;
 use std::path::{Path, PathBuf};
 
 /// The name that stands for standard input or output.
 const STANDARD: &str = "-";
-/// Folders may hold other things too; bays are the files that end so, or as files of cells do.
+/// Folders may hold other things too; bays are the files that end so.
 const BAY_ENDING: &str = "txt";
-/// How files end that spreadsheets write as text.
-const CELL_ENDINGS: [&str; 2] = ["csv", "tsv"];
-/// All these in words.
-pub const BAY_ENDINGS: &str = ".txt, .csv or .tsv";
 /// No binary file of the rules is as long; a file without end must not fill the memory.
 const MOST_BYTES: u64 = 1 << 29;
 /// The same for the text of a bay, which has sixteen slots at most.
 const MOST_TEXT: u64 = 1 << 20;
-/// The same for a file of evidence, which may have weights for thousands of ways.
-const MOST_EVIDENCE: u64 = 1 << 28;
 
 /// Reads a binary file, or standard input.
 pub fn read(name: &OsStr) -> Result<Vec<u8>, Fault> {
@@ -32,11 +25,6 @@ pub fn read(name: &OsStr) -> Result<Vec<u8>, Fault> {
 /// Reads the text of a bay.
 pub fn read_text(name: &OsStr) -> Result<Vec<u8>, Fault> {
     read_up_to(MOST_TEXT, name)
-}
-
-/// Reads a file of evidence.
-pub fn read_evidence(name: &OsStr) -> Result<Vec<u8>, Fault> {
-    read_up_to(MOST_EVIDENCE, name)
 }
 
 fn read_up_to(most: u64, name: &OsStr) -> Result<Vec<u8>, Fault> {
@@ -81,31 +69,6 @@ fn place(name: &OsStr) -> Option<PathBuf> {
         _ => Path::new("."),
     };
     Some(fs::canonicalize(folder).ok()?.join(path.file_name()?))
-}
-
-/// Whether there is a file by this name; a device or a pipe keeps nothing.
-pub fn is_file(name: &OsStr) -> bool {
-    Path::new(name).is_file()
-}
-
-/// A file that is there by this name, or by this name with a number behind it, as in NAME.12.
-pub fn there_already(name: &OsStr) -> Option<OsString> {
-    if is_file(name) {
-        return Some(name.to_os_string());
-    }
-    let path = place(name)?;
-    let (folder, own) = (path.parent()?, path.file_name()?.as_encoded_bytes());
-    let entries = fs::read_dir(folder).ok()?.filter_map(Result::ok);
-    let mut names = entries.map(|entry| entry.file_name());
-    let found = names.find(|other| {
-        let number = other.as_encoded_bytes().strip_prefix(own);
-        let number = number.and_then(|rest| rest.strip_prefix(b"."));
-        number.is_some_and(|rest| !rest.is_empty() && rest.iter().all(u8::is_ascii_digit))
-    })?;
-    // As it was asked for, with the number behind it.
-    let mut there = name.to_os_string();
-    there.push(OsStr::from_bytes(&found.as_encoded_bytes()[own.len()..]));
-    Some(there)
 }
 
 pub fn is_standard(name: &OsStr) -> bool {
@@ -166,18 +129,8 @@ impl Folder {
 }
 
 fn is_bay(path: &Path) -> bool {
-    ends_in(path, BAY_ENDING) || holds_cells(path.as_os_str())
-}
-
-/// Whether the name of a file says that it holds cells of a spreadsheet.
-pub fn holds_cells(name: &OsStr) -> bool {
-    let mut endings = CELL_ENDINGS.iter();
-    endings.any(|ending| ends_in(Path::new(name), ending))
-}
-
-fn ends_in(path: &Path, ending: &str) -> bool {
-    let found = path.extension().unwrap_or_default();
-    found.eq_ignore_ascii_case(ending)
+    let ending = path.extension().unwrap_or_default();
+    ending.eq_ignore_ascii_case(BAY_ENDING)
 }
 
 // Nobody may ever write to a pipe that lies in a folder, so it is not waited for.

@@ -20,17 +20,6 @@ impl Json {
         Json::Number(number)
     }
 
-    /// An object with one more member.
-    pub fn with(self, name: &'static str, value: Json) -> Json {
-        match self {
-            Json::Object(mut fields) => {
-                fields.push((name, value));
-                Json::Object(fields)
-            }
-            other => other,
-        }
-    }
-
     pub fn numbers(numbers: &[usize]) -> Json {
         Json::List(numbers.iter().copied().map(Json::Number).collect())
     }

@@ -3,15 +3,11 @@
 mod answer;
 mod args;
 mod bay;
-mod bay_task;
 mod bay_text;
-mod binary;
-mod breaking;
 mod characters;
 mod commands;
 mod date;
 mod digest;
-mod evidence;
 mod fault;
 mod features;
 mod files;
@@ -21,14 +17,12 @@ mod keeping;
 mod library;
 mod notation;
 mod numbers;
-mod operator;
 mod output;
 mod pair_list;
 mod picture;
 mod place;
 mod progress;
 mod question;
-mod refusal;
 mod report;
 mod sizes;
 mod words;
@@ -52,21 +46,20 @@ fn main() -> ExitCode {
 }
 
 fn start(words: &[OsString]) -> Status {
-    let in_json = args::ask_for_json(words);
     let Some((first, rest)) = words.split_first() else {
         complain(&format!("a command is needed\n\n{}", help::tool()));
         return Status::Refused;
     };
     if first == "--help" || first == "-h" || first == "help" {
-        return show_help(rest, in_json);
+        return show_help(rest);
     }
     if first == "--version" {
         say(&format!("florumeja {VERSION}\n"));
         return Status::Yes;
     }
     match command_named(first) {
-        Some(command) => run(command, rest, in_json),
-        None => unknown_command(first, in_json),
+        Some(command) => run(command, rest),
+        None => unknown_command(first),
     }
 }
 
@@ -74,38 +67,34 @@ fn command_named(name: &OsString) -> Option<&'static Command> {
     COMMANDS.iter().find(|command| name == command.name)
 }
 
-fn unknown_command(name: &OsString, in_json: bool) -> Status {
-    let message = format!("unknown command {}", words::shown(name));
-    match in_json {
-        true => commands::say_json(&commands::usage_error(&message, help::USAGE)),
-        false => complain(&format!("{message}; try florumeja --help")),
-    }
+fn unknown_command(name: &OsString) -> Status {
+    let name = words::shown(name);
+    complain(&format!("unknown command {name}; try florumeja --help"));
     Status::Refused
 }
 
-fn show_help(rest: &[OsString], in_json: bool) -> Status {
+fn show_help(rest: &[OsString]) -> Status {
     let Some(name) = rest.first() else {
         say(&help::tool());
         return Status::Yes;
     };
     match command_named(name) {
         Some(command) => say(&help::command(command)),
-        None => return unknown_command(name, in_json),
+        None => return unknown_command(name),
     }
     Status::Yes
 }
 
-fn run(command: &Command, words: &[OsString], in_json: bool) -> Status {
+fn run(command: &Command, words: &[OsString]) -> Status {
     let choices: Vec<&'static args::Choice> = command
         .options
         .iter()
         .copied()
         .chain([&args::HELP])
         .collect();
-    let misused = |message: &str| commands::misused(command, in_json, message);
     let arguments = match args::read(words, &choices) {
         Ok(arguments) => arguments,
-        Err(message) => return misused(&message),
+        Err(message) => return misused(command, &message),
     };
     if arguments.has(&args::HELP) {
         say(&help::command(command));
@@ -113,17 +102,19 @@ fn run(command: &Command, words: &[OsString], in_json: bool) -> Status {
     }
     let (least, most) = command.count;
     if arguments.files.len() < least {
-        return misused(&format!("{} is needed", command.operands));
+        return misused(command, &format!("{} is needed", command.operands));
     }
     if arguments.files.len() > most {
-        return misused("too many files");
+        return misused(command, "too many files");
     }
     if let Some(clash) = commands::clash(&arguments) {
-        return misused(clash);
-    }
-    let needed = command.needed();
-    if let Some(needed) = needed.filter(|choice| !arguments.has(choice)) {
-        return misused(&format!("{} is needed", needed.brief()));
+        return misused(command, clash);
     }
     (command.run)(&arguments)
+}
+
+fn misused(command: &Command, message: &str) -> Status {
+    let name = command.name;
+    complain(&format!("{name}: {message}; try florumeja {name} --help"));
+    Status::Refused
 }

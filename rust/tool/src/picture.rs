@@ -2,13 +2,11 @@
 
 use crate::bay::Bay;
 
-/// What stands above the two bays.
-pub const BEFORE: &str = "as it stands";
-pub const AFTER: &str = "as it is wanted";
+const BEFORE: &str = "as it stands";
+const AFTER: &str = "as it is wanted";
 const ARROW: &str = "   -->   ";
 /// Pictures that would be wider than a usual terminal stand one below the other.
 const WIDEST: usize = 78;
-const NARROWEST: usize = 2;
 
 /// Both bays, side by side where they fit.
 pub fn both(bay: &Bay) -> String {
@@ -40,25 +38,17 @@ fn widest(rows: &[String]) -> usize {
 }
 
 fn drawing(title: &str, bay: &Bay, labels: &[Option<usize>]) -> Vec<String> {
-    let width = label_width(bay);
-    let side = format!("+-{}-", "-".repeat(width));
-    let edge = format!("{}+", side.repeat(bay.columns));
+    let edge = format!("{}+", "+----".repeat(bay.columns));
     let mut rows = vec![title.to_string(), edge.clone()];
     for row in labels.chunks(bay.columns) {
-        let cells: String = row.iter().map(|&label| cell(bay, label, width)).collect();
+        let cells: String = row.iter().map(|&label| cell(bay, label)).collect();
         rows.push(format!("{cells}|"));
         rows.push(edge.clone());
     }
     rows
 }
 
-// All cells of both bays are as wide as the longest label, and never narrower than two digits.
-fn label_width(bay: &Bay) -> usize {
-    let longest = bay.names.iter().map(String::len).max();
-    longest.unwrap_or(0).max(NARROWEST)
-}
-
-fn cell(bay: &Bay, label: Option<usize>, width: usize) -> String {
+fn cell(bay: &Bay, label: Option<usize>) -> String {
     let shown = label.map_or("?".to_string(), |label| bay.name(label));
-    format!("| {shown:>width$} ")
+    format!("| {shown:>2} ")
 }

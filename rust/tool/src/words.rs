@@ -30,27 +30,6 @@ pub fn ordinal(number: usize) -> String {
     format!("{number}{ending}")
 }
 
-/// A cell as spreadsheets name it, by row and column from 1: "A1", "Z2", "AA3".
-pub fn cell_name(row: usize, column: usize) -> String {
-    let mut letters = Vec::new();
-    let mut left = column;
-    while left > 0 {
-        left -= 1;
-        letters.push(char::from(b'A' + (left % 26) as u8));
-        left /= 26;
-    }
-    let letters: String = letters.iter().rev().collect();
-    format!("{letters}{row}")
-}
-
-/// A place in a bay's text, as in "line 2, column 3", or "cell B2" where it is of a spreadsheet.
-pub fn place(line: usize, column: usize, cell: Option<usize>) -> String {
-    match cell {
-        Some(cell) => format!("cell {}", cell_name(line, cell)),
-        None => format!("line {line}, column {column}"),
-    }
-}
-
 /// Bytes in hexadecimal, as in "02 c1 01".
 pub fn hexadecimal(bytes: &[u8]) -> String {
     let digits: Vec<String> = bytes.iter().map(|byte| format!("{byte:02x}")).collect();
@@ -97,14 +76,6 @@ mod tests {
             "113th", "1003rd",
         ];
         assert_eq!(numbers.map(ordinal), due);
-    }
-
-    // 26 columns of one letter, 26 times 26 of two.
-    #[test]
-    fn cells_are_named_as_in_spreadsheets() {
-        let columns = [1, 2, 26, 27, 52, 53, 702, 703];
-        let due = ["A7", "B7", "Z7", "AA7", "AZ7", "BA7", "ZZ7", "AAA7"];
-        assert_eq!(columns.map(|column| cell_name(7, column)), due);
     }
 
     #[test]

@@ -3,28 +3,16 @@
 use super::NOT_DONE;
 use crate::bay::Bay;
 use crate::json::Json;
-use crate::question::{Answer, Answered, Proof, Way};
+use crate::output::Status;
+use crate::question::{Answered, Proof, Way};
 use crate::words::parity;
 
 /// The answer for a program.
 pub fn json(name: &str, answered: &Answered) -> Json {
     let bay = &answered.bay;
-    let mut fields = vec![("file", Json::text(name))];
-    fields.extend(both(bay));
-    let answer = answered.answer();
-    fields.push(("answer", Json::text(answer.name())));
-    fields.extend((answer == Answer::NoParityProof).then(note));
-    fields.extend(proof_field(answered.proof()));
-    if !bay.is_full() {
-        fields.push(("ways", ways(answered)));
-    }
-    Json::Object(fields)
-}
-
-/// Both bays, for a program.
-pub fn both(bay: &Bay) -> Vec<(&'static str, Json)> {
     let silent = bay.silent();
-    vec![
+    let mut fields = vec![
+        ("file", Json::text(name)),
         ("shape", Json::Text(bay.shape())),
         ("rows", Json::number(bay.rows)),
         ("columns", Json::number(bay.columns)),
@@ -33,19 +21,23 @@ pub fn both(bay: &Bay) -> Vec<(&'static str, Json)> {
         ("named", Json::number(bay.slots() - silent.len())),
         ("silent", Json::numbers(&silent)),
         ("labels", labels(bay)),
-    ]
+    ];
+    fields.extend(outcome(answered.status(), answered.asked.proof.as_ref()));
+    if !bay.is_full() {
+        fields.push(("ways", ways(answered)));
+    }
+    Json::Object(fields)
 }
 
-// Rows of labels as they were typed; null is a slot that the order does not name.
+// Rows of labels; null is a slot that the order does not name.
 fn grid(bay: &Bay, labels: &[Option<usize>]) -> Json {
-    let label =
-        |label: &Option<usize>| label.map_or(Json::Null, |label| Json::Text(bay.name(label)));
+    let label = |label: &Option<usize>| label.map_or(Json::Null, Json::Number);
     let row = |row: &[Option<usize>]| Json::List(row.iter().map(label).collect());
     Json::List(labels.chunks(bay.columns).map(row).collect())
 }
 
-// Each label that stands in the bay: its number in the files, as it was typed, and how often it
-// stands there.
+// Each label that stands in the bay: its number in the grids and in the files, as it was typed, and
+// how often it stands there.
 fn labels(bay: &Bay) -> Json {
     let label = |(number, count): (usize, usize)| {
         Json::Object(vec![
@@ -57,8 +49,15 @@ fn labels(bay: &Bay) -> Json {
     Json::List(bay.held().into_iter().map(label).collect())
 }
 
-fn proof_field(proof: Option<&Proof>) -> Option<(&'static str, Json)> {
-    proof.map(|proof| ("proof", proof_json(proof)))
+type Fields = Vec<(&'static str, Json)>;
+
+fn outcome(status: Status, proof: Option<&Proof>) -> Fields {
+    let mut fields = match status {
+        Status::Yes => vec![("answer", Json::text("impossible"))],
+        _ => vec![("answer", Json::text("no parity proof")), note()],
+    };
+    fields.extend(proof.map(|proof| ("proof", proof_json(proof))));
+    fields
 }
 
 /// What has to stand with an answer that is no proof, for a program.
@@ -71,24 +70,14 @@ fn ways(answered: &Answered) -> Json {
     Json::Object(vec![
         ("count", Json::number(answered.bay.ways())),
         ("asked", Json::number(asked.len())),
-        ("ruled_out", Json::number(answered.ruled_out())),
+        ("impossible", Json::number(answered.impossible_ways())),
         ("answers", Json::List(asked.iter().map(way).collect())),
     ])
 }
 
-// A single way is ruled out; the word for a whole order that cannot be done is not used of it.
 fn way(way: &Way) -> Json {
-    let proof = way.asked.proof.as_ref();
-    let answer = match proof {
-        Some(_) => "ruled_out",
-        None => Answer::NoParityProof.name(),
-    };
-    let mut fields = vec![
-        ("goal", grid(&way.bay, &way.bay.goal)),
-        ("answer", Json::text(answer)),
-    ];
-    fields.extend(proof.is_none().then(note));
-    fields.extend(proof_field(proof));
+    let mut fields = vec![("goal", grid(&way.bay, &way.bay.goal))];
+    fields.extend(outcome(way.asked.status(), way.asked.proof.as_ref()));
     Json::Object(fields)
 }
 

@@ -1,24 +1,19 @@
 //! The answer in one line.
 
-use crate::question::{Answer, Answered, Proof};
+use crate::question::{Answered, Proof};
 use crate::words::{counted, parity};
 
 /// The answer in one line.
 pub fn line(answered: &Answered) -> String {
-    let heading = answered.answer().heading();
-    format!("{heading} ({}{})", shape(answered), known(answered))
-}
-
-fn known(answered: &Answered) -> String {
-    match (answered.answer(), answered.proof()) {
-        (Answer::AlreadyAsWanted, _) => String::new(),
-        (Answer::ImpossibleEachWay, _) => format!(
-            ", {} to fill the others and each ruled out, accepted by the checker",
+    let shape = shape(answered);
+    match &answered.asked.proof {
+        Some(proof) => format!("IMPOSSIBLE ({shape}, {})", evidence(proof)),
+        None if answered.is_impossible_each_way() => format!(
+            "IMPOSSIBLE ({shape}, {} to fill the others and each impossible, accepted by the checker)",
             counted(answered.ways.len(), "way")
         ),
-        (_, Some(proof)) => format!(", {}", evidence(proof)),
-        (_, None) => format!(
-            "{}; this does not mean that the order can be done",
+        None => format!(
+            "NO PARITY PROOF ({shape}{}; this does not mean that the order can be done)",
             ways(answered)
         ),
     }
@@ -43,16 +38,15 @@ pub fn evidence(proof: &Proof) -> String {
     )
 }
 
-// How far the ways to fill the silent slots were asked, where not all are ruled out.
+// What came of the ways to fill the silent slots, where not all are impossible.
 fn ways(answered: &Answered) -> String {
-    let (total, asked) = (counted(answered.bay.ways(), "way"), answered.ways.len());
-    if answered.bay.is_full() {
-        String::new()
-    } else if asked == 0 {
-        format!(", {total} to fill the others not asked one by one")
-    } else if answered.ruled_out() == asked {
-        format!(", of {total} to fill the others only {asked} asked")
-    } else {
-        format!(", of {total} to fill the others way {asked} has none")
+    let count = counted(answered.bay.ways(), "way");
+    match answered.ways.len() {
+        _ if answered.bay.is_full() => String::new(),
+        0 => format!(", {count} to fill the others not asked one by one"),
+        _ => {
+            let impossible = answered.impossible_ways();
+            format!(", {count} to fill the others and {impossible} of them impossible")
+        }
     }
 }

@@ -16,8 +16,8 @@ pub struct Bay {
     pub start: Vec<usize>,
     /// None is a slot that the order does not name.
     pub goal: Vec<Option<usize>>,
-    /// What was typed for the labels 0, 1, 2 and so on, the gap first.
-    pub names: Vec<String>,
+    /// The letters that were typed for the labels 1, 2 and so on; none if numbers were typed.
+    pub letters: Vec<char>,
 }
 
 impl Bay {
@@ -131,7 +131,7 @@ mod tests {
             columns: 2,
             start: vec![1, 2, 3, 0],
             goal: goal.to_vec(),
-            names: Vec::new(),
+            letters: Vec::new(),
         }
     }
 

@@ -1,7 +1,7 @@
 //! The ways to fill the slots that an order does not name.
 
 use super::Bay;
-use std::iter::{repeat_n, successors};
+use std::iter::repeat_n;
 
 impl Bay {
     /// What is left for the silent slots, increasing: each label as often as it stands in the bay,
@@ -26,14 +26,6 @@ impl Bay {
         fill.flatten().collect()
     }
 
-    /// The goal in one line, as a person types its rows.
-    pub fn typed_goal(&self) -> String {
-        let name = |label: &Option<usize>| label.map_or("?".to_string(), |label| self.name(label));
-        let row = |row: &[Option<usize>]| row.iter().map(name).collect::<Vec<_>>().join(" ");
-        let rows: Vec<String> = self.goal.chunks(self.columns).map(row).collect();
-        rows.join(" / ")
-    }
-
     /// In how many ways the silent slots can be filled; pallets of one label are alike.
     pub fn ways(&self) -> usize {
         let orders = |labels: &[usize]| (1..=labels.len()).product::<usize>();
@@ -42,27 +34,36 @@ impl Bay {
         orders(&left) / lots.map(orders).product::<usize>()
     }
 
-    /// The full order of each way, in the order of their labels. There may be more ways than could ever
-    /// be held, so each is made when it is asked for.
-    pub fn completions(&self) -> impl Iterator<Item = Bay> + '_ {
+    /// The full order of each way, in the order of their labels.
+    pub fn completions(&self) -> Vec<Bay> {
         let complete = |labels: Vec<usize>| Bay {
             goal: self.filled(&labels).into_iter().map(Some).collect(),
             ..self.clone()
         };
-        successors(Some(self.left()), |labels| next_order(labels)).map(complete)
+        arrangements(&self.left())
+            .into_iter()
+            .map(complete)
+            .collect()
     }
 }
 
-// The next order of some labels, by the first place at which two orders differ; none behind the last,
-// in which they fall.
-fn next_order(labels: &[usize]) -> Option<Vec<usize>> {
-    let turn = labels.windows(2).rposition(|two| two[0] < two[1])?;
-    let larger = |label: &usize| *label > labels[turn];
-    let next = labels.iter().rposition(larger)?;
-    let mut order = labels.to_vec();
-    order.swap(turn, next);
-    order[turn + 1..].reverse();
-    Some(order)
+// Every order of some increasing labels, each once.
+fn arrangements(labels: &[usize]) -> Vec<Vec<usize>> {
+    if labels.is_empty() {
+        return vec![Vec::new()];
+    }
+    let mut all = Vec::new();
+    for (index, &first) in labels.iter().enumerate() {
+        // What is alike leads to the same orders.
+        if index > 0 && labels[index - 1] == first {
+            continue;
+        }
+        let others = [&labels[..index], &labels[index + 1..]].concat();
+        for rest in arrangements(&others) {
+            all.push([vec![first], rest].concat());
+        }
+    }
+    all
 }
 
 #[cfg(test)]
@@ -75,12 +76,12 @@ mod tests {
             columns: 4,
             start: start.to_vec(),
             goal: goal.to_vec(),
-            names: Vec::new(),
+            letters: Vec::new(),
         }
     }
 
     fn goals(bay: &Bay) -> Vec<Vec<usize>> {
-        bay.completions().map(|way| way.wanted()).collect()
+        bay.completions().iter().map(Bay::wanted).collect()
     }
 
     #[test]

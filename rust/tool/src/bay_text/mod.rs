@@ -1,16 +1,12 @@
-//! Reads a bay as a person has it: rows of labels, a blank line, rows of labels; or the same as cells of a
-//! spreadsheet; or the drawing that an answer shows.
+//! Reads a bay as a person types it: rows of labels, a blank line, rows of labels.
 //!
 //! Only the shape of the text is judged here, and that a person sees the bay that is read: what
 //! could be read in two ways is refused. Limits and labels are judged by the library's builder;
 //! `refusal` then finds the place in the text that its refusal speaks of.
 
-mod cells;
 mod comment;
-mod drawing;
-mod headings;
 mod layout;
-mod names;
+mod letters;
 mod refusal;
 mod scan;
 #[cfg(test)]
@@ -19,14 +15,9 @@ mod text;
 
 use crate::bay::Bay;
 use crate::fault::Fault;
-use crate::files;
 use crate::words::counted;
 use scan::{Label, Row, Value};
-use std::ffi::OsStr;
 use text::{quoted, Lines, Place};
-
-/// What people leave empty.
-const TYPE_THE_GAP: &str = "type . for the gap";
 
 pub struct BayText {
     lines: Lines,
@@ -36,42 +27,26 @@ pub struct BayText {
 }
 
 impl BayText {
-    /// Reads what a file of this name holds, or cells whatever its name is.
-    pub fn of_file(name: &OsStr, cells: bool, bytes: &[u8]) -> Result<BayText, Fault> {
-        match cells || files::holds_cells(name) {
-            true => cells::read(bytes),
-            false => BayText::read(bytes),
-        }
-    }
-
     pub fn read(bytes: &[u8]) -> Result<BayText, Fault> {
-        let lines = text::lines(bytes, false)?;
-        if drawing::is_in(&lines) {
-            return drawing::read(lines);
-        }
-        text::judge_characters(&lines)?;
-        let (first, second) = two_blocks(&lines, scan::blocks(&lines)?)?;
-        same_shape(&lines, &first, &second)?;
+        let lines = text::lines(bytes)?;
+        let (first, second) = two_blocks(&lines)?;
+        let (rows, columns) = (first.len(), first[0].labels.len());
+        same_columns(&lines, &first, &second)?;
+        same_rows(&lines, rows, &second)?;
+        named_throughout(&lines, &first)?;
         layout::judge(&lines, &first)?;
         layout::judge(&lines, &second)?;
-        BayText::of(lines, first, second)
-    }
-
-    // Numbers the labels of two bays of one shape.
-    fn of(lines: Lines, first: Vec<Row>, second: Vec<Row>) -> Result<BayText, Fault> {
-        let (rows, columns) = (first.len(), first[0].labels.len());
         let flat = |block: Vec<Row>| block.into_iter().flat_map(|row| row.labels).collect();
         let (start, goal): (Vec<Label>, Vec<Label>) = (flat(first), flat(second));
-        let names = names::in_order(&lines, &start, &goal)?;
-        headings::judge(&lines, columns, &start, &goal)?;
-        let number = |label: &Label| names.number(label, rows * columns);
+        let letters = letters::in_order(&lines, &start, &goal)?;
+        let number = |label: &Label| letters::number(label.value, &letters, rows * columns);
         let bay = Bay {
             rows,
             columns,
             // No slot of the start is silent.
             start: start.iter().filter_map(number).collect(),
             goal: goal.iter().map(number).collect(),
-            names: names.typed,
+            letters,
         };
         Ok(BayText {
             lines,
@@ -86,24 +61,13 @@ impl BayText {
     }
 }
 
-fn two_blocks(lines: &Lines, blocks: Vec<Vec<Row>>) -> Result<(Vec<Row>, Vec<Row>), Fault> {
-    let mut blocks = blocks.into_iter();
-    let ends = |expected: &str| Place::end(lines).fault(lines, expected, "the end of the text");
+fn two_blocks(lines: &Lines) -> Result<(Vec<Row>, Vec<Row>), Fault> {
+    let mut blocks = scan::blocks(lines)?.into_iter();
+    let ends = |expected| Place::end(lines).fault(lines, expected, "the end of the text");
     let first = blocks.next();
     let first = first.ok_or_else(|| ends("the bay as it stands (rows of labels)"))?;
-    let Some(second) = blocks.next() else {
-        let blank = format!("a blank {}", lines.row());
-        return Err(match first.len() % 2 {
-            // The two halves may be the two bays.
-            0 => {
-                let label = &first[first.len() / 2].labels[0];
-                let expected =
-                    format!("{blank} between the bay as it stands and the bay as it is wanted");
-                label.place.fault(lines, &expected, &quoted(&label.written))
-            }
-            _ => ends(&format!("{blank} and then the bay as it is wanted")),
-        });
-    };
+    let second = blocks.next();
+    let second = second.ok_or_else(|| ends("a blank line and then the bay as it is wanted"))?;
     if let Some(third) = blocks.next() {
         let label = &third[0].labels[0];
         let expected = "nothing more after the two bays";
@@ -124,54 +88,19 @@ fn named_throughout(lines: &Lines, first: &[Row]) -> Result<(), Fault> {
     }
 }
 
-fn same_shape(lines: &Lines, first: &[Row], second: &[Row]) -> Result<(), Fault> {
-    same_columns(lines, first, second)?;
-    same_rows(lines, first.len(), second)?;
-    named_throughout(lines, first)
-}
-
 fn same_columns(lines: &Lines, first: &[Row], second: &[Row]) -> Result<(), Fault> {
-    let model = model(first);
-    let due = model.labels.len();
-    let noun = if lines.cells { "cell" } else { "label" };
-    let (labels, line) = (counted(due, noun), lines.row());
-    for (bay, row) in of_both(first, second) {
+    let due = first[0].labels.len();
+    let (labels, line) = (counted(due, "label"), first[0].end.line);
+    let expected = format!("{labels} in this row, as in line {line}");
+    for row in first.iter().chain(second) {
         let count = row.labels.len();
         if count != due {
             let extra = row.labels.get(due).map(|label| label.place);
             let place = extra.unwrap_or(row.end);
-            let hint = match count + 1 == due && !has_gap(bay) {
-                true => format!("; {TYPE_THE_GAP}"),
-                false => String::new(),
-            };
-            let number = model.end.line;
-            let expected = format!("{labels} in this row, as in {line} {number}{hint}");
             return Err(place.fault(lines, &expected, &count.to_string()));
         }
     }
     Ok(())
-}
-
-// The rows of both bays, each with the bay that it is in.
-fn of_both<'a>(first: &'a [Row], second: &'a [Row]) -> impl Iterator<Item = (&'a [Row], &'a Row)> {
-    let each = |bay: &'a [Row]| bay.iter().map(move |row| (bay, row));
-    each(first).chain(each(second))
-}
-
-fn has_gap(rows: &[Row]) -> bool {
-    let mut labels = rows.iter().flat_map(|row| &row.labels);
-    labels.any(|label| label.value == Value::Gap)
-}
-
-// The row that the others have to be as long as: the first, or the second where only the first is one label
-// short, as if the gap were left out.
-fn model(rows: &[Row]) -> &Row {
-    let (first, others) = (&rows[0], &rows[1..]);
-    let longer = |row: &Row| row.labels.len() == first.labels.len() + 1;
-    match others.first() {
-        Some(second) if others.iter().all(longer) && !has_gap(rows) => second,
-        _ => first,
-    }
 }
 
 fn same_rows(lines: &Lines, due: usize, second: &[Row]) -> Result<(), Fault> {

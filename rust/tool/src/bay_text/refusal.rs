@@ -1,16 +1,20 @@
-//! Finds the place in the text that a refusal of the builder speaks of.
+//! Finds the place in the text that a refusal speaks of: of the builder, or of what makes an order with
+//! silent slots.
 
 use super::scan::{Label, Value};
-use super::text::Lines;
+use super::text::{quoted, Lines, Place};
 use super::BayText;
 use crate::bay::GAP;
 use crate::fault::{Fault, TextFault};
-use crate::refusal::{Refusal, Subject};
+use crate::features;
 use crate::words::counted;
 
 /// The library's limits, here for words and places only.
-pub const MOST_SLOTS: usize = 16;
+const MOST_SLOTS: usize = 16;
 const LONGEST_SIDE: usize = 9;
+const MOST_FEATURES: usize = 32_768;
+/// More slots have too many features where each of them may also be unknown.
+const MOST_SLOTS_WITH_SILENT: usize = 15;
 
 impl BayText {
     /// Turns the builder's refusal into a fault at a place, where there is one.
@@ -20,24 +24,19 @@ impl BayText {
         };
         let placed = match number {
             2 => self.dimension(),
+            3 => self.range(),
             10 => self.gap(),
             11 => self.unequal(),
             _ => None,
         };
-        refused(Refusal::about(number, self.subject(number)), placed)
+        refused(number, placed)
     }
 
-    // What such a refusal of a bay speaks of.
-    fn subject(&self, number: u32) -> Option<Subject> {
-        let gaps = |labels: &[Option<usize>]| {
-            let gaps = labels.iter().filter(|label| **label == Some(GAP));
-            gaps.count()
-        };
-        match (number, gaps(&self.bay.stands())) {
-            (2, _) => Some(Subject::Dimension),
-            (10, 1) => Subject::of_gaps(gaps(&self.bay.goal)),
-            (10, count) => Subject::of_gaps(count),
-            _ => None,
+    /// The same for a refusal of the order as one that leaves slots open.
+    pub fn place_silent(&self, fault: Fault) -> Fault {
+        match fault {
+            Fault::Refused(2) => refused(2, self.too_many_features()),
+            other => other,
         }
     }
 
@@ -59,8 +58,35 @@ impl BayText {
         Some(label.place.fault(&self.lines, &expected, &found))
     }
 
-    /// What is wrong with the gaps, if anything is.
-    pub fn gap(&self) -> Option<Fault> {
+    // None where the features do not bear out that they are too many.
+    fn too_many_features(&self) -> Option<Fault> {
+        let count = features::count(&self.bay.sizes());
+        if count <= MOST_FEATURES {
+            return None;
+        }
+        let mut labels = self.goal.iter();
+        let label = labels.find(|label| label.value == Value::Silent)?;
+        let expected = format!(
+            "a label, as only bays of up to {MOST_SLOTS_WITH_SILENT} slots may have slots with ? \
+             (with \"unknown\" as one more label this bay has {count} features, and \
+             {MOST_FEATURES} are the most)"
+        );
+        let found = quoted(&label.written);
+        Some(label.place.fault(&self.lines, &expected, &found))
+    }
+
+    fn range(&self) -> Option<Fault> {
+        let slots = self.start.len();
+        let too_large =
+            |label: &&Label| matches!(label.value, Value::Number(number) if number >= slots);
+        let label = self.start.iter().chain(&self.goal).find(too_large)?;
+        let most = slots - 1;
+        let expected = format!("a label from 0 to {most}, with blanks between labels");
+        let found = quoted(&label.written);
+        Some(label.place.fault(&self.lines, &expected, &found))
+    }
+
+    fn gap(&self) -> Option<Fault> {
         let start = one_gap(&self.lines, &self.start, "the bay as it stands");
         start.or_else(|| one_gap(&self.lines, &self.goal, "the bay as it is wanted"))
     }
@@ -84,27 +110,25 @@ impl BayText {
 }
 
 // The refusal at the place that was found for it, if one was.
-fn refused(refusal: Refusal, placed: Option<Fault>) -> Fault {
+fn refused(number: u32, placed: Option<Fault>) -> Fault {
     match placed {
-        Some(Fault::Text(text)) => Fault::Text(Box::new(TextFault {
-            refusal: Some(refusal),
-            ..*text
-        })),
-        _ => Fault::Known(refusal),
+        Some(Fault::Text(text)) => Fault::Text(TextFault {
+            refusal: Some(number),
+            ..text
+        }),
+        _ => Fault::Refused(number),
     }
 }
 
 // What is wrong with the gaps of one of the two bays, if anything is.
 fn one_gap(lines: &Lines, labels: &[Label], bay: &str) -> Option<Fault> {
-    let typed = match lines.cells {
-        true => "an empty cell, 0 or .",
-        false => "0 or .",
-    };
-    let mut gaps = labels.iter().filter(|label| label.value == Value::Gap);
+    let mut gaps = labels
+        .iter()
+        .filter(|label| label.value == Value::Number(GAP));
     let (place, found) = match (gaps.next(), gaps.next()) {
         (Some(first), Some(again)) => {
-            let place = first.place.words(lines);
-            let found = format!("another (the first stands in {place})");
+            let Place { line, column } = first.place;
+            let found = format!("another (the first stands in line {line}, column {column})");
             (again.place, found)
         }
         (Some(_), None) => return None,
@@ -112,12 +136,12 @@ fn one_gap(lines: &Lines, labels: &[Label], bay: &str) -> Option<Fault> {
         (None, _) if labels.iter().any(|label| label.value == Value::Silent) => return None,
         (None, _) => (labels.first()?.place, "none".to_string()),
     };
-    Some(place.fault(lines, &format!("one gap ({typed}) in {bay}"), &found))
+    Some(place.fault(lines, &format!("one gap (0 or .) in {bay}"), &found))
 }
 
 /// Says of a label of the wanted bay that it stands there more often than in the bay as it stands.
 pub fn too_often(lines: &Lines, label: &Label, held: usize, goal: &[Label]) -> Fault {
-    let named = goal.iter().filter(|other| other.is_same(label));
+    let named = goal.iter().filter(|other| other.value == label.value);
     let found = format!(
         "{} too often: it stands {} in the bay and {} in the order",
         label.written,

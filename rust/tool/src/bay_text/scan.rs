@@ -1,23 +1,16 @@
 //! Cuts the text of a bay into labels, each with its place.
 
-use super::comment::{self, Typed};
-use super::headings::is_heading;
+use super::comment;
 use super::text::{end_column, is_empty, quoted, Lines, Place};
+use crate::bay::GAP;
 use crate::characters::is_blank;
 use crate::fault::Fault;
 
-/// The longest label; a longer one is rather two without a blank between them.
-const LONGEST: usize = 16;
 const LABEL: &str =
-    "a label (up to 16 letters and digits, . for the gap, or ? for a slot that the \
-                     order does not name)";
+    "a label (a number, a letter, . for the gap, or ? for a slot that the order does not name)";
 /// What stands in a slot that the order does not name.
 const SILENT: &str = "?";
-const GAP_SIGN: &str = ".";
 const NO_ZERO: &str = "a label without a zero before it, and blanks between labels";
-const NO_HEADING: &str =
-    "a label, as this could be a heading or a word for the gap (write headings \
-                          behind #, and . for the gap)";
 const WORDS_BEHIND: &str =
     "a comment that begins with a word, as this # could be a part of the bay";
 const WORDS_BETWEEN: &str = "words in a comment between two rows, as this could be a row or a wall";
@@ -34,20 +27,8 @@ pub struct Label {
 pub enum Value {
     /// The order does not name the slot.
     Silent,
-    Gap,
-    /// A pallet, by what is written on it.
-    Pallet,
-}
-
-impl Label {
-    pub fn is_pallet(&self) -> bool {
-        self.value == Value::Pallet
-    }
-
-    /// Whether two labels mean the same: the gap is written in two ways, a pallet's label in one.
-    pub fn is_same(&self, other: &Label) -> bool {
-        self.value == other.value && (!self.is_pallet() || self.written == other.written)
-    }
+    Number(usize),
+    Letter(char),
 }
 
 /// The labels of one line.
@@ -59,7 +40,7 @@ pub struct Row {
 
 /// Rows that stand together; a blank line parts them, a line that is only a comment does not.
 pub fn blocks(lines: &Lines) -> Result<Vec<Vec<Row>>, Fault> {
-    let typed = Typed::new(words_of(lines));
+    let lettered = is_lettered(lines);
     let mut blocks: Vec<Vec<Row>> = Vec::new();
     let mut parted = true;
     // The last row's next comment line that is not in words.
@@ -69,9 +50,9 @@ pub fn blocks(lines: &Lines) -> Result<Vec<Vec<Row>>, Fault> {
             parted = true;
             continue;
         }
-        let row = row(lines, index, &typed)?;
+        let row = row(lines, index, lettered)?;
         if row.labels.is_empty() {
-            drawn = drawn.or(comment_line(lines, index, &typed)?);
+            drawn = drawn.or(comment_line(lines, index, lettered)?);
             continue;
         }
         match blocks.last_mut() {
@@ -89,12 +70,12 @@ pub fn blocks(lines: &Lines) -> Result<Vec<Vec<Row>>, Fault> {
 }
 
 // The index of a line that is only a comment, unless the comment is in words.
-fn comment_line(lines: &Lines, index: usize, typed: &Typed) -> Result<Option<usize>, Fault> {
+fn comment_line(lines: &Lines, index: usize, lettered: bool) -> Result<Option<usize>, Fault> {
     let comment = comment(&lines[index]).unwrap_or_default();
-    if comment::reads_as_row(comment, typed) {
+    if comment::reads_as_row(comment, lettered) {
         return Err(comment_fault(lines, index, NO_ROW));
     }
-    Ok((!comment::is_in_words(comment, typed)).then_some(index))
+    Ok((!comment::is_in_words(comment, lettered)).then_some(index))
 }
 
 fn comment_fault(lines: &Lines, index: usize, expected: &str) -> Fault {
@@ -104,7 +85,7 @@ fn comment_fault(lines: &Lines, index: usize, expected: &str) -> Fault {
     Place { line, column }.fault(lines, expected, &quoted(comment))
 }
 
-fn row(lines: &Lines, index: usize, typed: &Typed) -> Result<Row, Fault> {
+fn row(lines: &Lines, index: usize, lettered: bool) -> Result<Row, Fault> {
     let line = index + 1;
     let mut labels = Vec::new();
     for (column, written) in words(&lines[index]) {
@@ -118,7 +99,7 @@ fn row(lines: &Lines, index: usize, typed: &Typed) -> Result<Row, Fault> {
         });
     }
     let behind = comment(&lines[index]).filter(|_| !labels.is_empty());
-    if behind.is_some_and(|comment| !comment::is_in_words(comment, typed)) {
+    if behind.is_some_and(|comment| !comment::is_in_words(comment, lettered)) {
         return Err(comment_fault(lines, index, WORDS_BEHIND));
     }
     let column = end_column(&lines[index]);
@@ -154,31 +135,39 @@ fn words(line: &str) -> Vec<(usize, String)> {
     words
 }
 
-// Every word that is typed before a comment.
-fn words_of(lines: &Lines) -> impl Iterator<Item = String> + '_ {
-    let words = lines.iter().flat_map(|line| words(line));
-    words.map(|(_, word)| word)
+/// Whether a word is a label, in whatever range, or stands for any; a letter is one where the
+/// labels of the bay are letters.
+pub fn is_label(word: &str, lettered: bool) -> bool {
+    matches!(word, "." | SILENT)
+        || word.bytes().all(|byte| byte.is_ascii_digit())
+        || (lettered && letter(word).is_some())
 }
 
-/// Whether a word consists of letters and digits, as labels do.
-pub fn is_word(word: &str) -> bool {
-    !word.is_empty() && word.bytes().all(|byte| byte.is_ascii_alphanumeric())
+// Whether letters are typed as labels.
+fn is_lettered(lines: &Lines) -> bool {
+    let mut words = lines.iter().flat_map(|line| words(line));
+    words.any(|(_, word)| letter(&word).is_some())
 }
 
-/// Whether a word stands for the gap or for a slot that is not named, by a sign.
-pub fn is_sign(word: &str) -> bool {
-    matches!(word, GAP_SIGN | SILENT)
+// The letter that a word consists of.
+fn letter(word: &str) -> Option<char> {
+    let mut characters = word.chars();
+    let first = characters.next().filter(char::is_ascii_alphabetic);
+    first.filter(|_| characters.next().is_none())
 }
 
-/// What a label says, or what was expected in its place.
-pub fn value(word: &str) -> Result<Value, &'static str> {
+// What a label says, or what was expected in its place.
+fn value(word: &str) -> Result<Value, &'static str> {
     match word {
-        GAP_SIGN | "0" => Ok(Value::Gap),
+        "." => Ok(Value::Number(GAP)),
         SILENT => Ok(Value::Silent),
-        _ if !is_word(word) || word.len() > LONGEST => Err(LABEL),
+        _ if !is_label(word, true) => Err(LABEL),
         // 01 could be 0 and 1 as well.
-        _ if word.starts_with('0') => Err(NO_ZERO),
-        _ if is_heading(word) => Err(NO_HEADING),
-        _ => Ok(Value::Pallet),
+        _ if word.len() > 1 && word.starts_with('0') => Err(NO_ZERO),
+        _ => Ok(match letter(word) {
+            Some(letter) => Value::Letter(letter),
+            // A number too long to count is out of every range, and the builder says so.
+            None => Value::Number(word.parse().unwrap_or(usize::MAX)),
+        }),
     }
 }

@@ -1,7 +1,7 @@
 //! `build`: makes a task file from a bay file or a partial file.
 
 use super::partial::{Reading, LEAN, PARTIAL};
-use super::{deliver_file, refuse, Command, OUTPUT};
+use super::{deliver, refuse, Command, OUTPUT};
 use crate::args::{Arguments, JSON};
 use crate::fault::Fault;
 use crate::files;
@@ -47,5 +47,5 @@ fn build(arguments: &Arguments) -> Result<(), Fault> {
         ("answer", Json::text("built")),
         ("bytes", Json::number(task.len())),
     ]);
-    deliver_file(arguments, &task, &line, json)
+    deliver(arguments, &task, &line, &json)
 }

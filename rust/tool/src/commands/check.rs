@@ -3,7 +3,6 @@
 use super::partial::{Reading, LEAN, PARTIAL};
 use super::{refuse, tell, Command, Misfit};
 use crate::args::{Arguments, Choice, JSON};
-use crate::breaking::Breaking;
 use crate::fault::Fault;
 use crate::files;
 use crate::json::Json;
@@ -29,9 +28,7 @@ Reads a task file and a weight file and prints the verdict of the checker:
 accepted (the weights separate start from goal, so the goal cannot be reached);
 rejected ends alike (start and goal have the same parity); or rejected operator
 N (the least operator that can change the parity, counted from 0). It is the
-line that the library's own checker program prints. A second line then says what
-that operator does: in the task of a bay, which pallet it slides from where to
-where, by rows and columns from 1.
+line that the library's own checker program prints.
 A rejection does not mean that the goal can be reached.
 
 The task is of the old kind or of the new one, by its first number. A weight
@@ -44,23 +41,17 @@ file does not say of which kind it is, so --new says it.",
 
 fn run(arguments: &Arguments) -> Status {
     match check(arguments, &arguments.files[0], &arguments.files[1]) {
-        Ok(checked) => give(arguments, &checked),
+        Ok((verdict, line)) => give(arguments, verdict, &line),
         Err((name, fault)) => refuse(arguments, name, &fault),
     }
 }
 
-/// The verdict, the line that says it, and the operator that it speaks of.
-struct Checked {
-    verdict: Verdict,
-    line: String,
-    breaking: Option<Breaking>,
-}
-
+// The verdict, and the line that says it.
 fn check<'a>(
     arguments: &Arguments,
     task: &'a OsString,
     weights: &'a OsString,
-) -> Result<Checked, Misfit<'a>> {
+) -> Result<(Verdict, String), Misfit<'a>> {
     if files::is_standard(task) && files::is_standard(weights) {
         let words = "only one of the two can be standard input";
         return Err((task, Fault::Failure(words.to_string())));
@@ -74,59 +65,32 @@ fn check<'a>(
     let weight_bytes = files::read(weights).map_err(|fault| (weights.as_os_str(), fault))?;
     let verdict = reading.check(&task_bytes, notation, &weight_bytes);
     // The task is judged first, so the weights are at fault exactly where it is taken by itself.
-    let (verdict, line) = verdict.map_err(|fault| match reading.judge(&task_bytes) {
+    verdict.map_err(|fault| match reading.judge(&task_bytes) {
         Ok(()) => {
             let fault = reading.told_of_weights(fault, &task_bytes, notation, &weight_bytes);
             (weights.as_os_str(), fault)
         }
         Err(fault) => (task.as_os_str(), fault),
-    })?;
-    let breaking = breaking(reading, &task_bytes, verdict);
-    Ok(Checked {
-        verdict,
-        line,
-        breaking,
     })
 }
 
-// The operator of the task that was checked, if it was rejected for one.
-fn breaking(reading: Reading, file: &[u8], verdict: Verdict) -> Option<Breaking> {
-    let Verdict::Operator(number) = verdict else {
-        return None;
-    };
-    let is_built = !matches!(reading, Reading::Task);
-    Breaking::of(&reading.task(file).ok()?, is_built, number as usize)
-}
-
-fn give(arguments: &Arguments, checked: &Checked) -> Status {
-    let told = checked.breaking.iter().map(Breaking::words);
-    let lines: Vec<String> = [checked.line.clone()].into_iter().chain(told).collect();
-    tell(arguments, &lines.join("\n"), &json(arguments, checked));
-    match checked.verdict {
+fn give(arguments: &Arguments, verdict: Verdict, line: &str) -> Status {
+    tell(arguments, line, &json(arguments, verdict, line));
+    match verdict {
         Verdict::Accepted => Status::Yes,
         Verdict::EndsAlike | Verdict::Operator(_) => Status::No,
     }
 }
 
-fn json(arguments: &Arguments, checked: &Checked) -> Json {
+fn json(arguments: &Arguments, verdict: Verdict, line: &str) -> Json {
     let name = |index: usize| Json::text(&arguments.files[index].to_string_lossy());
-    let answer = match checked.verdict {
-        Verdict::Accepted => "accepted",
-        Verdict::EndsAlike => "ends_alike",
-        Verdict::Operator(_) => "rejected_operator",
-    };
     let mut fields = vec![
         ("file", name(0)),
         ("weights", name(1)),
-        ("answer", Json::text(answer)),
-        ("line", Json::text(&checked.line)),
+        ("answer", Json::text(line)),
     ];
-    match (&checked.breaking, checked.verdict) {
-        (Some(breaking), _) => fields.extend(breaking.fields()),
-        (None, Verdict::Operator(number)) => {
-            fields.push(("operator", Json::number(number as usize)));
-        }
-        _ => {}
+    if let Verdict::Operator(number) = verdict {
+        fields.push(("operator", Json::number(number as usize)));
     }
     Json::Object(fields)
 }

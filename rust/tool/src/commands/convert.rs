@@ -1,15 +1,13 @@
 //! `convert`: writes a task file in the other kind, and the weights beside it.
 
-use super::{
-    misused, or_unwritten, refuse, refused, tell, write, written, Command, Misfit, OUTPUT,
-};
+use super::{refuse, refused, tell, write, Command, Misfit, OUTPUT};
 use crate::args::{Arguments, Choice, JSON};
 use crate::fault::Fault;
 use crate::files;
 use crate::json::Json;
 use crate::library;
 use crate::notation::Notation;
-use crate::output::Status;
+use crate::output::{complain, Status};
 use crate::place::Kind;
 use std::ffi::OsStr;
 
@@ -69,7 +67,8 @@ it would be.",
 
 fn run(arguments: &Arguments) -> Status {
     if let Some(words) = clash(arguments) {
-        return misused(&COMMAND, arguments.has(&JSON), words);
+        complain(&format!("convert: {words}; try florumeja convert --help"));
+        return Status::Refused;
     }
     match convert(arguments) {
         Ok(()) => Status::Yes,
@@ -109,9 +108,8 @@ fn convert(arguments: &Arguments) -> Result<(), Misfit<'_>> {
         None => None,
     };
     keep(arguments, &task, weights.as_ref()).map_err(of_task)?;
-    let json = json(to, &task, weights.as_ref()).with("written", written(arguments));
-    let line = or_unwritten(arguments, &line(to, &task, weights.as_ref()));
-    tell(arguments, &line, &json);
+    let json = json(to, &task, weights.as_ref());
+    tell(arguments, &line(to, &task, weights.as_ref()), &json);
     Ok(())
 }
 

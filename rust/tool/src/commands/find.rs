@@ -10,7 +10,6 @@ use crate::json::Json;
 use crate::library::{self, Weights};
 use crate::output::Status;
 use crate::progress::{Telling, PROGRESS};
-use crate::words::shown;
 
 pub const COMMAND: Command = Command {
     name: "find",
@@ -38,25 +37,12 @@ fn run(arguments: &Arguments) -> Status {
 }
 
 fn find(arguments: &Arguments) -> Result<Option<Weights>, Fault> {
-    judge_output(arguments)?;
     let reading = Reading::of(arguments);
     let file = files::read(&arguments.files[0])?;
     let telling = Telling::of(arguments);
     let mut steps = reading.steps(&telling, &file, 1);
     let workspace = reading.open(&file, &mut steps)?;
     steps.take("finding weights", || library::find(&workspace))
-}
-
-// Where there are none, an older file would be taken for the weights of this task.
-fn judge_output(arguments: &Arguments) -> Result<(), Fault> {
-    match arguments.value(&OUTPUT).filter(|name| files::is_file(name)) {
-        Some(name) => Err(Fault::Failure(format!(
-            "{} is there already and could be taken for the weights of this task; -o needs a name \
-             that is not in use",
-            shown(name)
-        ))),
-        None => Ok(()),
-    }
 }
 
 fn give(arguments: &Arguments, found: Option<Weights>) -> Result<Status, Fault> {
@@ -76,7 +62,7 @@ fn give(arguments: &Arguments, found: Option<Weights>) -> Result<Status, Fault> 
         ("weights", Json::numbers(&features)),
     ];
     let json = json(arguments, "separated", fields);
-    deliver(arguments, &file, &line, json)?;
+    deliver(arguments, &file, &line, &json)?;
     Ok(Status::Yes)
 }
 

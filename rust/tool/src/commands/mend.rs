@@ -1,12 +1,12 @@
 //! `mend`: drops what cannot stay in the pair list of a task file.
 
 use super::partial::Reading;
-use super::{deliver_file, misused, refuse, Command, OUTPUT};
+use super::{deliver, refuse, Command, OUTPUT};
 use crate::args::{Arguments, Choice, JSON};
 use crate::fault::Fault;
 use crate::files;
 use crate::json::Json;
-use crate::output::Status;
+use crate::output::{complain, Status};
 use crate::pair_list::{self, Cause, Dropped, Mended, Naming, Shape, MOST_STEPS};
 use crate::words::counted;
 use std::ffi::OsStr;
@@ -50,7 +50,10 @@ labels. It is refused if the task cannot be such a bay's.",
 fn run(arguments: &Arguments) -> Status {
     let shape = match read_shape(arguments.value(&BAY)) {
         Ok(shape) => shape,
-        Err(words) => return misused(&COMMAND, arguments.has(&JSON), words),
+        Err(words) => {
+            complain(&format!("mend: {words}; try florumeja mend --help"));
+            return Status::Refused;
+        }
     };
     match mend(arguments, shape) {
         Ok(()) => Status::Yes,
@@ -74,7 +77,7 @@ fn mend(arguments: &Arguments, shape: Option<Shape>) -> Result<(), Fault> {
     let mended = pair_list::mend(&task).map_err(|fault| Reading::Task.told(fault, &task))?;
     let naming = Naming::new(shape, &mended.sizes)?;
     let json = json(&name.to_string_lossy(), &mended, &naming);
-    deliver_file(arguments, &mended.file, &words(&mended, &naming), json)
+    deliver(arguments, &mended.file, &words(&mended, &naming), &json)
 }
 
 fn words(mended: &Mended, naming: &Naming) -> String {

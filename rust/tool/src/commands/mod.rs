@@ -10,21 +10,16 @@ mod open;
 pub mod partial;
 mod refused;
 mod report;
-mod show;
 mod silence;
-mod verify;
 
 use crate::args::{Arguments, Choice, JSON};
 use crate::fault::Fault;
 use crate::files;
-use crate::help;
 use crate::json::Json;
 use crate::keeping;
 use crate::output::{complain, say, say_bytes, Status};
 use crate::progress;
-use crate::question;
 use crate::words::shown;
-use ask::CSV;
 use partial::{LEAN, PARTIAL};
 use std::ffi::{OsStr, OsString};
 
@@ -44,21 +39,9 @@ pub struct Command {
     pub run: fn(&Arguments) -> Status,
 }
 
-impl Command {
-    /// The option that it cannot do without, if there is one.
-    pub fn needed(&self) -> Option<&'static Choice> {
-        match self.name {
-            "report" => Some(&OUTPUT),
-            "silence" => Some(&silence::MARKS),
-            _ => None,
-        }
-    }
-}
-
 pub const COMMANDS: &[Command] = &[
     ask::COMMAND,
     report::COMMAND,
-    verify::COMMAND,
     find::COMMAND,
     check::COMMAND,
     build::COMMAND,
@@ -66,7 +49,6 @@ pub const COMMANDS: &[Command] = &[
     mend::COMMAND,
     convert::COMMAND,
     open::COMMAND,
-    show::COMMAND,
 ];
 
 /// The option of the commands that write one file.
@@ -86,39 +68,17 @@ pub fn clash(arguments: &Arguments) -> Option<&'static str> {
     if taken && arguments.has(&JSON) {
         return Some("--json and -o - both need standard output");
     }
-    if arguments.has(&CSV) && arguments.has(&JSON) {
-        return Some("--csv and --json both need standard output");
-    }
     if arguments.has(&LEAN) && !arguments.has(&PARTIAL) {
         return Some("--lean goes with --partial");
     }
-    question::misfit(arguments).or_else(|| progress::misfit(arguments))
+    progress::misfit(arguments)
 }
 
 /// Writes a result where the command line asks for it, and says what it is.
-fn deliver(arguments: &Arguments, bytes: &[u8], line: &str, json: Json) -> Result<(), Fault> {
+fn deliver(arguments: &Arguments, bytes: &[u8], line: &str, json: &Json) -> Result<(), Fault> {
     write(arguments, bytes, &[], &arguments.files)?;
-    tell(arguments, line, &json.with("written", written(arguments)));
+    tell(arguments, line, json);
     Ok(())
-}
-
-/// The same of a file that is all that a command makes.
-fn deliver_file(arguments: &Arguments, bytes: &[u8], line: &str, json: Json) -> Result<(), Fault> {
-    deliver(arguments, bytes, &or_unwritten(arguments, line), json)
-}
-
-/// A line about a file that a command makes; where it goes nowhere, that is said too.
-fn or_unwritten(arguments: &Arguments, line: &str) -> String {
-    match arguments.has(&OUTPUT) {
-        true => line.to_string(),
-        false => format!("{line}\nnot written: no -o"),
-    }
-}
-
-/// The file that a result goes to, for a program; null where it goes nowhere.
-fn written(arguments: &Arguments) -> Json {
-    let output = arguments.value(&OUTPUT);
-    output.map_or(Json::Null, |name| Json::text(&name.to_string_lossy()))
 }
 
 /// Writes a result where the command line asks for it, and other files beside it: all of them or none.
@@ -161,26 +121,6 @@ fn refuse(arguments: &Arguments, name: &OsStr, fault: &Fault) -> Status {
     Status::Refused
 }
 
-/// Says what does not fit on a command line, to a person or to a program.
-pub fn misused(command: &Command, in_json: bool, message: &str) -> Status {
-    let name = command.name;
-    let message = format!("{name}: {message}");
-    match in_json {
-        true => say_json(&usage_error(&message, &help::usage(command))),
-        false => complain(&format!("{message}; try florumeja {name} --help")),
-    }
-    Status::Refused
-}
-
-/// A command line that does not fit, for a program.
-pub fn usage_error(message: &str, usage: &str) -> Json {
-    Json::Object(vec![
-        ("answer", Json::text("error")),
-        ("message", Json::text(message)),
-        ("usage", Json::text(usage)),
-    ])
-}
-
-pub fn say_json(json: &Json) {
+fn say_json(json: &Json) {
     say(&format!("{json}\n"));
 }

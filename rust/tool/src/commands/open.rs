@@ -48,7 +48,7 @@ fn open(arguments: &Arguments) -> Result<(), Fault> {
     // A workspace is large, so its bytes are made only if they are asked for.
     let kept = arguments.value(&OUTPUT).map(|_| bytes(&workspace));
     let json = Json::Object(fields);
-    deliver(arguments, &kept.unwrap_or_default(), &line, json)
+    deliver(arguments, &kept.unwrap_or_default(), &line, &json)
 }
 
 fn opened(arguments: &Arguments) -> Result<Workspace, Fault> {

@@ -7,7 +7,6 @@ use crate::library::{self, Verdict, Workspace, NO_WEIGHTS};
 use crate::notation::Notation;
 use crate::place::{self, Kind};
 use crate::progress::{Steps, Telling};
-use crate::refusal::Subject;
 use crate::sizes;
 
 pub const PARTIAL: Choice = Choice {
@@ -97,13 +96,7 @@ impl Reading {
             Notation::New => library::converted_weights(Notation::Old, &task, weights)
                 .and_then(|weights| library::check_line(&task, &weights)),
         }?;
-        // The words beside the line are made of the verdict, so they have to speak of the same.
-        match line == verdict.line() {
-            true => Ok((verdict, line)),
-            false => Err(Fault::Failure(
-                "the library's check and check_line do not fit together, so nothing is said".into(),
-            )),
-        }
+        Ok((verdict, line))
     }
 
     /// The task file that the file is, or that is built of it.
@@ -127,9 +120,7 @@ impl Reading {
         match self {
             Reading::Task => refused::task(fault, Kind::Task, file),
             _ => match place::told(fault, Kind::Partial, file).about(file) {
-                fault @ Fault::Refused(2) => {
-                    fault.known(Subject::CountOfOperators).explained(OUTGROWN)
-                }
+                fault @ Fault::Refused(2) => fault.explained(OUTGROWN),
                 other => other.of_partial(),
             },
         }

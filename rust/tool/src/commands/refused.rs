@@ -15,11 +15,11 @@ pub fn task(fault: Fault, kind: Kind, file: &[u8]) -> Fault {
 /// Says of a weight file where it is at fault.
 pub fn weights(fault: Fault, kind: Kind, file: &[u8]) -> Fault {
     let is_new = matches!(kind, Kind::Weights(Notation::New, _));
-    let fault = place::told(fault, kind, file).about(file);
-    // Read as an old file it lists nothing, and all else is left over.
-    let left_over = fault.refusal().is_some_and(|refusal| refusal.number == 5);
-    match left_over && !is_new && file.starts_with(&[0]) {
-        true => fault.explained(NEW_WEIGHTS),
-        false => fault,
+    match place::told(fault, kind, file).about(file) {
+        // Read as an old file it lists nothing, and all else is left over.
+        fault @ Fault::Refused(5) if !is_new && file.starts_with(&[0]) => {
+            fault.explained(NEW_WEIGHTS)
+        }
+        other => other,
     }
 }

@@ -4,13 +4,11 @@ use super::{deliver, refuse, Command, OUTPUT};
 use crate::answer;
 use crate::args::{Arguments, JSON};
 use crate::fault::Fault;
-use crate::output::Status;
+use crate::output::{complain, Status};
 use crate::progress::{Telling, PROGRESS};
-use crate::question::{self, Asking, CELLS, WAYS};
+use crate::question;
 use crate::report;
 use crate::words::shown;
-use std::ffi::OsStr;
-use std::path::Path;
 
 pub const COMMAND: Command = Command {
     name: "report",
@@ -22,43 +20,36 @@ Asks about one bay, as ask does, and writes one HTML page: pictures of both
 bays, the features that the weights list, which of them are true at the start
 and at the goal, the two counts, and why no move can change odd to even. The
 page needs nothing else, can be sent and printed, and can be checked by hand on
-a small bay. Slots have letters there, or numbers where pallets have letters, or
-names like r1-c2 for row and column where pallets have both.
+a small bay. Slots have letters there, or numbers where pallets have letters.
 Slots that the order does not name have a question mark; where the ways to fill
-them were asked one by one, each of the first 24 stands there with its weights.
-The page carries the version, the date (that of SOURCE_DATE_EPOCH, if it is set)
-and the digests of the task, of the weights and of the evidence. It needs -o, as in
+them were asked one by one, each stands there with its weights. The page carries
+the version, the date (that of SOURCE_DATE_EPOCH, if it is set) and the digests
+of the task and of the weights. It needs -o, as in
 
     florumeja report FILE -o page.html",
     binary: false,
-    options: &[&OUTPUT, &CELLS, &WAYS, &PROGRESS, &JSON],
-    statuses: &[
-        "IMPOSSIBLE: the order cannot be done",
-        "no parity proof, or already as wanted",
-    ],
+    options: &[&OUTPUT, &PROGRESS, &JSON],
+    statuses: &["IMPOSSIBLE: the order cannot be done", "no parity proof"],
     run,
 };
 
 fn run(arguments: &Arguments) -> Status {
+    if !arguments.has(&OUTPUT) {
+        complain("report: -o FILE is needed; try florumeja report --help");
+        return Status::Refused;
+    }
     match write(arguments) {
         Ok(status) => status,
         Err(fault) => refuse(arguments, &arguments.files[0], &fault),
     }
 }
 
-// A file's own name: the folders that it lies in are nobody's business who gets the page.
-fn own(name: &OsStr) -> &OsStr {
-    let own = Path::new(name).file_name();
-    // In a folder that name is a file and not standard input.
-    own.filter(|own| *own != "-").unwrap_or(name)
-}
-
 fn write(arguments: &Arguments) -> Result<Status, Fault> {
     let name = &arguments.files[0];
-    let answered = question::ask(name, Asking::of(arguments), &Telling::of(arguments))?;
-    let page = report::page(&shown(own(name)), &answered)?;
+    let answered = question::ask(name, &Telling::of(arguments))?;
+    let page = report::page(&shown(name), &answered)?;
     let line = format!("{}: {}", shown(name), answer::line(&answered));
     let json = answer::json(&name.to_string_lossy(), &answered);
-    deliver(arguments, page.as_bytes(), &line, json)?;
+    deliver(arguments, page.as_bytes(), &line, &json)?;
     Ok(answered.status())
 }

@@ -1,19 +1,18 @@
 //! `silence`: makes a partial file from a task file and marks.
 
 use super::partial::Reading;
-use super::{deliver_file, misused, refuse, Command, OUTPUT};
+use super::{deliver, refuse, Command, OUTPUT};
 use crate::args::{Arguments, Choice, JSON};
 use crate::fault::Fault;
 use crate::files;
 use crate::json::Json;
 use crate::library;
-use crate::output::Status;
-use crate::refusal::Subject;
+use crate::output::{complain, Status};
 use crate::sizes;
 use crate::words::counted;
 use std::ffi::OsStr;
 
-pub const MARKS: Choice = Choice {
+const MARKS: Choice = Choice {
     long: "--marks",
     short: None,
     value: Some("MARKS"),
@@ -43,9 +42,12 @@ the answer says so. For a bay as plain text write ? and use ask.",
 };
 
 fn run(arguments: &Arguments) -> Status {
-    let marks = match read_marks(arguments.value(&MARKS).unwrap_or_default()) {
+    let marks = match read_marks(arguments.value(&MARKS)) {
         Ok(marks) => marks,
-        Err(words) => return misused(&COMMAND, arguments.has(&JSON), &words),
+        Err(words) => {
+            complain(&format!("silence: {words}; try florumeja silence --help"));
+            return Status::Refused;
+        }
     };
     match silence(arguments, &marks) {
         Ok(()) => Status::Yes,
@@ -54,7 +56,8 @@ fn run(arguments: &Arguments) -> Status {
 }
 
 // Only 0s and 1s are marks; anything else could be meant in another way.
-fn read_marks(marks: &OsStr) -> Result<Vec<u8>, String> {
+fn read_marks(marks: Option<&OsStr>) -> Result<Vec<u8>, String> {
+    let marks = marks.ok_or("--marks MARKS is needed")?.to_string_lossy();
     let mark = |character| match character {
         '0' => Ok(0),
         '1' => Ok(1),
@@ -62,7 +65,7 @@ fn read_marks(marks: &OsStr) -> Result<Vec<u8>, String> {
             "--marks takes 0s and 1s with nothing between them, and not {other:?}"
         )),
     };
-    marks.to_string_lossy().chars().map(mark).collect()
+    marks.chars().map(mark).collect()
 }
 
 fn silence(arguments: &Arguments, marks: &[u8]) -> Result<(), Fault> {
@@ -91,7 +94,7 @@ fn give(arguments: &Arguments, marks: &[u8], partial: &[u8]) -> Result<(), Fault
         line.push_str(&format!("; {note}"));
         fields.push(("note", Json::Text(note)));
     }
-    deliver_file(arguments, partial, &line, Json::Object(fields))
+    deliver(arguments, partial, &line, &Json::Object(fields))
 }
 
 // A task that is taken by itself is not at fault: then it is the marks, or the limits of what is built.
@@ -101,10 +104,9 @@ fn told(fault: Fault, task: &[u8], marks: &[u8]) -> Fault {
     }
     let variables = sizes::of_task(task).unwrap_or_default().len();
     match fault {
-        fault @ Fault::Refused(3) if variables != marks.len() => {
+        Fault::Refused(number) if variables != marks.len() => {
             let (marks, variables) = (counted(marks.len(), "mark"), counted(variables, "variable"));
-            let counts = format!("--marks has {marks}, the task {variables}");
-            fault.known(Subject::ListOfMarks).explained(&counts)
+            Fault::Explained(number, format!("--marks has {marks}, the task {variables}"))
         }
         other => other.of_partial(),
     }
@@ -116,12 +118,13 @@ mod tests {
 
     #[test]
     fn marks_are_digits_and_nothing_else() {
-        let read = |words: &str| read_marks(OsStr::new(words));
+        let read = |words: &str| read_marks(Some(OsStr::new(words)));
         assert_eq!(read("101").unwrap(), [1, 0, 1]);
         assert_eq!(read("").unwrap(), []);
         for words in ["1,0", "1 0", "12", "-1", "1\u{661}", "yes"] {
             let message = read(words).unwrap_err();
             assert!(message.starts_with("--marks takes 0s and 1s"), "{message}");
         }
+        assert_eq!(read_marks(None).unwrap_err(), "--marks MARKS is needed");
     }
 }

@@ -20,12 +20,6 @@ extern "C" {
         room: *mut u64,
         room_length: usize,
     ) -> u64;
-    pub fn florumeja_replace_goal(
-        workspace: *mut u64,
-        workspace_length: usize,
-        values: *const u64,
-        values_length: usize,
-    ) -> u64;
     pub fn florumeja_build(
         bay: *const u8,
         bay_length: usize,

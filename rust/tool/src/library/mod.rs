@@ -12,7 +12,7 @@ use face::*;
 pub use kinds::{converted, converted_weights};
 pub use pairs::{dropped, mend, pair_fault, Reason};
 pub use places::{display, display_bay, display_new, display_partial, Holder, Part, NO_WEIGHTS};
-pub use workspace::{words_due, Workspace};
+pub use workspace::{words_due, Workspace, MOST_WORDS};
 
 // Room for the largest results that the rules' limits allow.
 // A task of a bay: 9,845 bytes, for four by four slots and labels that are all different.
@@ -57,17 +57,6 @@ pub enum Verdict {
     Accepted,
     EndsAlike,
     Operator(u32),
-}
-
-impl Verdict {
-    /// The line that the checker's program prints for it.
-    pub fn line(self) -> String {
-        match self {
-            Verdict::Accepted => "accepted".to_string(),
-            Verdict::EndsAlike => "rejected ends alike".to_string(),
-            Verdict::Operator(number) => format!("rejected operator {number}"),
-        }
-    }
 }
 
 /// A call that checks weights against a file.
@@ -183,27 +172,6 @@ pub fn find(workspace: &Workspace) -> Result<Option<Weights>, Fault> {
     }
 }
 
-/// Puts other values in the place of a workspace's goal; its answer is then that of the task with this
-/// goal, opened afresh.
-pub fn replace_goal(workspace: &mut Workspace, values: &[usize]) -> Result<(), Fault> {
-    let values: Vec<u64> = values.iter().map(|&value| value as u64).collect();
-    let words = workspace.words_mut();
-    // SAFETY: both slices live through the call, and only the workspace is written.
-    let word = unsafe {
-        florumeja_replace_goal(
-            words.as_mut_ptr(),
-            words.len(),
-            values.as_ptr(),
-            values.len(),
-        )
-    };
-    match answer("replace_goal", word)? {
-        Answer::Yes(_) => Ok(()),
-        Answer::Refused(number) => Err(Fault::Refused(number)),
-        Answer::No | Answer::Operator(_) => Err(unknown("replace_goal", word)),
-    }
-}
-
 /// Builds a task file from a bay file.
 pub fn build(bay: &[u8]) -> Result<Vec<u8>, Fault> {
     written("build", BAY_TASK_BYTES, |room| {
@@ -279,7 +247,9 @@ fn lent<T: Clone + Default>(size: usize) -> Result<Vec<T>, Fault> {
     let mut room = Vec::new();
     if room.try_reserve_exact(size).is_err() {
         let megabytes = (size * size_of::<T>()).div_ceil(1_000_000);
-        return Err(Fault::Memory(megabytes));
+        return Err(Fault::Failure(format!(
+            "there is not enough memory: this takes {megabytes} MB more"
+        )));
     }
     room.resize(size, T::default());
     Ok(room)

@@ -1,7 +1,6 @@
 //! The words of a workspace: how many there are, and where its parts stand in them.
 
 use crate::features::{self, Features};
-use std::sync::Arc;
 
 /// The most words that a workspace has: those of 64 variables and 32,768 features.
 pub const MOST_WORDS: usize = 1 + 3 * 64 + 512 * (1 + 32_768);
@@ -29,7 +28,7 @@ fn pairs_from(variables: usize) -> usize {
 /// A workspace that the library opened.
 pub struct Workspace {
     words: Vec<u64>,
-    features: Arc<Features>,
+    features: Features,
 }
 
 impl Workspace {
@@ -38,7 +37,6 @@ impl Workspace {
         let variables = *words.first()? as usize;
         let sizes = words.get(1..)?.get(..variables)?;
         let features = Features::new(sizes.iter().map(|&word| word as usize).collect());
-        let features = Arc::new(features);
         let workspace = Workspace { words, features };
         let due = words_due(workspace.features.sizes());
         (workspace.words.len() == due).then_some(workspace)
@@ -48,12 +46,11 @@ impl Workspace {
         &self.words
     }
 
-    pub(super) fn words_mut(&mut self) -> &mut [u64] {
-        &mut self.words
+    pub fn into_features(self) -> Features {
+        self.features
     }
 
-    /// The features of its task, which many proofs may share.
-    pub fn features(&self) -> &Arc<Features> {
+    pub fn features(&self) -> &Features {
         &self.features
     }
 

@@ -14,7 +14,7 @@ use crate::library;
 pub use cause::Cause;
 pub use mending::{mend, Dropped, Mended, MOST_STEPS};
 pub use naming::{Naming, Shape};
-pub use task_file::TaskFile;
+use task_file::TaskFile;
 
 /// A listed pair: a feature of two variables, by its number and in atoms.
 #[derive(Clone, Copy, PartialEq, Eq, Debug)]

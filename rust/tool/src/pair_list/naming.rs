@@ -1,6 +1,6 @@
 //! How the atoms of a pair are named: by variable and value, or, of a bay, by slot and label.
 
-use crate::bay::{Bay, GAP};
+use crate::bay::GAP;
 use crate::fault::Fault;
 use crate::features::Atom;
 use crate::json::Json;
@@ -52,12 +52,6 @@ impl Naming {
                 slots = rows * columns
             ))),
         }
-    }
-
-    /// The slots of a bay.
-    pub fn of_bay(bay: &Bay) -> Naming {
-        let (rows, columns) = (bay.rows, bay.columns);
-        Naming::Slots(Shape { rows, columns })
     }
 
     pub fn variable(&self, variable: usize) -> String {

@@ -1,18 +1,17 @@
 //! A task file around its pair list.
 
-use super::{Cause, Culprit, Pair};
+use super::cause::{Cause, Entry, Operator};
+use super::{Culprit, Pair};
 use crate::features::{Feature, Features};
 use crate::library::Reason;
 use crate::notation::Notation;
 use crate::numbers;
-use crate::operator::{Entry, Operator};
 
 /// A task file that the library found well formed, cut before its pair list and behind it.
 pub struct TaskFile<'a> {
     notation: Notation,
     features: Features,
-    pub start: Vec<usize>,
-    pub goal: Vec<usize>,
+    start: Vec<usize>,
     /// What says its kind, the count of variables, sizes, start and goal.
     front: &'a [u8],
     /// The listed pairs, increasing.
@@ -29,14 +28,13 @@ impl<'a> TaskFile<'a> {
         let variables = numbers::take(&mut left)?;
         let sizes = numbers::take_many(&mut left, variables)?;
         let start = numbers::take_many(&mut left, variables)?;
-        let goal = numbers::take_many(&mut left, variables)?;
+        let _goal = numbers::take_many(&mut left, variables)?;
         let front = &bytes[..bytes.len() - left.len()];
         let pairs = notation.take_list(&mut left)?;
         Some(TaskFile {
             notation,
             features: Features::new(sizes),
             start,
-            goal,
             front,
             pairs,
             back: left,
@@ -53,10 +51,6 @@ impl<'a> TaskFile<'a> {
 
     pub fn sizes(&self) -> &[usize] {
         self.features.sizes()
-    }
-
-    pub fn feature_count(&self) -> usize {
-        self.features.count()
     }
 
     /// A listed pair with its atoms; none where the number is not in the list.
@@ -77,7 +71,9 @@ impl<'a> TaskFile<'a> {
             Reason::Start => self.holds(&pair).then_some(Cause::Start),
             Reason::Operator(number) => {
                 let operator = self.operator(number)?;
-                leads_to(&operator, &pair).then_some(Cause::Operator(operator))
+                operator
+                    .leads_to(&pair)
+                    .then_some(Cause::Operator(operator))
             }
         };
         cause.map(|cause| Culprit { pair, cause })
@@ -87,30 +83,13 @@ impl<'a> TaskFile<'a> {
         Feature::Pair(pair.one, pair.two).holds_in(&self.start)
     }
 
-    /// The operators in their order, as far as the bytes hold them.
-    pub fn operators(&self) -> impl Iterator<Item = Operator> + 'a {
+    fn operator(&self, number: usize) -> Option<Operator> {
         let mut left = self.back;
-        let count = numbers::take(&mut left).unwrap_or(0);
-        let operator = move |number| {
-            let entries = take_entries(&mut left)?;
-            Some(Operator { number, entries })
-        };
-        (0..count).map_while(operator)
+        let count = numbers::take(&mut left)?;
+        let mut operators = (0..count).map(|_| take_entries(&mut left));
+        let entries = operators.nth(number)??;
+        Some(Operator { number, entries })
     }
-
-    pub fn operator(&self, number: usize) -> Option<Operator> {
-        self.operators().nth(number)
-    }
-
-    pub fn operator_count(&self) -> usize {
-        numbers::take(&mut { self.back }).unwrap_or(0)
-    }
-}
-
-// Whether it leads to one of the two atoms; the other it may find.
-fn leads_to(operator: &Operator, pair: &Pair) -> bool {
-    let mut afters = operator.entries.iter().map(Entry::led_to);
-    afters.any(|atom| atom == pair.one || atom == pair.two)
 }
 
 fn take_entries(bytes: &mut &[u8]) -> Option<Vec<Entry>> {

@@ -136,7 +136,7 @@ fn the_pair_behind_a_refusal_is_told() {
          variable 1 = 1: operator 0, which takes variable 0 from 0 to 1, breaks it; all counted \
          from 0; florumeja mend TASK -o FILE writes the task without the pairs that cannot stay)"
     );
-    assert_eq!(words(&[65]), crate::refusal::Refusal::new(2).words());
+    assert_eq!(words(&[65]), crate::fault::refusal_words(2));
 }
 
 // The same pairs as the first of them and a gap.

@@ -2,8 +2,7 @@
 
 use crate::fault::Fault;
 use crate::library::{
-    build, check, check_new, check_partial, converted, display, display_bay, display_new,
-    display_partial, Holder, Part, NO_WEIGHTS,
+    converted, display, display_bay, display_new, display_partial, Holder, Part, NO_WEIGHTS,
 };
 use crate::notation::Notation;
 use crate::numbers;
@@ -46,28 +45,6 @@ impl Kind<'_> {
             _ => Err(Fault::Failure(
                 "the library shows a fault in a file that it had taken, so nothing is said".into(),
             )),
-        }
-    }
-
-    /// Why the library refuses a file of this kind, if it does.
-    pub fn refusal(self, file: &[u8]) -> Option<Fault> {
-        match self {
-            Kind::Task => check(file, NO_WEIGHTS).err(),
-            Kind::TaskIn(due) => converted(due.other(), file).err(),
-            Kind::Partial => check_partial(file, NO_WEIGHTS).err(),
-            Kind::Bay => build(file).err(),
-            Kind::Weights(Notation::Old, task) => check(task, file).err(),
-            Kind::Weights(Notation::New, task) => check_new(task, file).err(),
-            Kind::PartialWeights(partial) => check_partial(partial, file).err(),
-        }
-    }
-
-    /// Whether a file has all its numbers, none of them is at fault, and nothing is left over.
-    pub fn is_whole(self, file: &[u8]) -> bool {
-        match self.refusal(file) {
-            None => true,
-            Some(Fault::Refused(number)) => matches!(number, 6 | 7 | 10 | 11),
-            Some(_) => false,
         }
     }
 

@@ -3,7 +3,6 @@
 //! The refusal, the file and the place come from the library. The tool only walks the file up to the
 //! place, to name the number that is due, and asks the library which numbers it would take there.
 
-mod detail;
 mod kind;
 mod pointer;
 mod range;
@@ -15,9 +14,7 @@ use crate::fault::Fault;
 use crate::json::Json;
 use crate::library::Part;
 use crate::numbers::{self, Form};
-use crate::refusal::{Refusal, Subject};
 use crate::words::hexadecimal;
-pub use detail::Detail;
 pub use kind::Kind;
 use range::Taken;
 use walk::Due;
@@ -25,8 +22,7 @@ use walk::Due;
 /// For the help of each command that reads binary files.
 pub const ABOUT: &str = "\
 A file that is refused by 1 to 4, 12 or 13 is answered with the place at fault,
-in bytes from 0, what stands there, in hexadecimal, and what is due there. By 5
-it is answered with how many bytes are left over, and from which byte on.";
+in bytes from 0, what stands there, in hexadecimal, and what is due there.";
 
 /// A number at which a file is refused.
 #[derive(Debug)]
@@ -67,8 +63,8 @@ fn placed(number: u32, kind: Kind, file: &[u8]) -> Result<Fault, Fault> {
         )));
     }
     Ok(match part {
-        Some(part) => Fault::Placed(Box::new(Place::new(number, kind, file, part))),
-        None => Detail::of(number, kind, file).map_or(Fault::Refused(number), Fault::Counted),
+        Some(part) => Fault::Placed(Box::new(Place::new(number, kind, file, part)), None),
+        None => Fault::Refused(number),
     })
 }
 
@@ -100,15 +96,6 @@ impl Place {
             expected: due.map(|due| Expected::new(kind, front, due, form)),
             pointer: pointer::pointer(front, behind, length),
         }
-    }
-
-    /// The refusal, and what is at fault there.
-    pub fn about(&self) -> Refusal {
-        let expected = self.expected.as_ref();
-        Refusal::about(
-            self.refusal,
-            expected.and_then(|due| due.subject(self.form)),
-        )
     }
 
     /// The place, what stands there and what was due, in words.
@@ -166,14 +153,6 @@ impl Expected {
         Expected {
             due,
             taken: taken.filter(fits),
-        }
-    }
-
-    // What takes a number by itself, and not together with those before it, is about the total.
-    fn subject(&self, form: Form) -> Option<Subject> {
-        match (form, self.taken.and_then(|taken| taken.total)) {
-            (Form::Number(number), Some(total)) if total.has_alone(number) => Some(total.subject),
-            _ => Some(self.due.subject),
         }
     }
 

@@ -1,10 +1,9 @@
 //! The numbers that the library takes at a place: it is asked, and what it does not bear out is not said.
 
-use super::walk::{Bounds, Sum};
+use super::walk::Bounds;
 use super::Kind;
 use crate::notation::Notation;
 use crate::numbers::{self, LARGEST};
-use crate::refusal::Subject;
 use std::ops::Range;
 
 /// Where a limit leaves any number at all, it leaves one of those up to this one.
@@ -20,23 +19,7 @@ pub struct Taken {
     /// The least and the most; none where no number is taken.
     pub ends: Option<(usize, usize)>,
     /// The total whose limit leaves fewer numbers than there would be otherwise.
-    pub total: Option<Total>,
-}
-
-/// A limit on what a number makes together with those before it.
-#[derive(Clone, Copy, PartialEq, Eq, Debug)]
-pub struct Total {
-    what: &'static str,
-    pub subject: Subject,
-    /// The least and the most where nothing stands before it.
-    alone: Option<(usize, usize)>,
-}
-
-impl Total {
-    /// Whether nothing but the total is against the number.
-    pub fn has_alone(&self, number: usize) -> bool {
-        Taken::new(self.alone).has(number)
-    }
+    pub total: Option<&'static str>,
 }
 
 impl Taken {
@@ -46,19 +29,14 @@ impl Taken {
         match bounds {
             Bounds::Before(range) => trial.within(range),
             Bounds::Limit => trial.up_to_limit(),
-            Bounds::Total(Sum { what, subject }) => {
+            Bounds::Total(what) => {
                 let taken = trial.up_to_limit()?;
                 let front = match kind {
                     Kind::TaskIn(Notation::New) => NEW_ALONE,
                     _ => ALONE,
                 };
                 let alone = Trial { kind, front }.up_to_limit()?;
-                let total = Total {
-                    what,
-                    subject: *subject,
-                    alone: alone.ends,
-                };
-                let total = (taken.most() < alone.most()).then_some(total);
+                let total = (taken.most() < alone.most()).then_some(*what);
                 Some(Taken { total, ..taken })
             }
         }
@@ -84,7 +62,7 @@ impl Taken {
             Some((least, most)) => format!("from {least} to {most}"),
         };
         match self.total {
-            Some(Total { what, .. }) => format!("{words}, as the {what} in all have a limit too"),
+            Some(total) => format!("{words}, as the {total} in all have a limit too"),
             None => words,
         }
     }

@@ -2,6 +2,7 @@
 
 use super::walk::Bounds;
 use super::*;
+use crate::library::{self, NO_WEIGHTS};
 use crate::notation::Notation;
 
 /// Sizes 2 and 64, so that numbers stand on both sides of 128; three pairs, two operators.
@@ -66,8 +67,20 @@ fn names(kind: Kind, file: &[u8]) -> Vec<String> {
     names.map(Option::unwrap_or_default).collect()
 }
 
+fn refusal(kind: Kind, file: &[u8]) -> Option<Fault> {
+    match kind {
+        Kind::Task => library::check(file, NO_WEIGHTS).err(),
+        Kind::TaskIn(due) => library::converted(due.other(), file).err(),
+        Kind::Partial => library::check_partial(file, NO_WEIGHTS).err(),
+        Kind::Bay => library::build(file).err(),
+        Kind::Weights(Notation::Old, task) => library::check(task, file).err(),
+        Kind::Weights(Notation::New, task) => library::check_new(task, file).err(),
+        Kind::PartialWeights(partial) => library::check_partial(partial, file).err(),
+    }
+}
+
 fn words(kind: Kind, file: &[u8]) -> String {
-    told(kind.refusal(file).unwrap(), kind, file).words()
+    told(refusal(kind, file).unwrap(), kind, file).words()
 }
 
 #[test]
@@ -288,7 +301,7 @@ fn the_number_that_is_due_does_not_depend_on_what_stands_there() {
     }
 }
 
-// Whatever byte is mistyped, the file is taken, or refused for its pairs, or all is told of what is at fault.
+// Whatever byte is mistyped, the file is taken, or refused without a place, or all is told of the place.
 #[test]
 fn every_mistyped_byte_is_told_with_what_is_due() {
     let mut placed = 0;
@@ -297,16 +310,11 @@ fn every_mistyped_byte_is_told_with_what_is_due() {
             for byte in 0..=255 {
                 let mut file = file.to_vec();
                 file[place] = byte;
-                match kind
-                    .refusal(&file)
-                    .map(|refusal| told(refusal, kind, &file))
-                {
-                    None | Some(Fault::Refused(6 | 7)) | Some(Fault::Counted(_)) => {}
-                    Some(Fault::Placed(at)) => {
+                match refusal(kind, &file).map(|refusal| told(refusal, kind, &file)) {
+                    None | Some(Fault::Refused(5 | 6 | 7 | 10 | 11)) => {}
+                    Some(Fault::Placed(at, None)) => {
                         let expected = at.expected.as_ref().unwrap();
                         assert!(expected.taken.is_some(), "{file:?}");
-                        let whole = Refusal::new(at.refusal).words() == at.about().words();
-                        assert_eq!(whole, matches!(at.refusal, 1 | 12 | 13), "{file:?}");
                         placed += 1;
                     }
                     Some(other) => panic!("{file:?} {}", other.words()),
@@ -438,7 +446,9 @@ fn numbers_outside_their_range_are_told() {
 fn a_refusal_without_a_place_stays_as_it_is() {
     let mut outgrown = vec![1, 1, 0, 0, 0, 0xff, 0xff, 0x7f];
     outgrown.extend([1, 0, 0, 0].repeat(numbers::LARGEST));
-    let due: [(Kind, &[u8], u32); 5] = [
+    let due: [(Kind, &[u8], u32); 11] = [
+        (Kind::Task, &[2, 2, 2, 0, 0, 0, 1, 0, 0, 7], 5),
+        (Kind::Task, &[0, 2, 2, 2, 0, 0, 0, 1, 0, 0, 7], 5),
         (
             Kind::TaskIn(Notation::Old),
             &[2, 2, 2, 1, 1, 0, 0, 1, 7, 0],
@@ -449,133 +459,20 @@ fn a_refusal_without_a_place_stays_as_it_is() {
             &[0, 2, 2, 2, 1, 1, 0, 0, 1, 7, 0],
             6,
         ),
+        (Kind::Weights(Notation::New, SMALL), &[0, 0, 7], 5),
         (Kind::Task, &[2, 2, 2, 1, 1, 0, 0, 1, 7, 0], 6),
         (Kind::Task, &[2, 2, 2, 0, 0, 1, 0, 1, 7, 1, 1, 0, 0, 1], 7),
+        (Kind::Bay, &[1, 2, 0, 0, 0, 1], 10),
+        (Kind::Bay, &[1, 3, 0, 1, 1, 0, 1, 2], 11),
+        (Kind::Weights(Notation::Old, SMALL), &[0, 7], 5),
         (Kind::Partial, &outgrown, 2),
     ];
     for (kind, file, number) in due {
-        let told = told(kind.refusal(file).unwrap(), kind, file);
+        let told = told(refusal(kind, file).unwrap(), kind, file);
         assert!(
             matches!(told, Fault::Refused(told) if told == number),
             "{number}"
         );
-    }
-}
-
-// Whatever follows a file, it is left over, from the end of the file on.
-#[test]
-fn bytes_that_are_left_over_are_counted() {
-    for (kind, file) in KINDS {
-        for more in [&[0][..], &[7, 0x80], &[0xff, 0xff, 0xff, 1]] {
-            let file = [file, more].concat();
-            let (bytes, from) = (more.len(), file.len() - more.len());
-            let refusal = kind.refusal(&file).unwrap();
-            assert_eq!(refusal.refusal().unwrap().number, 5, "{file:?}");
-            assert_eq!(
-                Detail::of(5, kind, &file),
-                Some(Detail::LeftOver { bytes, from })
-            );
-        }
-    }
-    let one = words(Kind::Weights(Notation::Old, SMALL), &[0, 7]);
-    assert_eq!(
-        one,
-        "refused 5: 1 byte is left over from byte 1 on; bytes counted from 0"
-    );
-    // The start holds its pair, and no gap stands in the start: each is judged, but not before the end.
-    let held = words(Kind::Task, &[2, 2, 2, 1, 1, 0, 0, 1, 7, 0, 9, 9]);
-    assert_eq!(
-        held,
-        "refused 5: 2 bytes are left over from byte 10 on; bytes counted from 0"
-    );
-    let gapless = words(Kind::Bay, &[1, 2, 1, 1, 0, 1, 0]);
-    assert!(gapless.starts_with("refused 5: 1 byte is left over from byte 6"));
-}
-
-#[test]
-fn gaps_and_labels_of_a_bay_are_counted() {
-    let due: [(&[u8], &str); 6] = [
-        (&[1, 2, 0, 0, 0, 1], "refused 10: the start has 2 gaps"),
-        (&[1, 2, 1, 1, 0, 1], "refused 10: the start has no gap"),
-        (&[1, 2, 0, 1, 1, 1], "refused 10: the goal has no gap"),
-        (&[1, 3, 0, 1, 2, 0, 0, 0], "refused 10: the goal has 3 gaps"),
-        (
-            &[1, 3, 0, 1, 1, 0, 1, 2],
-            "refused 11: label 1 stands 2 times in the start and 1 time in the goal",
-        ),
-        (
-            &[2, 2, 0, 3, 1, 3, 2, 1, 3, 0],
-            "refused 11: label 2 stands 0 times in the start and 1 time in the goal",
-        ),
-    ];
-    for (file, expected) in due {
-        assert_eq!(words(Kind::Bay, file), expected);
-    }
-}
-
-// A refusal that the bytes do not bear out is a number and no more.
-#[test]
-fn what_the_bytes_do_not_bear_out_is_not_counted() {
-    let good: &[u8] = &[1, 2, 0, 1, 1, 0];
-    for number in [5, 10, 11] {
-        assert_eq!(Detail::of(number, Kind::Bay, good), None, "{number}");
-    }
-    // The size breaks its limit, so there is no end that the library would take.
-    assert_eq!(Detail::of(5, Kind::Task, &[1, 65, 0, 0, 0, 0, 9]), None);
-    assert_eq!(Detail::of(10, Kind::Bay, &[1, 2, 0, 0, 0, 1, 9]), None);
-    assert_eq!(Detail::of(10, Kind::Task, &[1, 2, 0, 0, 0, 1]), None);
-}
-
-// The last size makes the features too many by itself, or together with the others, or is no size at all.
-#[test]
-fn only_what_is_at_fault_is_named() {
-    let due: [(Kind, &[u8], &str); 13] = [
-        (Kind::Task, &[65], "the count of variables breaks its limit"),
-        (Kind::Task, &[2, 65], "a size breaks its limit"),
-        (
-            Kind::Task,
-            &[5, 64, 64, 64, 64, 31],
-            "the count of features breaks its limit",
-        ),
-        (
-            Kind::Task,
-            &[5, 64, 64, 64, 64, 65],
-            "a size breaks its limit",
-        ),
-        (
-            Kind::Task,
-            &[6, 64, 64, 64, 64, 30, 1],
-            "the count of features breaks its limit",
-        ),
-        (
-            Kind::Task,
-            &[6, 64, 64, 64, 64, 30, 0],
-            "a size breaks its limit",
-        ),
-        (Kind::Bay, &[4, 5], "a bay dimension breaks its limit"),
-        (Kind::Task, &[2, 2, 2, 0, 2], "a value is outside its range"),
-        (Kind::Partial, &[2, 2, 2, 2], "a mark is outside its range"),
-        (Kind::Bay, &[1, 2, 0, 2], "a label is outside its range"),
-        (
-            Kind::TaskIn(Notation::New),
-            SMALL,
-            "a new file does not begin with 0",
-        ),
-        (
-            Kind::Weights(Notation::Old, SMALL),
-            &[1, 8],
-            "a weight is outside its range",
-        ),
-        (
-            Kind::Weights(Notation::Old, SMALL),
-            &[2, 3, 3],
-            "weights do not increase",
-        ),
-    ];
-    for (kind, file, expected) in due {
-        let refusal = told(kind.refusal(file).unwrap(), kind, file).refusal();
-        let words = refusal.unwrap().words();
-        assert!(words.ends_with(&format!(": {expected}")), "{words}");
     }
 }
 
@@ -619,7 +516,7 @@ fn a_file_of_the_kind_that_is_due_has_no_fault() {
 #[test]
 fn a_program_is_told_the_same() {
     let json = |kind: Kind, file: &[u8]| {
-        let told = told(kind.refusal(file).unwrap(), kind, file);
+        let told = told(refusal(kind, file).unwrap(), kind, file);
         let json = told.json("x").to_string();
         json.split_once("\"place\"").unwrap().1.to_string()
     };

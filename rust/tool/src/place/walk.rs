@@ -4,7 +4,6 @@ use super::Kind;
 use crate::features;
 use crate::notation::Notation;
 use crate::numbers::{self, Form, LARGEST};
-use crate::refusal::Subject;
 use crate::sizes;
 use crate::words::ordinal;
 use std::ops::Range;
@@ -14,15 +13,11 @@ const VARIABLES: &str = "bytes and variables";
 const OPERATORS: &str = "bytes and operators";
 const BOTH: &str = "bytes, variables and operators";
 const SLOTS: &str = "bytes and slots";
-/// A place at which no walk arrives.
-const NOWHERE: usize = usize::MAX;
 
 /// The number that is due at a place.
 #[derive(Debug)]
 pub struct Due {
     pub name: String,
-    /// What a refusal of it speaks of.
-    pub subject: Subject,
     /// What is counted from 0 in the name and in the place.
     pub counted: &'static str,
     pub bounds: Bounds,
@@ -36,67 +31,38 @@ pub enum Bounds {
     /// A limit, which the library knows.
     Limit,
     /// The same, and a limit on what it makes together with the numbers before it.
-    Total(Sum),
+    Total(&'static str),
 }
-
-/// What a number makes together with the numbers before it.
-#[derive(Clone, Copy, Debug)]
-pub struct Sum {
-    pub what: &'static str,
-    pub subject: Subject,
-}
-
-const FEATURES: Sum = Sum {
-    what: "features",
-    subject: Subject::CountOfFeatures,
-};
-const ALL_SLOTS: Sum = Sum {
-    what: "slots",
-    subject: Subject::Dimension,
-};
 
 impl Due {
-    fn new(name: String, subject: Subject, counted: &'static str, bounds: Bounds) -> Due {
+    fn new(name: String, counted: &'static str, bounds: Bounds) -> Due {
         Due {
             name,
-            subject,
             counted,
             bounds,
         }
     }
 
-    fn count_of(what: &str, subject: Subject, bounds: Bounds) -> Due {
-        Due::new(format!("the count of {what}"), subject, BYTES, bounds)
+    fn count_of(what: &str, bounds: Bounds) -> Due {
+        Due::new(format!("the count of {what}"), BYTES, bounds)
     }
 }
 
 /// What is due at a place of a file; none where the numbers before it do not lead there.
 pub fn due(kind: Kind, file: &[u8], place: usize) -> Option<Due> {
-    match walked(kind, file, place) {
-        Err(Stop::Arrived(due)) => Some(due),
-        _ => None,
-    }
-}
-
-/// Where the last number of a file ends; none where its numbers do not lead there.
-pub fn end(kind: Kind, file: &[u8]) -> Option<usize> {
-    walked(kind, file, NOWHERE).ok()
-}
-
-fn walked(kind: Kind, file: &[u8], place: usize) -> Step<usize> {
     let mut walk = Walk { file, place, at: 0 };
-    let sizes = |sizes: Option<Vec<usize>>| sizes.ok_or(Stop::Lost);
-    match kind {
+    let step = match kind {
         Kind::Task => walk.task(None),
         Kind::TaskIn(notation) => walk.task(Some(notation)),
         Kind::Partial => walk.partial(),
         Kind::Bay => walk.bay(),
-        Kind::Weights(notation, task) => walk.weights(notation, &sizes(sizes::of_task(task))?),
-        Kind::PartialWeights(partial) => {
-            walk.weights(Notation::Old, &sizes(sizes::of_built(partial))?)
-        }
-    }?;
-    Ok(walk.at)
+        Kind::Weights(notation, task) => walk.weights(notation, &sizes::of_task(task)?),
+        Kind::PartialWeights(partial) => walk.weights(Notation::Old, &sizes::of_built(partial)?),
+    };
+    match step {
+        Err(Stop::Arrived(due)) => Some(due),
+        _ => None,
+    }
 }
 
 struct Walk<'a> {
@@ -143,8 +109,7 @@ impl Walk<'_> {
         match notation_due {
             None if self.place == 0 => {
                 let either = "variables or the 0 of a new task file";
-                let subject = Subject::CountOfVariables;
-                self.number(|| Due::count_of(either, subject, Bounds::Limit))?;
+                self.number(|| Due::count_of(either, Bounds::Limit))?;
             }
             _ if notation == Notation::New => self.zero("task")?,
             _ => {}
@@ -154,8 +119,7 @@ impl Walk<'_> {
 
     fn zero(&mut self, noun: &str) -> Step<()> {
         let name = || format!("the first number of a new {noun} file");
-        let subject = Subject::Beginning;
-        self.number(|| Due::new(name(), subject, BYTES, Bounds::Before(0..1)))?;
+        self.number(|| Due::new(name(), BYTES, Bounds::Before(0..1)))?;
         Ok(())
     }
 
@@ -170,15 +134,13 @@ impl Walk<'_> {
     }
 
     fn bay(&mut self) -> Step<()> {
-        let side = |what, bounds| Due::count_of(what, Subject::Dimension, bounds);
-        let rows = self.number(|| side("rows", Bounds::Limit))?;
-        let columns = self.number(|| side("columns", Bounds::Total(ALL_SLOTS)))?;
+        let rows = self.number(|| Due::count_of("rows", Bounds::Limit))?;
+        let columns = self.number(|| Due::count_of("columns", Bounds::Total("slots")))?;
         let slots = rows * columns;
         for list in ["start", "goal"] {
             for slot in 0..slots {
                 let name = || format!("the {list} label of slot {slot}");
-                let bounds = Bounds::Before(0..slots);
-                self.number(|| Due::new(name(), Subject::Label, SLOTS, bounds))?;
+                self.number(|| Due::new(name(), SLOTS, Bounds::Before(0..slots)))?;
             }
         }
         Ok(())
@@ -188,21 +150,18 @@ impl Walk<'_> {
         if notation == Notation::New {
             self.zero("weight")?;
         }
-        let range = 0..features::count(sizes);
-        self.features(notation, "weight", Subject::Weight, range)
+        self.features(notation, "weight", 0..features::count(sizes))
     }
 
     fn sizes(&mut self) -> Step<Vec<usize>> {
-        let subject = Subject::CountOfVariables;
-        let count = self.number(|| Due::count_of("variables", subject, Bounds::Limit))?;
+        let count = self.number(|| Due::count_of("variables", Bounds::Limit))?;
         let size = |variable| {
             let bounds = match variable + 1 == count {
-                true => Bounds::Total(FEATURES),
+                true => Bounds::Total("features"),
                 false => Bounds::Limit,
             };
             Due::new(
                 format!("the size of variable {variable}"),
-                Subject::Size,
                 VARIABLES,
                 bounds,
             )
@@ -215,7 +174,7 @@ impl Walk<'_> {
     fn marks(&mut self, count: usize) -> Step<Vec<usize>> {
         let mark = |variable| {
             let name = format!("the mark of variable {variable}");
-            Due::new(name, Subject::Mark, VARIABLES, Bounds::Before(0..2))
+            Due::new(name, VARIABLES, Bounds::Before(0..2))
         };
         (0..count)
             .map(|variable| self.number(|| mark(variable)))
@@ -229,35 +188,28 @@ impl Walk<'_> {
     ) -> Step<()> {
         for (variable, size) in sizes {
             let name = || format!("the {state} value of variable {variable}");
-            let bounds = Bounds::Before(0..*size);
-            self.number(|| Due::new(name(), Subject::Value, VARIABLES, bounds))?;
+            self.number(|| Due::new(name(), VARIABLES, Bounds::Before(0..*size)))?;
         }
         Ok(())
     }
 
     fn pairs_and_operators(&mut self, notation: Notation, sizes: &[usize]) -> Step<()> {
         let pairs = features::single_count(sizes)..features::count(sizes);
-        self.features(notation, "listed pair", Subject::Pair, pairs)?;
-        let count = self.count_of_list("operator", Subject::CountOfOperators)?;
+        self.features(notation, "listed pair", pairs)?;
+        let count = self.count_of_list("operator")?;
         for operator in 0..count {
             self.operator(operator, sizes)?;
         }
         Ok(())
     }
 
-    fn count_of_list(&mut self, noun: &str, subject: Subject) -> Step<usize> {
+    fn count_of_list(&mut self, noun: &str) -> Step<usize> {
         let bounds = Bounds::Before(0..LARGEST + 1);
-        self.number(|| Due::count_of(&format!("{noun}s"), subject, bounds))
+        self.number(|| Due::count_of(&format!("{noun}s"), bounds))
     }
 
-    fn features(
-        &mut self,
-        notation: Notation,
-        noun: &str,
-        subject: Subject,
-        range: Range<usize>,
-    ) -> Step<()> {
-        let count = self.count_of_list(noun, subject)?;
+    fn features(&mut self, notation: Notation, noun: &str, range: Range<usize>) -> Step<()> {
+        let count = self.count_of_list(noun)?;
         let mut least = range.start;
         for place in 1..=count {
             let feature = || match count {
@@ -268,11 +220,11 @@ impl Walk<'_> {
                 Notation::New if place > 1 => {
                     let name = || format!("the gap less one to {}", feature());
                     let bounds = Bounds::Before(0..range.end.saturating_sub(least));
-                    least + self.number(|| Due::new(name(), subject, BYTES, bounds))? + 1
+                    least + self.number(|| Due::new(name(), BYTES, bounds))? + 1
                 }
                 _ => {
                     let bounds = Bounds::Before(least..range.end);
-                    self.number(|| Due::new(feature(), subject, BYTES, bounds))? + 1
+                    self.number(|| Due::new(feature(), BYTES, bounds))? + 1
                 }
             };
         }
@@ -282,21 +234,18 @@ impl Walk<'_> {
     fn operator(&mut self, operator: usize, sizes: &[usize]) -> Step<()> {
         let bounds = Bounds::Before(1..sizes.len() + 1);
         let name = || format!("the count of entries of operator {operator}");
-        let subject = Subject::CountOfEntries;
-        let count = self.number(|| Due::new(name(), subject, OPERATORS, bounds))?;
+        let count = self.number(|| Due::new(name(), OPERATORS, bounds))?;
         let mut least = 0;
         for place in 1..=count {
             let bounds = Bounds::Before(least..sizes.len());
             let entry = || format!("the {} entry of operator {operator}", ordinal(place));
             let name = || format!("the variable of {}", entry());
-            let subject = Subject::Variable;
-            let variable = self.number(|| Due::new(name(), subject, BOTH, bounds))?;
+            let variable = self.number(|| Due::new(name(), BOTH, bounds))?;
             let size = *sizes.get(variable).ok_or(Stop::Lost)?;
             for time in ["before", "after"] {
                 let name =
                     || format!("the value of variable {variable} {time} operator {operator}");
-                let bounds = Bounds::Before(0..size);
-                self.number(|| Due::new(name(), Subject::Value, BOTH, bounds))?;
+                self.number(|| Due::new(name(), BOTH, Bounds::Before(0..size)))?;
             }
             least = variable + 1;
         }

@@ -1,30 +1,31 @@
 //! What is shown on standard error while a person waits, and when.
 
 mod bar;
-mod clock;
 mod steps;
 
 use crate::args::{Arguments, Choice};
-use std::io::{self, IsTerminal};
+use std::io::{self, IsTerminal, Write};
 
 pub use bar::Bar;
 pub use steps::{Steps, Telling};
+
+/// Takes away what stands on the line of a terminal.
+const CLEAR: &str = "\r\x1b[K";
 
 pub const PROGRESS: Choice = Choice {
     long: "--progress",
     short: None,
     value: Some("WHEN"),
-    help: "tell what takes longer than a second: auto, always or never",
+    help: "tell the steps of a large task: auto, always or never",
 };
 
 /// For the help of each command that takes the option.
 pub const ABOUT: &str = "\
 A bay of sixteen slots takes about a second and a workspace of 14,992,917 words,
-which is 120 MB. What takes longer than a second is told: one line on standard
-error, new each second, has the step that is being taken and the seconds since the
-first step, if that is a terminal (auto). With --progress always it is told
-elsewhere too, in a line of its own for each second at which another step is being
-taken; with never, nowhere.";
+which is 120 MB. While a task as large is worked on, one line on standard error
+tells which step is taken and, after a second, for how long, if that is a
+terminal (auto). With --progress always the steps are told elsewhere too, in a
+line each; with never, nowhere.";
 
 /// What is wrong with the option's value, if anything is.
 pub fn misfit(arguments: &Arguments) -> Option<&'static str> {
@@ -63,7 +64,7 @@ impl When {
 #[derive(Clone, Copy, PartialEq, Eq, Debug)]
 pub enum Shown {
     Nowhere,
-    /// Lines that stay.
+    /// A line for each step, which stays.
     InLines,
     /// One line of a terminal, which is written over.
     InPlace,
@@ -75,6 +76,12 @@ impl Shown {
         let when = When::given(arguments).unwrap_or(When::Auto);
         when.shown(io::stderr().is_terminal())
     }
+}
+
+fn write(words: &str) {
+    let mut out = io::stderr().lock();
+    // A line that cannot be shown is no reason to stop.
+    let _ = out.write_all(words.as_bytes()).and_then(|()| out.flush());
 }
 
 #[cfg(test)]
@@ -102,7 +109,7 @@ mod tests {
 
     #[test]
     fn other_words_are_a_misfit() {
-        for words in ["Always", "yes", "auto "] {
+        for words in ["", "Always", "yes", "auto "] {
             assert!(misfit(&arguments(&["--progress", words])).is_some());
         }
         assert_eq!(misfit(&arguments(&["--progress", "never"])), None);

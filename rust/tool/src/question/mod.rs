@@ -1,75 +1,30 @@
 //! The main question: is the order for a bay impossible?
 
-mod asking;
-mod proof;
 #[cfg(test)]
 mod tests;
-mod ways;
 
 use crate::bay::Bay;
 use crate::bay_text::BayText;
-use crate::binary;
 use crate::fault::Fault;
+use crate::features::Features;
 use crate::files;
-use crate::library;
+use crate::library::{self, Verdict, Weights, Workspace};
 use crate::output::Status;
-use crate::progress::{Steps, Telling};
-pub use asking::{misfit, Asking, CELLS, WAYS};
-pub use proof::{objection, Proof};
+use crate::progress::Telling;
+use crate::words::parity;
 use std::ffi::OsStr;
-pub use ways::Way;
 
+/// Silent slots that can be filled in more ways are not asked about way by way.
+pub const MOST_WAYS: usize = 24;
 /// A question is built, opened, searched and checked; where nothing is found there is nothing to check.
 const STEPS: usize = 4;
-
-/// What can be said of an order.
-#[derive(Clone, Copy, PartialEq, Eq, Debug)]
-pub enum Answer {
-    /// The bay as it stands has all that the order names.
-    AlreadyAsWanted,
-    /// One proof speaks of the order; of every way to fill its silent slots, where it has such.
-    Impossible,
-    /// Each way to fill the silent slots has a proof of its own. No move makes or takes away a pallet,
-    /// so a bay that has what the order names is one of these.
-    ImpossibleEachWay,
-    NoParityProof,
-}
-
-impl Answer {
-    pub fn status(self) -> Status {
-        match self {
-            Answer::Impossible | Answer::ImpossibleEachWay => Status::Yes,
-            Answer::AlreadyAsWanted | Answer::NoParityProof => Status::No,
-        }
-    }
-
-    /// The words that lead every answer; no two answers share one.
-    pub fn heading(self) -> &'static str {
-        match self {
-            Answer::AlreadyAsWanted => "ALREADY AS WANTED",
-            Answer::Impossible | Answer::ImpossibleEachWay => "IMPOSSIBLE",
-            Answer::NoParityProof => "NO PARITY PROOF",
-        }
-    }
-
-    /// The same for a program.
-    pub fn name(self) -> &'static str {
-        match self {
-            Answer::AlreadyAsWanted => "already_as_wanted",
-            Answer::Impossible | Answer::ImpossibleEachWay => "impossible",
-            Answer::NoParityProof => "no_parity_proof",
-        }
-    }
-}
 
 /// A bay that was asked about, and what came of it.
 pub struct Answered {
     pub bay: Bay,
-    /// The order as one task; where it has silent slots, with these unknown at the goal. None where
-    /// that task has more features than the library takes.
-    pub whole: Option<Asked>,
-    /// The ways to fill the silent slots that were asked one by one, in their order. The first one
-    /// without a proof is the last.
+    /// The order as one task; where it has silent slots, with these unknown at the goal.
+    pub asked: Asked,
+    /// Each way to fill the silent slots, where these were asked one by one.
     pub ways: Vec<Way>,
 }
 
@@ -79,81 +34,140 @@ pub struct Asked {
     pub proof: Option<Proof>,
 }
 
+impl Asked {
+    pub fn status(&self) -> Status {
+        match self.proof {
+            Some(_) => Status::Yes,
+            None => Status::No,
+        }
+    }
+}
+
+/// One way to fill the silent slots: a full order of its own.
+pub struct Way {
+    pub bay: Bay,
+    pub asked: Asked,
+}
+
 impl Answered {
-    pub fn answer(&self) -> Answer {
-        if self.bay.is_met() {
-            Answer::AlreadyAsWanted
-        } else if self.proof().is_some() {
-            Answer::Impossible
-        } else if !self.bay.is_full() && self.ruled_out() == self.bay.ways() {
-            Answer::ImpossibleEachWay
-        } else {
-            Answer::NoParityProof
+    pub fn status(&self) -> Status {
+        match self.is_impossible_each_way() {
+            true => Status::Yes,
+            false => self.asked.status(),
         }
     }
 
-    pub fn status(&self) -> Status {
-        self.answer().status()
+    /// Whether the ways were asked one by one, and each has a proof of its own. No move makes or
+    /// takes away a pallet, so a bay that has what the order names is one of these.
+    pub fn is_impossible_each_way(&self) -> bool {
+        !self.ways.is_empty() && self.impossible_ways() == self.ways.len()
     }
 
-    /// The proof that speaks of the order as one task.
-    pub fn proof(&self) -> Option<&Proof> {
-        self.whole.as_ref()?.proof.as_ref()
-    }
-
-    /// How many ways have a proof of their own.
-    pub fn ruled_out(&self) -> usize {
-        let proved = self.ways.iter().filter(|way| way.asked.proof.is_some());
-        proved.count()
+    pub fn impossible_ways(&self) -> usize {
+        let impossible = |way: &&Way| way.asked.status() == Status::Yes;
+        self.ways.iter().filter(impossible).count()
     }
 }
 
-/// Asks about the bay in a file; as cells of a spreadsheet if its name, or the command line, says so.
-pub fn ask(name: &OsStr, asking: Asking, telling: &Telling) -> Result<Answered, Fault> {
-    let bytes = files::read_text(name)?;
-    let text = BayText::of_file(name, asking.cells, &bytes);
-    let text = text.map_err(|fault| binary::told(fault, &bytes))?;
-    ask_text(&text, asking, telling)
+/// Weights that the checker accepted, and what they count.
+pub struct Proof {
+    pub features: Features,
+    /// The listed features, increasing.
+    pub weights: Vec<usize>,
+    /// The same as the file that the checker read.
+    pub weight_file: Vec<u8>,
+    /// The listed features that are true at the start.
+    pub true_at_start: Vec<usize>,
+    /// The listed features that are true at the goal.
+    pub true_at_goal: Vec<usize>,
 }
 
-fn ask_text(text: &BayText, asking: Asking, telling: &Telling) -> Result<Answered, Fault> {
+/// Asks about the bay in a file.
+pub fn ask(name: &OsStr, telling: &Telling) -> Result<Answered, Fault> {
+    ask_text(&BayText::read(&files::read_text(name)?)?, telling)
+}
+
+fn ask_text(text: &BayText, telling: &Telling) -> Result<Answered, Fault> {
     let bay = text.bay();
-    let mut steps = telling.steps(library::words_due(&bay.sizes()), STEPS);
-    let task = steps.take("building the task", || whole_task(text))?;
-    let asked = |task| match bay.is_met() {
-        true => Ok(Asked { task, proof: None }),
-        false => put(&mut steps, task),
+    let asked = put(&bay, telling, || built(text))?;
+    let ways = match asked.proof {
+        None if !bay.is_full() && bay.ways() <= MOST_WAYS => each_way(&bay, telling)?,
+        _ => Vec::new(),
     };
-    let whole = task.map(asked).transpose()?;
-    let ways = Vec::new();
-    let mut answered = Answered { bay, whole, ways };
-    if answered.answer() == Answer::NoParityProof && !answered.bay.is_full() {
-        answered.ways = ways::ask_each(&answered.bay, asking.most_ways, telling)?;
-    }
-    Ok(answered)
+    Ok(Answered { bay, asked, ways })
 }
 
-/// The task of an order; with silent slots, one whose goal any way to fill them reaches. None where
-/// that one has more features than the library takes.
-pub fn whole_task(text: &BayText) -> Result<Option<Vec<u8>>, Fault> {
+// The task of the order; with silent slots, one whose goal any way to fill them reaches.
+fn built(text: &BayText) -> Result<Vec<u8>, Fault> {
     let bay = text.bay();
     let task = library::build(&bay.file()).map_err(|fault| text.place(fault))?;
     if bay.is_full() {
-        return Ok(Some(task));
+        return Ok(task);
     }
-    match library::silence(&task, &bay.marks()) {
-        Ok(partial) => {
-            let lean = library::build_partial_lean(&partial).map_err(Fault::of_partial)?;
-            Ok(Some(lean))
-        }
-        Err(Fault::Refused(2)) => Ok(None),
-        Err(fault) => Err(fault.of_partial()),
-    }
+    let partial = library::silence(&task, &bay.marks());
+    let lean = partial.and_then(|partial| library::build_partial_lean(&partial));
+    lean.map_err(|fault| text.place_silent(fault).of_partial())
 }
 
-// Opens, finds and checks; each step is a proved call.
-fn put(steps: &mut Steps, task: Vec<u8>) -> Result<Asked, Fault> {
+fn each_way(bay: &Bay, telling: &Telling) -> Result<Vec<Way>, Fault> {
+    let ways = bay.completions();
+    let total = ways.len();
+    let put_way = |(index, bay): (usize, Bay)| {
+        let telling = telling.part("way", index + 1, total);
+        let asked = put(&bay, &telling, || library::build(&bay.file()))?;
+        Ok(Way { bay, asked })
+    };
+    ways.into_iter().enumerate().map(put_way).collect()
+}
+
+// Builds, opens, finds and checks; each step is a proved call.
+fn put(
+    bay: &Bay,
+    telling: &Telling,
+    build: impl FnOnce() -> Result<Vec<u8>, Fault>,
+) -> Result<Asked, Fault> {
+    let mut steps = telling.steps(library::words_due(&bay.sizes()), STEPS);
+    let task = steps.take("building the task", build)?;
     let workspace = steps.open(|| library::open(&task))?;
-    let proof = proof::sought(steps, &task, &workspace)?;
+    let found = steps.take("finding weights", || library::find(&workspace))?;
+    let Some(found) = found else {
+        let proof = None;
+        return Ok(Asked { task, proof });
+    };
+    let check = || checked(&task, workspace, found);
+    let proof = Some(steps.take("checking the weights", check)?);
     Ok(Asked { task, proof })
+}
+
+// What the finder found counts only after the checker has accepted it.
+fn checked(task: &[u8], workspace: Workspace, found: Weights) -> Result<Proof, Fault> {
+    if library::check(task, &found.file)? != Verdict::Accepted {
+        let line = library::check_line(task, &found.file)?;
+        return Err(Fault::Failure(format!(
+            "the checker did not accept what the finder found ({line}), so nothing is said"
+        )));
+    }
+    let start = workspace.start();
+    let goal = workspace.goal();
+    let features = workspace.into_features();
+    let proof = Proof {
+        true_at_start: features.true_in(&found.features, &start),
+        true_at_goal: features.true_in(&found.features, &goal),
+        features,
+        weights: found.features,
+        weight_file: found.file,
+    };
+    agreed(proof)
+}
+
+// The counts that are shown have to bear out the verdict, or the words would mislead.
+fn agreed(proof: Proof) -> Result<Proof, Fault> {
+    let (start, goal) = (proof.true_at_start.len(), proof.true_at_goal.len());
+    if parity(start) == parity(goal) {
+        return Err(Fault::Failure(format!(
+            "the checker accepted the weights, but the tool counts {start} and {goal}, \
+             so nothing is said"
+        )));
+    }
+    Ok(proof)
 }

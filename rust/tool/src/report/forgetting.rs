@@ -44,7 +44,7 @@ mod tests {
             columns: 4,
             start: start.to_vec(),
             goal: vec![Some(2), None, Some(0), None],
-            names: Vec::new(),
+            letters: Vec::new(),
         }
     }
 

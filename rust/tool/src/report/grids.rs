@@ -1,17 +1,13 @@
 //! The whole list of features as grids of squares, as SVG.
 
 use super::listed::Listed;
-use super::words::{label, slot, squeezed};
+use super::words::{label, slot};
 use crate::bay::{Bay, GAP};
 use crate::features::{Atom, Feature};
 
 const SQUARE: usize = 16;
 const LEFT: usize = 22;
 const TOP: usize = 36;
-/// The line of the title, above the names of the columns.
-const TITLE: usize = 18;
-/// The width of a character in a title, and in a name that stands beside the squares.
-const CHARACTER: usize = 7;
 /// A grid is never narrower than its title.
 const NARROWEST: usize = 122;
 /// Bays up to this size have grids half as large again, for fingers that follow the rows.
@@ -20,8 +16,6 @@ const SMALL: usize = 4;
 const OPEN: usize = 9;
 /// A name of more characters is squeezed into its square.
 const WIDEST_NAME: usize = 3;
-/// Where a name has more characters still, the names stand beside the squares, upright at the top.
-const LONGEST_NAME: usize = 4;
 
 /// What stands above, to the left and along the top of a grid.
 struct Sides {
@@ -119,21 +113,10 @@ fn labels(bay: &Bay) -> Vec<String> {
     bay.labels().map(short).collect()
 }
 
-// How far names reach beyond a margin.
-fn beyond(names: &[String], margin: usize) -> usize {
-    let longest = names.iter().map(|name| name.chars().count()).max();
-    match longest.unwrap_or(0) {
-        0..=LONGEST_NAME => 0,
-        longest => (longest * CHARACTER + 6).saturating_sub(margin),
-    }
-}
-
 fn grid(sides: &Sides, square: impl Fn(usize, usize) -> Square) -> String {
     let (rows, columns) = (sides.left.len(), sides.top.len());
-    let (left, up) = (beyond(&sides.left, LEFT), beyond(&sides.top, TOP - TITLE));
-    let title = sides.title.chars().count() * CHARACTER + 4;
-    let width = NARROWEST.max(title).max(left + LEFT + columns * SQUARE + 2);
-    let height = up + TOP + rows * SQUARE + 2;
+    let width = NARROWEST.max(LEFT + columns * SQUARE + 2);
+    let height = TOP + rows * SQUARE + 2;
     let [shown_width, shown_height] = [width, height].map(|length| shown(length, rows));
     let mut marks = Marks::default();
     for row in 0..rows {
@@ -141,15 +124,11 @@ fn grid(sides: &Sides, square: impl Fn(usize, usize) -> Square) -> String {
             marks.add(&square(row, column), row, column);
         }
     }
-    let body = names(sides, left > 0, up > 0) + &ground(rows, columns) + &marks.drawn();
-    let [from_left, from_top] = [left, up].map(|length| -(length as isize));
+    let body = names(sides) + &ground(rows, columns) + &marks.drawn();
     format!(
-        "<svg class=\"grid\" role=\"img\" aria-label=\"{title}\" width=\"{shown_width}\" \
-         height=\"{shown_height}\" viewBox=\"{from_left} {from_top} {width} {height}\">\
-         <text class=\"caption\" x=\"{}\" y=\"{}\">{title}</text>{body}</svg>\n",
-        from_left + 2,
-        from_top + 14,
-        title = sides.title
+        "<svg class=\"grid\" role=\"img\" aria-label=\"{}\" width=\"{shown_width}\" \
+         height=\"{shown_height}\" viewBox=\"0 0 {width} {height}\">{body}</svg>\n",
+        sides.title
     )
 }
 
@@ -160,50 +139,27 @@ fn shown(length: usize, slots: usize) -> usize {
     length
 }
 
-fn names(sides: &Sides, long_left: bool, long_top: bool) -> String {
-    let top = sides.top.iter().enumerate().map(|(column, words)| {
-        let middle = LEFT + column * SQUARE + SQUARE / 2;
-        match long_top {
-            true => upright(middle + 4, TOP - 4, words),
-            false => name(middle, TOP - 5, words),
-        }
-    });
-    let left = sides.left.iter().enumerate().map(|(row, words)| {
-        let base = TOP + row * SQUARE + 12;
-        match long_left {
-            true => beside(LEFT - 4, base, words),
-            false => name(LEFT / 2, base, words),
-        }
-    });
-    let names: String = top.chain(left).collect();
-    format!("<g class=\"side\">{names}</g>")
+fn names(sides: &Sides) -> String {
+    let top = sides.top.iter().enumerate();
+    let top = top.map(|(column, words)| name(LEFT + column * SQUARE + SQUARE / 2, TOP - 5, words));
+    let left = sides.left.iter().enumerate();
+    let left = left.map(|(row, words)| name(LEFT / 2, TOP + row * SQUARE + 12, words));
+    format!(
+        "<text class=\"caption\" x=\"2\" y=\"14\">{}</text><g class=\"side\">{}</g>",
+        sides.title,
+        top.chain(left).collect::<String>()
+    )
 }
 
 fn name(x: usize, y: usize, words: &str) -> String {
     let squeezed = match words.chars().count() > WIDEST_NAME {
-        true => squeezed(SQUARE - 1),
+        true => format!(
+            " textLength=\"{}\" lengthAdjust=\"spacingAndGlyphs\"",
+            SQUARE - 1
+        ),
         false => String::new(),
     };
     format!("<text x=\"{x}\" y=\"{y}\"{squeezed}>{words}</text>")
-}
-
-fn beside(x: usize, y: usize, words: &str) -> String {
-    let squeezed = long(words);
-    format!("<text class=\"ending\" x=\"{x}\" y=\"{y}\"{squeezed}>{words}</text>")
-}
-
-fn upright(x: usize, y: usize, words: &str) -> String {
-    let squeezed = long(words);
-    format!(
-        "<text class=\"beginning\" transform=\"translate({x} {y}) rotate(-90)\"{squeezed}>{words}</text>"
-    )
-}
-
-fn long(words: &str) -> String {
-    match words.chars().count() {
-        0..=WIDEST_NAME => String::new(),
-        count => squeezed(count * CHARACTER),
-    }
 }
 
 // All squares at once, so that a page about sixteen slots stays small.

@@ -14,11 +14,12 @@ mod silent;
 mod ways;
 mod words;
 
-use crate::answer::{as_wanted, ALIKE, NOT_DONE};
+use crate::answer::{ALIKE, NOT_DONE};
 use crate::bay::{Bay, GAP};
 use crate::fault::Fault;
 use crate::features::{Atom, Feature};
-use crate::question::{Answer, Answered, Proof};
+use crate::output::Status;
+use crate::question::{Answered, Proof, MOST_WAYS};
 use crate::words::{counted, parity};
 use listed::Listed;
 use words::{escaped, feature};
@@ -27,13 +28,15 @@ const STYLE: &str = include_str!("page.css");
 
 /// The page about one bay.
 pub fn page(name: &str, answered: &Answered) -> Result<String, Fault> {
-    let body = match (answered.answer(), answered.proof()) {
-        (Answer::AlreadyAsWanted, _) => String::new(),
-        (Answer::ImpossibleEachWay, _) => ways::proved(answered),
-        (_, Some(proof)) => proved(&answered.bay, proof)?,
-        (_, None) => not_proved(answered),
+    let body = match &answered.asked.proof {
+        Some(proof) => proved(&answered.bay, proof)?,
+        None if answered.is_impossible_each_way() => ways::proved(answered),
+        None => not_proved(answered),
     };
-    let title = answered.answer().heading();
+    let title = match answered.status() {
+        Status::Yes => "IMPOSSIBLE",
+        _ => "NO PARITY PROOF",
+    };
     Ok(format!(
         "<!DOCTYPE html>\n<html lang=\"en\">\n<head>\n<meta charset=\"utf-8\">\n\
          <meta name=\"viewport\" content=\"width=device-width, initial-scale=1\">\n\
@@ -52,18 +55,17 @@ fn verdict(name: &str, answered: &Answered) -> String {
         true => "",
         false => ", whichever way the slots with a question mark are filled",
     };
-    let heading = answered.answer().heading();
-    let (kind, words) = match answered.answer() {
-        Answer::Impossible | Answer::ImpossibleEachWay => (
-            "proved",
+    let (kind, heading, words) = match answered.status() {
+        Status::Yes => (
+            "impossible",
+            "IMPOSSIBLE",
             format!(
                 "No sequence of moves leads from the bay as it stands to the bay as it is \
                  wanted{every_way}. It is not a matter of skill or time: this page shows why. A \
                  checker that is proved correct has accepted the proof."
             ),
         ),
-        Answer::AlreadyAsWanted => ("unknown", as_wanted(&answered.bay).to_string()),
-        Answer::NoParityProof => ("unknown", NOT_DONE.to_string()),
+        _ => ("unknown", "NO PARITY PROOF", NOT_DONE.to_string()),
     };
     format!(
         "<header class=\"{kind}\">\n<p class=\"file\">{name}: {described}</p>\n<h1>{heading}</h1>\n\
@@ -74,12 +76,15 @@ fn verdict(name: &str, answered: &Answered) -> String {
 fn both(bay: &Bay) -> String {
     let wanted = bay.wanted();
     let bays = [("as it stands", &*bay.start), ("as it is wanted", &*wanted)];
+    let (slot, pallet) = match bay.letters.is_empty() {
+        true => ("letter", "number"),
+        false => ("number", "letter"),
+    };
     format!(
         "<section>\n<h2>The order</h2>\n{}\
-         <p>{} The dashed slot is the gap. A move slides a \
+         <p>Each slot has a {slot}, each pallet a {pallet}. The dashed slot is the gap. A move slides a \
          pallet from a slot beside the gap, in the same row or column, into the gap.</p>\n{}{}</section>\n",
         pictures::two(bay, bays, &[]),
-        words::naming(bay),
         alike(bay),
         silent::below_picture(bay)
     )
@@ -93,18 +98,37 @@ fn alike(bay: &Bay) -> String {
 }
 
 fn not_proved(answered: &Answered) -> String {
-    let found = match answered.bay.is_full() {
-        true => "No such list exists, so there is no proof of this kind.",
-        false => "No such list was found for the order as it is, and not for each way to fill it.",
+    let bay = &answered.bay;
+    let words = match (bay.is_full(), bay.is_met()) {
+        (true, true) => "The two bays are alike, so there is nothing to prove impossible.",
+        (false, true) => {
+            "The bay as it stands has all that the order names, so there is nothing to prove \
+             impossible."
+        }
+        _ => {
+            "The program looked for a proof of one kind: a list of statements about one slot or \
+             two slots of which an odd number is true in the one bay and an even number in the \
+             other, while no move can change odd to even. No such list exists, so there is no \
+             proof of this kind that the order is impossible. There is no proof that it can be \
+             done either: nobody has looked for moves."
+        }
     };
     format!(
-        "<section>\n<h2>What this means</h2>\n\
-         <p>The program looked for a proof of one kind: a list of statements about one slot or two \
-         slots of which an odd number is true in the one bay and an even number in the other, while \
-         no move can change odd to even. {found} There is no proof that the order can be done \
-         either: nobody has looked for moves.</p>\n\
-         </section>\n{}",
+        "<section>\n<h2>What this means</h2>\n<p>{words}</p>\n{}</section>\n{}",
+        not_asked(bay),
         ways::known(answered)
+    )
+}
+
+// Where there are too many ways to ask each by itself, the page says so.
+fn not_asked(bay: &Bay) -> String {
+    let ways = bay.ways();
+    if ways <= MOST_WAYS {
+        return String::new();
+    }
+    format!(
+        "<p>The slots with a question mark can be filled in {ways} ways. These were not asked one \
+         by one, as they are more than {MOST_WAYS}.</p>\n"
     )
 }
 
@@ -240,7 +264,7 @@ fn whole_list(bay: &Bay, listed: &Listed, proof: &Proof) -> String {
         listing::table(bay, listed, proof),
         unknown = if bay.is_full() { "" } else { ", ? is unknown" },
         spare = match bay.has_spare_labels() {
-            true => ", a number in brackets stands for a label that no pallet has",
+            true => ", a number in brackets is a label that no pallet has",
             false => "",
         },
     )

@@ -78,11 +78,7 @@ fn table(bay: &Bay, listed: &Listed, head: &str, rows: &[Row]) -> Result<String,
 
 fn framed(bay: &Bay, table: &str, rows: usize) -> String {
     if bay.slots() > OPEN {
-        let all = match rows {
-            1 => "The one row (open to see or print it)".to_string(),
-            _ => format!("All {rows} rows (open to see or print them)"),
-        };
-        return format!("<details><summary>{all}</summary>\n{table}</details>\n");
+        return format!("<details><summary>All {rows} rows (open to see or print them)</summary>\n{table}</details>\n");
     }
     if bay.slots() > DETAILED {
         return table.to_string();

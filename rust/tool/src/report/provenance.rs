@@ -1,37 +1,31 @@
 //! What a page is about: version, date, and the digests of the files.
 
-use crate::answer::MOST_TOLD;
 use crate::date;
 use crate::digest::sha256;
-use crate::evidence;
 use crate::fault::Fault;
-use crate::question::{Answer, Answered, Asked, Way};
+use crate::question::{Answered, Asked, Way};
 use crate::VERSION;
 
 /// The section at the foot of every page.
 pub fn section(answered: &Answered) -> Result<String, Fault> {
-    let files = match (answered.answer(), &answered.whole) {
-        (Answer::ImpossibleEachWay, _) | (_, None) => of_each_way(answered),
-        (_, Some(asked)) => digests("", asked),
+    let digests = match answered.is_impossible_each_way() {
+        true => of_each_way(answered),
+        false => digests("", &answered.asked),
     };
-    let evidence = evidence::written(answered);
-    let evidence = evidence.map(|text| digest("the evidence", text.as_bytes()));
     Ok(format!(
         "<section>\n<h2>What this page is about</h2>\n\
          <p>A bay of {}. Written by florumeja {VERSION} on {} (Universal Time).</p>\n\
-         <ul>\n{files}{}</ul>\n\
+         <ul>\n{digests}</ul>\n\
          <p>These are the digests of the files that <code>florumeja ask FILE --task TASK \
-         --weights WEIGHTS --evidence EVIDENCE</code> keeps; <code>sha256sum TASK WEIGHTS \
-         EVIDENCE</code> shows whether the files at hand are the same.</p>\n</section>\n",
+         --weights WEIGHTS</code> keeps; <code>sha256sum TASK WEIGHTS</code> shows whether the \
+         files at hand are the same.</p>\n</section>\n",
         answered.bay.shape(),
-        date::today()?,
-        evidence.unwrap_or_default()
+        date::today()?
     ))
 }
 
-// Of many ways only those that the page shows.
 fn of_each_way(answered: &Answered) -> String {
-    let numbered = answered.ways.iter().take(MOST_TOLD).enumerate();
+    let numbered = answered.ways.iter().enumerate();
     let way = |(index, way): (usize, &Way)| digests(&format!(" of way {}", index + 1), &way.asked);
     numbered.map(way).collect()
 }

@@ -2,7 +2,6 @@
 
 use super::listed::Listed;
 use super::{counts, listing, pictures};
-use crate::answer::{ways_asked, MOST_TOLD};
 use crate::question::{Answered, Proof, Way};
 use crate::words::counted;
 
@@ -12,7 +11,7 @@ pub fn proved(answered: &Answered) -> String {
         "<section>\n<h2>The proof, way by way</h2>\n\
          <p>No pallet comes or goes, so the slots with a question mark can only hold what is left, \
          which can be put there in {}. Each way is a full order. Each was asked by itself, and each \
-         is ruled out: there is a list of <em>features</em>, statements about what one slot or two \
+         is impossible: there is a list of <em>features</em>, statements about what one slot or two \
          slots hold, of which an odd number is true in the one bay and an even number in the other, \
          while no move can change odd to even. Below, each way has its pictures, both counts and \
          its list, if that is not too long. A page about one of these full orders, made by <code>florumeja report</code>, \
@@ -27,35 +26,29 @@ const BY_PROGRAM: &str = "<section>\n<h2>Who checked it</h2>\n\
      checker is proved correct: it accepts a list only if no sequence of moves leads from the one \
      bay to the other. It accepted them all. That moves keep what is in the bay, so that these are \
      all the ways, is proved as well.</p>\n\
-     <p>To check it again: <code>florumeja ask FILE --evidence EVIDENCE</code> keeps the order and \
-     the weights of each way in one file, and <code>florumeja verify EVIDENCE</code> hands them to \
-     the checker alone.</p>\n</section>\n";
+     <p>To check it again: <code>florumeja ask FILE --task TASK --weights WEIGHTS</code> keeps the \
+     evidence, for way 1 in TASK.1 and WEIGHTS.1 and so on, and <code>florumeja check TASK.1 \
+     WEIGHTS.1</code> hands it to the checker alone.</p>\n</section>\n";
 
-/// What is known of the ways, where not all are ruled out; nothing of an order without silent slots.
+/// What is known of each way, where not all are impossible; nothing if none was asked.
 pub fn known(answered: &Answered) -> String {
-    if answered.bay.is_full() {
+    if answered.ways.is_empty() {
         return String::new();
     }
     format!(
         "<section>\n<h2>The ways one by one</h2>\n\
-         <p>{}</p>\n</section>\n{}",
-        ways_asked(answered),
+         <p>The slots with a question mark can be filled in {}. Each was asked by itself: {} of {} \
+         impossible. Nothing is known of the others.</p>\n</section>\n{}",
+        counted(answered.ways.len(), "way"),
+        answered.impossible_ways(),
+        answered.ways.len(),
         all(&answered.ways)
     )
 }
 
-// The first ways with their pictures, and how many more there are.
 fn all(ways: &[Way]) -> String {
-    let told = ways.iter().take(MOST_TOLD).enumerate();
-    let shown: String = told.map(|(index, way)| one(index + 1, way)).collect();
-    match ways.len().saturating_sub(MOST_TOLD) {
-        0 => shown,
-        more => format!(
-            "{shown}<section>\n<p>And {}, which <code>florumeja ask --json</code> tells one by one.\
-             </p>\n</section>\n",
-            counted(more, "more way")
-        ),
-    }
+    let numbered = ways.iter().enumerate();
+    numbered.map(|(index, way)| one(index + 1, way)).collect()
 }
 
 fn one(number: usize, way: &Way) -> String {
@@ -63,7 +56,7 @@ fn one(number: usize, way: &Way) -> String {
     let wanted = bay.wanted();
     let bays = [("as it stands", &*bay.start), ("filled in", &*wanted)];
     let (answer, evidence) = match &way.asked.proof {
-        Some(proof) => ("ruled out", evidence(way, proof)),
+        Some(proof) => ("impossible", evidence(way, proof)),
         None => ("no parity proof", String::new()),
     };
     format!(

@@ -4,43 +4,13 @@ use crate::bay::{Bay, GAP};
 use crate::features::{Atom, Feature};
 use crate::words::joined;
 
-/// Slots get letters, or numbers where a pallet has a letter, or else their rows and columns, so that
-/// nobody takes a slot for a pallet: no label has a dash.
+/// Slots get letters, or numbers where pallets have letters, so that nobody takes a slot for a
+/// pallet.
 pub fn slot(bay: &Bay, index: usize) -> String {
-    let (row, column) = (index / bay.columns + 1, index % bay.columns + 1);
-    match (any(bay, is_letter), any(bay, is_number)) {
-        (false, _) => char::from(b'A' + index as u8).to_string(),
-        (true, false) => (index + 1).to_string(),
-        (true, true) => format!("r{row}-c{column}"),
+    match bay.letters.is_empty() {
+        true => char::from(b'A' + index as u8).to_string(),
+        false => (index + 1).to_string(),
     }
-}
-
-/// What names slots and pallets have on the page.
-pub fn naming(bay: &Bay) -> &'static str {
-    let other = |name: &str| !is_letter(name) && !is_number(name);
-    match (any(bay, is_letter), any(bay, is_number), any(bay, other)) {
-        (false, _, false) => "Each slot has a letter, each pallet a number.",
-        (false, _, true) => "Each slot has a letter, each pallet its label.",
-        (true, false, false) => "Each slot has a number, each pallet a letter.",
-        (true, false, true) => "Each slot has a number, each pallet its label.",
-        (true, true, _) => {
-            "Each slot has its row and column for a name (r1-c1 is the first slot of the first row), \
-             each pallet its label."
-        }
-    }
-}
-
-// Whether what was typed for any pallet is of a kind.
-fn any(bay: &Bay, is: fn(&str) -> bool) -> bool {
-    bay.names.iter().skip(1).any(|name| is(name))
-}
-
-fn is_letter(name: &str) -> bool {
-    name.len() == 1 && !is_number(name)
-}
-
-fn is_number(name: &str) -> bool {
-    name.bytes().all(|byte| byte.is_ascii_digit())
 }
 
 /// Some slots, as in "slot A", "slots A and B" and "slots A, B and C".
@@ -77,11 +47,6 @@ fn atom(bay: &Bay, atom: Atom) -> String {
     )
 }
 
-/// What makes a text of a picture exactly so long, whatever its letters are.
-pub fn squeezed(length: usize) -> String {
-    format!(" textLength=\"{length}\" lengthAdjust=\"spacingAndGlyphs\"")
-}
-
 /// Text that stands between tags.
 pub fn escaped(text: &str) -> String {
     let mut out = String::new();
@@ -103,31 +68,17 @@ mod tests {
 
     #[test]
     fn sixteen_slots_have_names_of_their_own() {
-        let names = |labels: &str| {
+        let names = |letters: &str| {
             let bay = Bay {
                 rows: 4,
                 columns: 4,
                 start: vec![0; 16],
                 goal: vec![None; 16],
-                names: labels.split_whitespace().map(str::to_string).collect(),
+                letters: letters.chars().collect(),
             };
-            let slots = [0, 8, 9, 15].map(|index| slot(&bay, index)).join(" ");
-            (slots, naming(&bay))
+            [0, 8, 9, 15].map(|index| slot(&bay, index)).join(" ")
         };
-        let due = |labels: &str, slots: &str, words: &str| {
-            let (found, said) = names(labels);
-            assert_eq!(found, slots, "{labels}");
-            assert!(said.starts_with(words), "{labels}: {said}");
-        };
-        let letters = "Each slot has a letter, each pallet";
-        due("", "A I J P", &format!("{letters} a number."));
-        due("0 12 101", "A I J P", &format!("{letters} a number."));
-        due(". GALA 101", "A I J P", &format!("{letters} its label."));
-        let numbers = "Each slot has a number, each pallet";
-        due("0 A b", "1 9 10 16", &format!("{numbers} a letter."));
-        due(". A L23", "1 9 10 16", &format!("{numbers} its label."));
-        let places = "Each slot has its row and column for a name";
-        due(". A 1", "r1-c1 r3-c1 r3-c2 r4-c4", places);
-        due(". A 1 GALA", "r1-c1 r3-c1 r3-c2 r4-c4", places);
+        assert_eq!(names(""), "A I J P");
+        assert_eq!(names("AB"), "1 9 10 16");
     }
 }

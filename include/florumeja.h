@@ -3,8 +3,8 @@
  *
  * Build the archive and link it; it needs nothing but the C library, and runs on x86-64 Linux:
  *
- *     rt staticlib florumeja
- *     cc -std=c99 -I include program.c target/staticlib/libflorumeja.a -o program
+ *     (cd crates/florumeja && rt lib)
+ *     cc -std=c99 -I include program.c crates/florumeja/out/libflorumeja.a -o program
  *
  * or, once `./florumeja install PREFIX` has put it where pkg-config looks:
  *

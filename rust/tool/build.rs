@@ -12,7 +12,7 @@ fn main() {
     if !library.exists() {
         let library = library.display();
         eprintln!(
-            "there is no {library}; 'rt staticlib florumeja' at the repository's root makes it"
+            "there is no {library}; './florumeja --version' at the repository's root makes it"
         );
         exit(1);
     }

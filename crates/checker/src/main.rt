@@ -4,11 +4,12 @@
 
 #![tactic(auto)]
 
-ghost use Rattle.std.specs.Prelude.{◌≡◌, IfOk};
+ghost use Rattle.std.specs.Prelude.{◌≡◌};
 ghost use Rattle.io.specs.Counts.{IsPrefixLen};
 
-use std::alloc::AllocError;
+use arrayvec::ArrayString;
 use std::env::FillError;
+use std::fmt::Write;
 use std::fs::File;
 use std::io::{Error, Read};
 use std::rt::{Env, Files};
@@ -25,6 +26,9 @@ const ARGUMENTS: usize = 3;
 const TASK_BYTES: usize = MOST_TASK + 1;
 
 const WEIGHT_BYTES: usize = MOST_WEIGHTS + 1;
+
+// Room for what the system says of a fault.
+const MESSAGE_BYTES: usize = 512;
 
 // How many bytes a file has, as far as there is room for them, if it could be read.
 #[derive(Clone, Copy)]
@@ -47,17 +51,18 @@ fn failed(what: &[u8], why: &[u8]) -> Loaded
     }
 }
 
-// Says what failed in the system's words, without its number.
-fn failed_by(rt: &HostRuntime, what: &[u8], error: &Error) -> Result<Loaded, AllocError>
-    ensures { IfOk result (λ loaded. loaded.count ≡ 0) }
+// Says what failed in the system's words, without its number for the fault.
+fn failed_by(what: &[u8], error: &Error) -> Loaded
+    ensures { result.count ≡ 0 }
 {
-    let told = format!(in rt.alloc(); "{error}")?;
+    let mut told = ArrayString::<MESSAGE_BYTES>::new();
+    let _ = write!(told, "{error}");
     let words = told.as_str();
     let why = match words.split_once(" (os error") {
         Some((before, _)) => before,
         None => words,
     };
-    Ok(failed(what, why.as_bytes()))
+    failed(what, why.as_bytes())
 }
 
 // Reads an open file as far as there is room, and answers how many bytes it has till then; where a read fails, with its fault.
@@ -82,56 +87,51 @@ fn fill(file: &mut File, bytes: &mut [u8]) -> (usize, Option<Error>)
 }
 
 // Reads an open file. Where a read fails nothing is loaded.
-fn read(
-    rt: &HostRuntime,
-    file: &mut File,
-    path: &[u8],
-    bytes: &mut [u8],
-) -> Result<Loaded, AllocError>
-    ensures { IfOk result (λ loaded. IsPrefixLen loaded.count bytes.new) }
+fn read(file: &mut File, path: &[u8], bytes: &mut [u8]) -> Loaded
+    ensures { IsPrefixLen result.count bytes.new }
 {
     let (count, fault) = fill(file, bytes);
     if let Some(error) = fault {
-        return failed_by(rt, path, &error);
+        return failed_by(path, &error);
     }
     let mut next = [0u8; 1];
     if let Err(error) = file.read(&mut next) {
-        return failed_by(rt, path, &error);
+        return failed_by(path, &error);
     }
-    Ok(Loaded {
+    Loaded {
         is_read: true,
         count: count,
-    })
+    }
 }
 
 // Opens the file of this name and reads it.
-fn load_file(rt: &HostRuntime, path: &[u8], bytes: &mut [u8]) -> Result<Loaded, AllocError>
-    ensures { IfOk result (λ loaded. IsPrefixLen loaded.count bytes.new) }
+fn load_file(rt: &HostRuntime, path: &[u8], bytes: &mut [u8]) -> Loaded
+    ensures { IsPrefixLen result.count bytes.new }
 {
     let name = match str::from_utf8(path) {
         Ok(name) => name,
         Err(_) => {
-            return Ok(failed(path, b"Invalid argument"));
+            return failed(path, b"Invalid argument");
         }
     };
     match File::open(rt, name) {
         Ok(file) => {
             let mut file = file;
-            read(rt, &mut file, path, bytes)
+            read(&mut file, path, bytes)
         }
-        Err(error) => failed_by(rt, path, &error),
+        Err(error) => failed_by(path, &error),
     }
 }
 
 // Reads the file that an argument names.
-fn load(rt: &HostRuntime, argument: usize, bytes: &mut [u8]) -> Result<Loaded, AllocError>
-    ensures { IfOk result (λ loaded. IsPrefixLen loaded.count bytes.new) }
+fn load(rt: &HostRuntime, argument: usize, bytes: &mut [u8]) -> Loaded
+    ensures { IsPrefixLen result.count bytes.new }
 {
     let mut path = io::buffer();
     match rt.arg(argument, &mut path) {
         Ok(length) => load_file(rt, &path[..length], bytes),
-        Err(FillError::TooLong) => Ok(failed(b"argument", b"File name too long")),
-        Err(FillError::NotPresent) => Ok(failed(b"argument", b"Invalid argument")),
+        Err(FillError::TooLong) => failed(b"argument", b"File name too long"),
+        Err(FillError::NotPresent) => failed(b"argument", b"Invalid argument"),
     }
 }
 
@@ -174,27 +174,26 @@ fn print<'a>(task: &'a [u8], weights: &'a [u8]) {
 }
 
 // Checks the second file against the first, in the room that each has.
-fn check(rt: &HostRuntime, task: &mut [u8], weights: &mut [u8]) -> Result<(), AllocError> {
-    let first = load(rt, 1, task)?;
+fn check(rt: &HostRuntime, task: &mut [u8], weights: &mut [u8]) {
+    let first = load(rt, 1, task);
     if !first.is_read {
-        return Ok(());
+        return;
     }
-    let second = load(rt, 2, weights)?;
+    let second = load(rt, 2, weights);
     if !second.is_read {
-        return Ok(());
+        return;
     }
     let n = first.count;
     let m = second.count;
     print(&task[..n], &weights[..m]);
-    Ok(())
 }
 
-fn main(rt: HostRuntime) -> Result<(), AllocError> {
+fn main(rt: HostRuntime) {
     if !is_given(&rt, ARGUMENTS - 1) || is_given(&rt, ARGUMENTS) {
         io::write_all(STDERR_FILENO, b"usage: checker TASK WEIGHTS\n");
-        return Ok(());
+        return;
     }
     let mut task = [0u8; TASK_BYTES];
     let mut weights = [0u8; WEIGHT_BYTES];
-    check(&rt, &mut task, &mut weights)
+    check(&rt, &mut task, &mut weights);
 }

@@ -17,7 +17,6 @@ use Rattle.theory.specs.Rows.{change, base, base-considered, rows_of, allowed}
 use Rattle.theory.specs.Walk.{change-past}
 use Rattle.words.specs.Parity.{shared-words}
 use Rattle.pairs.specs.Ready.{Ready, HoldsPossible, ready-given}
-use Rattle.rows.specs.declared.Place.{Place}
 use Rattle.rows.specs.declared.Place.TheVariants.{At, Done}
 use Rattle.rows.specs.Change.{difference}
 use Rattle.rows.specs.Apart.{wanted_by, wanted_from, places_from}

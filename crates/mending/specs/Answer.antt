@@ -29,7 +29,6 @@ use Rattle.writer.specs.Judging.{weights-delivered}
 use Rattle.writer.specs.Sets.{few-in-range, in-range-fine}
 use Rattle.writer.specs.Weights.{weights_written}
 use Rattle.keeping.specs.declared.Fault.{Fault}
-use Rattle.keeping.specs.declared.Fault.TheVariants as found
 use Rattle.keeping.specs.Fault.{FaultIs}
 use Rattle.mending.specs.declared.PairFault.{PairFault}
 use Rattle.mending.specs.declared.PairFault.TheVariants.{Good as Fine, Held, Unclosed, Refused}

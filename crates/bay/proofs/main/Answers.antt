@@ -15,7 +15,6 @@ use Rattle.writer.specs.declared.Written.{Written}
 use Rattle.writer.specs.declared.Written.TheVariants.{Done, Refused}
 use Rattle.writer.specs.Answer.{outcome_of}
 use Rattle.text.specs.Parts.{most_digits, faulty-short}
-use borrow.Author.Rules.{rules}
 use Rattle.bay.proofs.main.Goals as goal
 use Rattle.bay.proofs.main.Goals.{In-Done}
 

@@ -3,7 +3,6 @@ use mathlib.Core.Path.{sym}
 use native.Mathlib.Omega.{arith}
 use lib.Seq.{length-take-le}
 use Rattle.text.specs.Parts.{put-within}
-use borrow.Author.Rules.{rules}
 use Rattle.bay.proofs.print_refused.Goals as goal
 
 pub slice_bounds-text-end : goal.slice_bounds-text-end

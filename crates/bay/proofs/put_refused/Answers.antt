@@ -8,7 +8,6 @@ use Rattle.meaning.specs.Line.{place_text, bay_line}
 use Rattle.theory.specs.Shown.{spot-bay-within}
 use Rattle.placing.specs.Answers.{spot_of}
 use Rattle.text.specs.Parts.{ShortSpot, spot-short, refused-few}
-use borrow.Author.Rules.{rules}
 use Rattle.bay.proofs.put_refused.Goals as goal
 
 pub put_refused-requires : goal.put_refused-requires

@@ -1,7 +1,6 @@
 -- `check_as`: what is known of an accepted task goes to `weigh`; a refusal is answered by its number.
 use mathlib.Core.Bool.{false}
 use lib.ListN.{replicate}
-use borrow.Author.Rules.{rules}
 use Rattle.meaning.specs.Limits.{most_variables, most_features}
 use Rattle.meaning.specs.File.{judged_task}
 use Rattle.meaning.specs.Workspace.{slots_at}

@@ -1,7 +1,6 @@
 -- `check_partial_as`: what is known of the task that is built goes to `weigh`; a refusal is answered by its number.
 use mathlib.Core.Bool.{true}
 use lib.ListN.{replicate}
-use borrow.Author.Rules.{rules}
 use Rattle.meaning.specs.Limits.{most_variables, most_features}
 use Rattle.meaning.specs.Partial.{left_out, judged_partial}
 use Rattle.meaning.specs.Workspace.{slots_at}

@@ -1,7 +1,6 @@
 -- `do_ends_differ`: the row is the difference of the ends, which the weights meet oddly where the parities differ.
 use mathlib.Core.Path.{◌∙◌}
 use Rattle.checking.specs.Answer.{ends-long, ends-odd}
-use borrow.Author.Rules.{rules}
 use Rattle.checking.proofs.do_ends_differ.Goals as goal
 
 pub odd_shared-requires : goal.odd_shared-requires

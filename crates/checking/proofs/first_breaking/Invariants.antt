@@ -1,25 +1,9 @@
 -- `first_breaking`: the operators passed so far are allowed, and those that are left lead to the same place.
 use Prim.Native.Nat.{◌-◌, ◌≤◌}
-use mathlib.Core.Path.{◌≡◌, refl, sym, ap, ◌∙◌}
-use native.Mathlib.Omega.{arith}
-use native.Mathlib.Nat.{sub-zero}
-use lib.ListN.{take}
-use lib.Seq.{length-take-le}
-use borrow.Author.Rules.{rules}
-use borrow.Author.Tests.{not-true, not-false}
-use Rattle.meaning.specs.Limits.{most_variables}
-use Rattle.meaning.specs.Number.{got}
-use Rattle.meaning.specs.File.{operator_of}
-use Rattle.meaning.specs.Answer.{operator_in}
+use mathlib.Core.Path.{◌≡◌}
 use Rattle.meaning.specs.Workspace.{has}
-use Rattle.meaning.specs.Task.{Operator, IsOperator}
-use Rattle.theory.specs.Slices.{entries_in}
-use Rattle.operator.specs.Records.{record_of}
-use Rattle.operator.specs.Known.{read_next, read-faulted, Room, operator-is}
-use Rattle.operator.specs.Fold.{walked, walk_end, walk-unread, walk_more, walk-left}
-use Rattle.pairs.specs.Ready.{Ready}
-use Rattle.pairs.specs.Slices.{count_room, slices-read, slices-ready}
-use Rattle.checking.specs.Breaking.{passed, searched, place_among, search-passes, search-finds, all-passed}
+use Rattle.operator.specs.Fold.{walked}
+use Rattle.checking.specs.Breaking.{passed, searched}
 use Rattle.checking.proofs.first_breaking.Given as goal
 
 abbrev pub invariant-loop-k : goal.invariant-loop-k

@@ -1,6 +1,5 @@
 -- `is_forgetting_allowed`: three slices of one element are the forgetting operator.
 use native.Mathlib.Omega.{arith}
-use borrow.Author.Rules.{rules}
 use Rattle.forgetting.specs.Kept.{kept-ready}
 use Rattle.checking.specs.Forgetting.{forgotten-allowed}
 use Rattle.checking.proofs.is_forgetting_allowed.Goals as goal

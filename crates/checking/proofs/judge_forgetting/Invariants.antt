@@ -1,15 +1,11 @@
 -- `judge_forgetting`: the walk stands at one that is kept, or at the end, and those before are allowed.
 use Prim.Native.Nat.{◌-◌}
-use mathlib.Core.Path.{sym, ◌∙◌}
 use mathlib.Core.Bool.{false}
-use native.Mathlib.Omega.{arith}
 use lib.ListN.{length}
-use borrow.Author.Rules.{rules}
-use borrow.Author.Tests.{not-true, not-false}
 use Rattle.meaning.specs.Workspace.{has}
 use Rattle.forgetting.specs.Out.{out_by}
-use Rattle.forgetting.specs.Kept.{kept_in, stands-below, stands-few}
-use Rattle.checking.specs.Forgetting.{Passing, passing-first, passing-next, passing-breaks, passing-ends}
+use Rattle.forgetting.specs.Kept.{kept_in}
+use Rattle.checking.specs.Forgetting.{Passing}
 use Rattle.checking.proofs.judge_forgetting.Given as goal
 
 abbrev pub invariant-loop-kept : goal.invariant-loop-kept

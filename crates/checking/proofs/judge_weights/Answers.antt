@@ -1,10 +1,8 @@
 -- `judge_weights`: the ends decide, then the first operator of the file that is not allowed, then those that follow.
 use native.Mathlib.Omega.{arith}
 use lib.ListN.{length-take}
-use borrow.Author.Tests.{not-true, not-false}
 use Rattle.layout.specs.Parts.{room-zeros}
 use Rattle.checking.specs.Answer.{verdict-alike, verdict-breaks, verdict-follows, then-none}
-use borrow.Author.Rules.{rules}
 use Rattle.checking.proofs.judge_weights.Goals as goal
 
 pub slice_bounds-do_ends_differ-end : goal.slice_bounds-do_ends_differ-end

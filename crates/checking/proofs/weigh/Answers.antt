@@ -1,7 +1,6 @@
 -- `weigh`: there is room for the weights of the most features.
 use native.Mathlib.Omega.{arith}
 use lib.ListN.{length-take}
-use borrow.Author.Rules.{rules}
 use Rattle.layout.specs.Parts.{Headed, room-zeros}
 use Rattle.task.specs.Answer.{known-room}
 use Rattle.checking.proofs.weigh.Goals as goal

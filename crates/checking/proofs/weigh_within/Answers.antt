@@ -1,7 +1,6 @@
 -- `weigh_within`: the parts of the header, the weights that were read, and the verdict on them.
 use mathlib.Core.Path.{◌≡◌}
 use mathlib.Core.List.{List}
-use borrow.Author.Rules.{rules}
 use Rattle.meaning.specs.Number.{got}
 use Rattle.meaning.specs.File.{kind_if, judged_weights_as}
 use Rattle.layout.specs.Parts.{headed-sizes}

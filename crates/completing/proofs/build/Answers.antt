@@ -1,5 +1,4 @@
 -- `build`: what is known of an accepted partial file goes to `complete`; a refusal is answered as it is.
-use borrow.Author.Rules.{rules}
 use Rattle.number.specs.Answers.{reason_of}
 use Rattle.order.specs.Answer.{partial-accepted, partial-refused}
 use Rattle.writer.specs.Answer.{refused-so}

@@ -1,7 +1,6 @@
 -- `complete`: the parts of the header, and the file that is written from them.
 use mathlib.Core.Path.{refl}
 use native.Mathlib.Omega.{arith}
-use borrow.Author.Rules.{rules}
 use Rattle.theory.specs.Spent.{Bytes}
 use Rattle.layout.specs.Parts.{Headed, headed-sizes}
 use Rattle.task.specs.Answer.{known-room}

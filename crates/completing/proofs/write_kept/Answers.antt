@@ -2,9 +2,8 @@
 use Prim.Native.Nat.{◌-◌, ◌<◌}
 use mathlib.Core.Path.{◌≡◌, ap}
 use native.Mathlib.Omega.{arith}
-use borrow.Author.Rules.{rules}
 use Rattle.forgetting.specs.Kept.{unknown_of}
-use Rattle.completing.specs.Parts.{Writing, left_from, writing-first, writing-fits, writing-next, writing-less, writing-end, kept-triples}
+use Rattle.completing.specs.Parts.{writing-first, writing-fits, writing-next, writing-less, writing-end, kept-triples}
 use Rattle.completing.proofs.write_kept.Goals as goal
 use Rattle.completing.proofs.write_kept.Goals.{After-size-unknown}
 

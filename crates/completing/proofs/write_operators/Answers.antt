@@ -1,5 +1,4 @@
 -- `write_operators` writes three parts one after the other.
-use borrow.Author.Rules.{rules}
 use Rattle.completing.specs.Parts.{count_fits, own-fits, kept-fits, operators-written}
 use Rattle.completing.proofs.write_operators.Goals as goal
 

@@ -3,7 +3,6 @@ use native.Mathlib.Omega.{arith}
 use lib.ListN.{length-take}
 use Rattle.layout.specs.Parts.{room-zeros}
 use Rattle.condition.specs.Slotted.{opened-due}
-use borrow.Author.Rules.{rules}
 use Rattle.condition.proofs.add_rows.Goals as goal
 
 pub slice_bounds-add_rows_with-end : goal.slice_bounds-add_rows_with-end

@@ -4,7 +4,6 @@ use lib.ListN.{length-take}
 use Rattle.numbering.specs.Sizes.{atoms-most}
 use Rattle.layout.specs.Parts.{sizes_part, Due}
 use Rattle.condition.specs.Later.{kept-due}
-use borrow.Author.Rules.{rules}
 use Rattle.condition.proofs.add_rows_later.Goals as goal
 use Rattle.condition.proofs.add_rows_later.Goals.{Start}
 

@@ -10,7 +10,6 @@ use Rattle.slots.specs.Area.{slots_in}
 use Rattle.slots.specs.Waiting.{Indexes, indexes-collected}
 use Rattle.condition.specs.Slotted.{held_slots, with_rows, opened-due}
 use Rattle.condition.specs.Later.{opened-kept, opened-as}
-use borrow.Author.Rules.{rules}
 use Rattle.condition.proofs.add_rows_with.Goals as goal
 use Rattle.condition.proofs.add_rows_with.Goals.{After-indices}
 

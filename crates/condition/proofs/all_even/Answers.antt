@@ -1,14 +1,9 @@
 -- `all_even`: whether all rows are met evenly is whether those that the walk has left are.
 use mathlib.Core.Path.{◌≡◌, refl, sym, ap, ◌∙◌}
 use mathlib.Core.Bool.{true}
-use mathlib.Core.List.{List}
 use native.Mathlib.Omega.{arith}
-use lib.ListN.{length}
-use Rattle.meaning.specs.Sets.{Set}
-use Rattle.meaning.specs.Feature.{features}
-use Rattle.meaning.specs.Workspace.{has}
 use Rattle.theory.specs.Slices.{entries_in}
-use Rattle.condition.specs.Walk.{Walked, rows_by, rows_left, walked_row, walked_none, walked-less, base-state, base-applies, all_even, even-none, even-stop, even-next}
+use Rattle.condition.specs.Walk.{walked_row, walked_none, walked-less, base-state, base-applies, all_even, even-none, even-stop, even-next}
 use Rattle.condition.proofs.all_even.Goals as goal
 use Rattle.condition.proofs.all_even.Goals.{After-next_row-walk}
 

@@ -1,5 +1,4 @@
 -- `fill_difference`: toggling the features true in either state, from words with no member on, makes the difference (`ends-packed`).
-use borrow.Author.Rules.{rules}
 use Rattle.rows.specs.Moves.{room-none, room-toggled}
 use Rattle.condition.specs.Ends.{ends-packed}
 use Rattle.condition.proofs.fill_difference.Goals as goal

@@ -1,7 +1,6 @@
 -- `first_row`: the row is cleared, and the change at the base state is made in it.
 use mathlib.Core.Path.{ap, ◌∙◌}
 use lib.ListN.{replicate}
-use borrow.Author.Rules.{rules}
 use Rattle.condition.specs.Walk.{walk_first}
 use Rattle.condition.proofs.first_row.Goals as goal
 

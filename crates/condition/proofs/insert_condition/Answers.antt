@@ -15,7 +15,6 @@ use Rattle.slots.specs.Waiting.{Waiting, settled_in}
 use Rattle.condition.specs.Walk.{prepared, rows-by, idle-rows}
 use Rattle.condition.specs.Slotted.{slots-within, length-sizes, area-written}
 use Rattle.condition.specs.Later.{kept-due, later-none, later-kept, later_rows}
-use borrow.Author.Rules.{rules}
 use Rattle.condition.proofs.insert_condition.Goals as goal
 use Rattle.condition.proofs.insert_condition.Goals.{After-copy, After-pairs, After-places_for-places, Start}
 
@@ -49,9 +48,12 @@ pub prepare-requires : goal.prepare-requires
 prepare-requires c = (ready (goal.at.prepare-requires c).After-pairs, rw (held (goal.at.prepare-requires c).After-copy) c.requires.3, c.requires.4 ∙ sym (ap length (held (goal.at.prepare-requires c).After-copy) ∙ length-sizes c.args.v c.args.n c.args.workspace.now c.requires.0.due))
 
 pub returns-then-prepare : goal.returns-then-prepare
-returns-then-prepare c = let a = c.args in record { kept = c.requires.0; rows = later-none c.requires.0 (entries_in a.variables.now a.befores.now a.afters.now) (idle-rows _ _ _
+returns-then-prepare c = let a = c.args in record {
+  kept = c.requires.0;
+  rows = later-none c.requires.0 (entries_in a.variables.now a.befores.now a.afters.now) (idle-rows _ _ _
       (ap₂ (λ sizes pairs. idle sizes (has pairs) (entries_in a.variables.now a.befores.now a.afters.now)) (sym (held (goal.at.returns-then-prepare c).After-copy)) (sym c.pairs.ensures)
-      ∙ sym c.prepare.ensures.0 ∙ c.if-prepare.true)) }
+      ∙ sym c.prepare.ensures.0 ∙ c.if-prepare.true));
+}
 
 pub places_for-places-requires : goal.places_for-places-requires
 places_for-places-requires c = let d = due (goal.at.places_for-places-requires c).Start in (d.variables, d.features)
@@ -93,7 +95,10 @@ shape_of-row c = c.row-1.given
 
 pub returns : goal.returns
 returns c = let a = c.args in let n = a.n in let area = c.insert_rows.new.area in
-    let written = area-written a.v n _ c.places_for-places.ensures a.workspace.now area in record { kept = later-kept c.requires.0 _ _ area _ c.insert_rows.ensures.waiting written; rows = later_rows c.requires.0 _ _ area _ c.insert_rows.ensures.waiting written _ (c.insert_rows.ensures.rows
+    let written = area-written a.v n _ c.places_for-places.ensures a.workspace.now area in record {
+      kept = later-kept c.requires.0 _ _ area _ c.insert_rows.ensures.waiting written;
+      rows = later_rows c.requires.0 _ _ area _ c.insert_rows.ensures.waiting written _ (c.insert_rows.ensures.rows
           ∙ ap₂ (λ area rows. insert_all n (settled_in n a.pending.now area) rows) (lent-slots a.v n _ c.places_for-places.ensures a.workspace.now)
           (sym (rows-by (prepared _ _ _ _ _ _ _ _ (ready (goal.at.returns c).After-pairs) c.prepare.ensures c.if-prepare.false))
-          ∙ ap₂ (λ sizes pairs. rows_of sizes (has pairs) (entries_in a.variables.now a.befores.now a.afters.now)) (held (goal.at.returns c).After-copy) c.pairs.ensures)) }
+          ∙ ap₂ (λ sizes pairs. rows_of sizes (has pairs) (entries_in a.variables.now a.befores.now a.afters.now)) (held (goal.at.returns c).After-copy) c.pairs.ensures));
+    }

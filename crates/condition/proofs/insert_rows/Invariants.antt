@@ -1,15 +1,11 @@
 -- `insert_rows`: inserting all rows into the first slots is inserting those that the walk has left into the present ones (`Inserting`).
-use mathlib.Core.Path.{◌≡◌, refl, sym, ap, ◌∙◌}
-use mathlib.Core.Bool.{true}
 use mathlib.Core.List.{List}
-use native.Mathlib.Omega.{arith}
 use lib.ListN.{length}
 use Rattle.meaning.specs.Sets.{Set}
-use Rattle.meaning.specs.Workspace.{words_for}
 use Rattle.theory.specs.Slices.{entries_in}
 use Rattle.slots.specs.Waiting.{settled_in}
-use Rattle.condition.specs.Walk.{Walked, rows_by, rows_left, walked_row, walked_none, walked-less, base-state, base-applies}
-use Rattle.condition.specs.Slotted.{Inserting, inserting-turn, inserting-done}
+use Rattle.condition.specs.Walk.{Walked, rows_by, rows_left}
+use Rattle.condition.specs.Slotted.{Inserting}
 use Rattle.condition.proofs.insert_rows.Given as goal
 
 abbrev pub invariant-loop-walk : goal.invariant-loop-walk

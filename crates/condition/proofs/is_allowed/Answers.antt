@@ -1,7 +1,6 @@
 -- `is_allowed`: the local arrays have room for the table (`atoms-most`), the base state and a row.
 use native.Mathlib.Omega.{arith}
 use lib.ListN.{length-take}
-use borrow.Author.Rules.{rules}
 use Rattle.numbering.specs.Sizes.{atoms-most}
 use Rattle.condition.proofs.is_allowed.Goals as goal
 

@@ -1,6 +1,5 @@
 -- `meets_rows`: an idle operator has no rows; those of another are given by its table and its base state (`rows-by`).
 use mathlib.Core.Path.{ap, sym, ◌∙◌}
-use borrow.Author.Rules.{rules}
 use Rattle.condition.specs.Walk.{prepared, rows-by, idle-rows, allowed-even, all_even, even-none}
 use Rattle.condition.proofs.meets_rows.Goals as goal
 

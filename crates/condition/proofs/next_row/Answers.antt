@@ -2,7 +2,6 @@
 use mathlib.Core.Path.{ap, ◌∙◌}
 use native.Mathlib.Omega.{arith}
 use lib.ListN.{replicate}
-use borrow.Author.Rules.{rules}
 use Rattle.rows.specs.Apart.{places_from}
 use Rattle.condition.specs.Walk.{base-state, base-applies, place-ready, walk-next, walk-done}
 use Rattle.condition.proofs.next_row.Goals as goal

@@ -1,6 +1,5 @@
 -- `prepare`: the state made from the table of possible atoms is the base state (`base-by`).
 use mathlib.Core.Path.{◌∙◌}
-use borrow.Author.Rules.{rules}
 use Rattle.rows.specs.Base.{base-by}
 use Rattle.condition.proofs.prepare.Goals as goal
 

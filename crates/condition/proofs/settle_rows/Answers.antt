@@ -1,7 +1,6 @@
 -- `settle_rows`: a local array has room for a row.
 use native.Mathlib.Omega.{arith}
 use lib.ListN.{length-take}
-use borrow.Author.Rules.{rules}
 use Rattle.condition.proofs.settle_rows.Goals as goal
 
 pub slice_bounds-settle_with-end : goal.slice_bounds-settle_with-end

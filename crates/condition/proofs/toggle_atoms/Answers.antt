@@ -1,14 +1,9 @@
 -- `toggle_atoms`: after i turns the atoms of the first i variables are toggled.
-use Prim.Native.Nat.{◌≤◌, ◌-◌}
 use mathlib.Core.Path.{◌≡◌, sym, ◌∙◌}
-use mathlib.Core.List.{[], ◌∷◌}
 use native.Mathlib.Omega.{arith}
 use lib.ListN.{length}
-use Rattle.meaning.specs.Sets.{flat}
-use Rattle.meaning.specs.Task.{value}
-use Rattle.meaning.specs.Feature.{single}
 use Rattle.numbering.specs.Sizes.{limits-small}
-use Rattle.words.specs.Toggled.{toggled_all, toggled-start, toggled-turn, toggled-one, length-next}
+use Rattle.words.specs.Toggled.{toggled-start, toggled-turn, toggled-one, length-next}
 use Rattle.rows.specs.Moves.{room-toggled, single-room}
 use Rattle.condition.specs.Ends.{true_atoms}
 use Rattle.condition.proofs.toggle_atoms.Goals as goal

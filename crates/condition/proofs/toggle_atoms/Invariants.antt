@@ -1,16 +1,12 @@
 -- `toggle_atoms`: after i turns the atoms of the first i variables are toggled.
 use Prim.Native.Nat.{◌≤◌, ◌-◌}
-use mathlib.Core.Path.{◌≡◌, sym, ◌∙◌}
+use mathlib.Core.Path.{◌≡◌}
 use mathlib.Core.List.{[], ◌∷◌}
-use native.Mathlib.Omega.{arith}
 use lib.ListN.{length}
 use Rattle.meaning.specs.Sets.{flat}
 use Rattle.meaning.specs.Task.{value}
 use Rattle.meaning.specs.Feature.{single}
-use Rattle.numbering.specs.Sizes.{limits-small}
-use Rattle.words.specs.Toggled.{toggled_all, toggled-start, toggled-turn, toggled-one, length-next}
-use Rattle.rows.specs.Moves.{room-toggled, single-room}
-use Rattle.condition.specs.Ends.{true_atoms}
+use Rattle.words.specs.Toggled.{toggled_all}
 use Rattle.condition.proofs.toggle_atoms.Given as goal
 
 abbrev pub invariant-loop-i : goal.invariant-loop-i

@@ -1,12 +1,10 @@
 -- `toggle_pairs`: after j turns the pairs among the first j variables are toggled.
-use Prim.Native.Nat.{◌≤◌, ◌-◌}
 use mathlib.Core.Path.{◌≡◌, ◌∙◌}
 use native.Mathlib.Omega.{arith}
 use lib.ListN.{length}
-use Rattle.meaning.specs.Sets.{flat}
-use Rattle.words.specs.Toggled.{toggled_all, toggled-start, toggled-turn, length-next}
+use Rattle.words.specs.Toggled.{toggled-start, toggled-turn, length-next}
 use Rattle.rows.specs.Moves.{room-toggled}
-use Rattle.condition.specs.Ends.{true_pairs_of, true_pairs}
+use Rattle.condition.specs.Ends.{true_pairs}
 use Rattle.condition.proofs.toggle_pairs.Goals as goal
 
 pub loop-j-init : goal.loop-j-init

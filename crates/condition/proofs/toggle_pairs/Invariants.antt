@@ -1,12 +1,10 @@
 -- `toggle_pairs`: after j turns the pairs among the first j variables are toggled.
 use Prim.Native.Nat.{◌≤◌, ◌-◌}
-use mathlib.Core.Path.{◌≡◌, ◌∙◌}
-use native.Mathlib.Omega.{arith}
+use mathlib.Core.Path.{◌≡◌}
 use lib.ListN.{length}
 use Rattle.meaning.specs.Sets.{flat}
-use Rattle.words.specs.Toggled.{toggled_all, toggled-start, toggled-turn, length-next}
-use Rattle.rows.specs.Moves.{room-toggled}
-use Rattle.condition.specs.Ends.{true_pairs_of, true_pairs}
+use Rattle.words.specs.Toggled.{toggled_all}
+use Rattle.condition.specs.Ends.{true_pairs_of}
 use Rattle.condition.proofs.toggle_pairs.Given as goal
 
 abbrev pub invariant-loop-j : goal.invariant-loop-j

@@ -1,14 +1,9 @@
 -- `toggle_pairs_of`: after i turns the pairs of variable j's atom with those of the first i variables are toggled.
-use Prim.Native.Nat.{◌≤◌, ◌-◌}
 use mathlib.Core.Path.{◌≡◌, sym, ◌∙◌}
-use mathlib.Core.List.{[], ◌∷◌}
 use native.Mathlib.Omega.{arith}
 use native.Mathlib.Nat.{ne_of_lt}
-use Rattle.meaning.specs.Sets.{flat}
-use Rattle.meaning.specs.Task.{value}
-use Rattle.meaning.specs.Feature.{both}
 use Rattle.numbering.specs.Sizes.{limits-small}
-use Rattle.words.specs.Toggled.{toggled_all, toggled-start, toggled-turn, toggled-one, length-next}
+use Rattle.words.specs.Toggled.{toggled-start, toggled-turn, toggled-one, length-next}
 use Rattle.rows.specs.Moves.{room-toggled, both-room}
 use Rattle.condition.specs.Ends.{true_pairs_of}
 use Rattle.condition.proofs.toggle_pairs_of.Goals as goal

@@ -1,6 +1,5 @@
 -- `toggle_true`: the atoms and then the pairs are all features that are true in the state.
 use mathlib.Core.Path.{sym, ◌∙◌}
-use borrow.Author.Rules.{rules}
 use Rattle.words.specs.Toggled.{toggled-join}
 use Rattle.condition.specs.Ends.{true_features}
 use Rattle.condition.proofs.toggle_true.Goals as goal

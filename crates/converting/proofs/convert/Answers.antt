@@ -1,7 +1,6 @@
 -- `convert`: what is known of a task that was accepted as of the other kind goes to `convert_in`; a refusal is answered as it is.
 use mathlib.Core.Path.{sym, ap, ◌∙◌}
 use lib.ListN.{replicate}
-use borrow.Author.Rules.{rules}
 use Rattle.meaning.specs.Limits.{most_variables, most_features}
 use Rattle.meaning.specs.File.{kind_if, other, judged_as}
 use Rattle.meaning.specs.Workspace.{slots_at}

@@ -1,7 +1,6 @@
 -- `convert_in`: the parts of the header, and the file that is written from them.
 use mathlib.Core.Path.{refl}
 use native.Mathlib.Omega.{arith}
-use borrow.Author.Rules.{rules}
 use Rattle.meaning.specs.File.{kind_if}
 use Rattle.theory.specs.Spent.{Bytes}
 use Rattle.layout.specs.Parts.{Headed, headed-sizes}

@@ -2,7 +2,6 @@
 use Prim.Native.Nat.{ℕ}
 use mathlib.Core.Path.{◌≡◌, sym, ap, ◌∙◌}
 use mathlib.Core.List.{List}
-use borrow.Author.Rules.{rules}
 use Rattle.meaning.specs.Number.{got}
 use Rattle.meaning.specs.File.{kind_if, other, judged_weights_as}
 use Rattle.number.specs.Answers.{reason_of}

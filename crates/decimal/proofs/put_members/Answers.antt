@@ -1,14 +1,13 @@
 -- `put_members` goes from member to member: at each turn the members below the place reached are written.
-use Prim.Native.Nat.{◌+◌, ◌*◌, ◌-◌}
+use Prim.Native.Nat.{◌+◌, ◌*◌}
 use mathlib.Core.Path.{◌≡◌, refl, ◌∙◌}
 use native.Mathlib.Omega.{arith}
 use lib.ListN.{length}
 use Rattle.meaning.specs.Limits.{word_bits}
 use Rattle.meaning.specs.Line.{words_in}
 use Rattle.meaning.specs.Workspace.{has}
-use Rattle.theory.specs.Run.{members}
-use Rattle.decimal.specs.Put.{Put, put-none, put-behind}
-use Rattle.words.specs.Members.{Reached, reached, members-first}
+use Rattle.decimal.specs.Put.{put-none, put-behind}
+use Rattle.words.specs.Members.{reached, members-first}
 use Rattle.decimal.specs.Members.{words-part, words-next}
 use Rattle.decimal.proofs.put_members.Goals as goal
 

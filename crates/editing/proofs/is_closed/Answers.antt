@@ -1,6 +1,5 @@
 -- `editing::is_closed`: the table has room for every atom.
 use native.Mathlib.Omega.{arith}
-use borrow.Author.Rules.{rules}
 use Rattle.numbering.specs.Sizes.{atoms-most}
 use Rattle.editing.proofs.is_closed.Goals as goal
 

@@ -1,6 +1,5 @@
 -- `editing::judge_end`: what the values came to, then, of a start, whether they hold a listed pair.
 use mathlib.Core.Path.{◌≡◌, refl, ap, sym, ◌∙◌}
-use borrow.Author.Rules.{rules}
 use Rattle.meaning.specs.Workspace.{has}
 use Rattle.meaning.specs.Answer.{fine}
 use Rattle.operator.specs.Records.{judgement_of}

@@ -1,7 +1,6 @@
 -- `editing::judge_operator`: what the record came to in file order, then whether the list is closed under it.
 use mathlib.Core.Path.{◌≡◌, refl, ap, sym, ◌∙◌}
 use lib.Seq.{length-take-le}
-use borrow.Author.Tests.{not-true, not-false}
 use borrow.Author.Rules.{rules}
 use Rattle.meaning.specs.Answer.{operator_in, fine}
 use Rattle.meaning.specs.Pair.{closed}

@@ -1,11 +1,8 @@
 -- `editing::judge_values`: what is left to judge, from value i on, is judged as all values are.
 use Prim.Native.Nat.{◌-◌, ◌≤◌}
-use mathlib.Core.Path.{◌≡◌, refl, sym, ◌∙◌}
-use native.Mathlib.Omega.{arith}
+use mathlib.Core.Path.{◌≡◌}
 use lib.ListN.{length, drop}
-use borrow.Author.Tests.{eq-eqb, ne_eqb}
 use Rattle.meaning.specs.Answer.{fine, values_judged}
-use Rattle.editing.specs.Operand.{values-next, values-stop, values-all}
 use Rattle.editing.proofs.judge_values.Given as goal
 
 abbrev pub invariant-loop-i : goal.invariant-loop-i

@@ -3,7 +3,6 @@ use Prim.Native.Nat.{◌+◌, ◌≤◌}
 use mathlib.Core.Path.{◌≡◌, ap, sym, ◌∙◌, subst}
 use native.Mathlib.Omega.{arith}
 use lib.ListN.{length}
-use borrow.Author.Rules.{rules}
 use Rattle.meaning.specs.Workspace.{Content}
 use Rattle.meaning.specs.Answer.{Edit, fine, edit_judged}
 use Rattle.operator.specs.Records.{judgement_of}

@@ -7,7 +7,6 @@ use Rattle.meaning.specs.Workspace.{words_for}
 use Rattle.formed.specs.Formed.{FormedIs, no-formed, yes-sized, yes-due, yes-proper}
 use Rattle.formed.specs.declared.Formed.TheVariants.{Yes}
 use Rattle.finding.specs.Found.{malformed, small, finds}
-use borrow.Author.Rules.{rules}
 use Rattle.finding.proofs.find.Goals as goal
 use Rattle.finding.proofs.find.Goals.{Else-room-words_for, In-Yes}
 

@@ -2,7 +2,6 @@
 use mathlib.Core.Path.{subst}
 use native.Mathlib.Omega.{arith}
 use lib.ListN.{length-take}
-use borrow.Author.Rules.{rules}
 use Rattle.meaning.specs.Limits.{most_features}
 use Rattle.meaning.specs.Workspace.{words_for}
 use Rattle.meaning.specs.Answer.{done, FindsIn}

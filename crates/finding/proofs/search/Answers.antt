@@ -8,7 +8,6 @@ use Rattle.theory.specs.Words.{length-packed}
 use Rattle.slots.specs.Area.{slots_in}
 use Rattle.slots.specs.Find.{found}
 use Rattle.finding.specs.Search.{searched-few, held-past, held-words, left-held}
-use borrow.Author.Rules.{rules}
 use Rattle.finding.proofs.search.Goals as goal
 
 pub fill_difference-requires : goal.fill_difference-requires

@@ -1,11 +1,9 @@
 -- `count_kept`: the walk stands at one that is kept, or at the end, and it has counted those before.
 use Prim.Native.Nat.{◌-◌}
-use native.Mathlib.Omega.{arith}
 use lib.ListN.{length}
-use borrow.Author.Rules.{rules}
 use Rattle.meaning.specs.Workspace.{has}
 use Rattle.forgetting.specs.Out.{out_by}
-use Rattle.forgetting.specs.Kept.{kept_all, Stands, stands-first, stands-next, stands-below, stands-few, stands-end}
+use Rattle.forgetting.specs.Kept.{kept_all, Stands}
 use Rattle.forgetting.proofs.count_kept.Given as goal
 
 abbrev pub invariant-loop-kept : goal.invariant-loop-kept

@@ -1,14 +1,9 @@
 -- `is_against`: the value is exclusive with the goal value of none of the first j variables.
-use Prim.Native.Nat.{◌≤◌, ◌-◌}
-use mathlib.Core.Path.{◌≡◌, sym, ◌∙◌}
-use mathlib.Core.Bool.{false}
+use mathlib.Core.Path.{sym, ◌∙◌}
 use native.Mathlib.Omega.{arith}
-use lib.ListN.{length}
-use Rattle.meaning.specs.Sets.{some}
-use Rattle.meaning.specs.Workspace.{has}
 use Rattle.theory.specs.Search.{some_at}
 use Rattle.pairs.specs.Places.{some-start, some_next, some-done}
-use Rattle.forgetting.specs.Out.{against_at, against_by}
+use Rattle.forgetting.specs.Out.{against_by}
 use Rattle.forgetting.proofs.is_against.Goals as goal
 
 pub loop-j-init : goal.loop-j-init

@@ -1,7 +1,5 @@
 -- `is_against_at`: a variable that is named is another one than the silent variable i.
 use mathlib.Core.Path.{refl, sym, ◌∙◌}
-use borrow.Author.Rules.{rules}
-use borrow.Author.Tests.{not-true, not-false}
 use Rattle.forgetting.specs.Out.{against_at, silent-apart}
 use Rattle.forgetting.proofs.is_against_at.Goals as goal
 

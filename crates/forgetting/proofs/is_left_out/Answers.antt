@@ -1,6 +1,5 @@
 -- `is_left_out`: by whether the variable is named.
 use mathlib.Core.Path.{refl, sym, ◌∙◌}
-use borrow.Author.Rules.{rules}
 use Rattle.forgetting.specs.Out.{out_by}
 use Rattle.forgetting.proofs.is_left_out.Goals as goal
 

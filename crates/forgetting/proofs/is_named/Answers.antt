@@ -1,7 +1,6 @@
 -- `is_named`: the goal value and the size, which are within their limits.
 use native.Mathlib.Omega.{arith}
 use mathlib.Core.Path.{refl}
-use borrow.Author.Rules.{rules}
 use Rattle.forgetting.specs.Out.{named_by}
 use Rattle.forgetting.proofs.is_named.Goals as goal
 

@@ -1,11 +1,6 @@
 -- `next_kept`: nothing is kept from value x of variable i on and before value y of variable j.
-use Prim.Native.Nat.{◌-◌}
 use native.Mathlib.Omega.{arith}
-use lib.ListN.{length}
-use borrow.Author.Rules.{rules}
-use Rattle.meaning.specs.Workspace.{has}
-use Rattle.forgetting.specs.Out.{out_by}
-use Rattle.forgetting.specs.Kept.{Passed, passed_none, passed-found, passed-more, passed-all}
+use Rattle.forgetting.specs.Kept.{passed_none, passed-found, passed-more, passed-all}
 use Rattle.forgetting.proofs.next_kept.Goals as goal
 
 pub loop-j-init : goal.loop-j-init

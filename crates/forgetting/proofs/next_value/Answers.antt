@@ -1,12 +1,7 @@
 -- `next_value`: the values from x on and before y are left out.
-use Prim.Native.Nat.{◌≤◌, ◌-◌}
-use mathlib.Core.Path.{◌≡◌, refl, sym, ◌∙◌}
+use mathlib.Core.Path.{refl, sym, ◌∙◌}
 use native.Mathlib.Omega.{arith}
-use borrow.Author.Rules.{rules}
-use borrow.Author.Tests.{not-true, not-false}
-use Rattle.meaning.specs.Workspace.{has}
-use Rattle.forgetting.specs.Out.{out_by}
-use Rattle.forgetting.specs.Kept.{kept_before, kept-skip}
+use Rattle.forgetting.specs.Kept.{kept-skip}
 use Rattle.forgetting.proofs.next_value.Goals as goal
 
 pub overflow_sub-end : goal.overflow_sub-end

@@ -1,12 +1,9 @@
 -- `next_value`: the values from x on and before y are left out.
 use Prim.Native.Nat.{◌≤◌, ◌-◌}
-use mathlib.Core.Path.{◌≡◌, refl, sym, ◌∙◌}
-use native.Mathlib.Omega.{arith}
-use borrow.Author.Rules.{rules}
-use borrow.Author.Tests.{not-true, not-false}
+use mathlib.Core.Path.{◌≡◌}
 use Rattle.meaning.specs.Workspace.{has}
 use Rattle.forgetting.specs.Out.{out_by}
-use Rattle.forgetting.specs.Kept.{kept_before, kept-skip}
+use Rattle.forgetting.specs.Kept.{kept_before}
 use Rattle.forgetting.proofs.next_value.Given as goal
 
 abbrev pub invariant-loop-y : goal.invariant-loop-y

@@ -1,9 +1,7 @@
 -- `formed::are_sizes`: the first i sizes are within their limits.
-use Prim.Native.Nat.{◌-◌, ◌≤◌}
 use native.Mathlib.Omega.{arith}
-use lib.ListN.{length}
 use Rattle.theory.specs.Tells.{told-yes, told-no}
-use Rattle.formed.specs.Tests.{EachSize, each_next}
+use Rattle.formed.specs.Tests.{each_next}
 use Rattle.formed.proofs.are_sizes.Goals as goal
 
 pub loop-i-init : goal.loop-i-init

@@ -1,6 +1,5 @@
 -- `formed::are_within`: each way out is one of the laws on members within bounds.
 use Rattle.formed.specs.Tests.{within_low, within-past}
-use borrow.Author.Rules.{rules}
 use Rattle.formed.proofs.are_within.Goals as goal
 
 pub returns-then-next_member-low : goal.returns-then-next_member-low

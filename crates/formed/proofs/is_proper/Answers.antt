@@ -1,7 +1,5 @@
 -- `formed::is_proper`: each way out refuses what the content would have to keep; the last is left with the shape of the slots.
 use mathlib.Core.Path.{sym, ◌∙◌}
-use borrow.Author.Rules.{rules}
-use borrow.Author.Tests.{not-true, not-false}
 use Rattle.theory.specs.Truth.{clash}
 use Rattle.theory.specs.Tells.{told-no, tells-no}
 use Rattle.formed.specs.Parts.{cut_small, cut-bounds, cut-listed, cut-pairs, cut-proper}

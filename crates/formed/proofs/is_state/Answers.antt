@@ -1,9 +1,7 @@
 -- `formed::is_state`: the first i values are below their sizes.
-use Prim.Native.Nat.{◌-◌, ◌≤◌}
 use native.Mathlib.Omega.{arith}
-use lib.ListN.{length}
 use Rattle.theory.specs.Tells.{told-yes, told-no}
-use Rattle.formed.specs.Tests.{Below, each_next}
+use Rattle.formed.specs.Tests.{each_next}
 use Rattle.formed.proofs.is_state.Goals as goal
 
 pub loop-i-init : goal.loop-i-init

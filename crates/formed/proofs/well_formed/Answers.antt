@@ -1,8 +1,6 @@
 -- `formed::well_formed`: each refusal contradicts what a well formed workspace begins with, up to the test of all the rest.
 use mathlib.Core.Path.{◌≡◌, ◌∙◌}
 use native.Mathlib.Omega.{arith}
-use borrow.Author.Rules.{rules}
-use borrow.Author.Tests.{not-true, not-false}
 use Rattle.theory.specs.Tells.{tells-no}
 use Rattle.theory.specs.Contents.{sizes_in}
 use Rattle.layout.specs.Parts.{sizes-first}

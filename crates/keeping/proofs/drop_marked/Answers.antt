@@ -1,7 +1,6 @@
 -- `drop_marked`: what was marked is taken out, if there is something.
 use Rattle.theory.specs.Truth.{clash}
 use Rattle.keeping.specs.Turn.{left-none, left-some}
-use borrow.Author.Rules.{rules}
 use Rattle.keeping.proofs.drop_marked.Goals as goal
 
 pub returns-then-is_empty : goal.returns-then-is_empty

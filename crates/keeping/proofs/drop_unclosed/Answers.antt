@@ -6,7 +6,6 @@ use mathlib.Core.Path.{sym}
 use native.Mathlib.Omega.{arith}
 use lib.Seq.{length-take-le}
 use Rattle.theory.specs.Flat.{take-replicate}
-use borrow.Author.Rules.{rules}
 use Rattle.keeping.proofs.drop_unclosed.Goals as goal
 
 pub slice_bounds-drop_marked-end : goal.slice_bounds-drop_marked-end

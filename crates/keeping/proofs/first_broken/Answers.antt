@@ -1,10 +1,7 @@
 -- `first_broken`: the list is closed under the operators that the walk has passed.
-use Prim.Native.Nat.{◌<◌, ◌≤◌, ◌-◌}
+use Prim.Native.Nat.{◌<◌}
 use native.Mathlib.Omega.{arith}
-use borrow.Author.Rules.{rules}
-use Rattle.meaning.specs.Task.{Task}
-use Rattle.keeping.specs.Pass.{OperatorsAt}
-use Rattle.keeping.specs.Fault.{ClosedTo, closed-start, none-broken, closed-next, broken-here, broken-never}
+use Rattle.keeping.specs.Fault.{closed-start, none-broken, closed-next, broken-here, broken-never}
 use Rattle.keeping.proofs.first_broken.Goals as goal
 use Rattle.keeping.proofs.first_broken.Goals.{Else-pair-end}
 

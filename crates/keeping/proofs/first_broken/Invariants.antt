@@ -1,10 +1,8 @@
 -- `first_broken`: the list is closed under the operators that the walk has passed.
-use Prim.Native.Nat.{◌<◌, ◌≤◌, ◌-◌}
-use native.Mathlib.Omega.{arith}
-use borrow.Author.Rules.{rules}
+use Prim.Native.Nat.{◌≤◌, ◌-◌}
 use Rattle.meaning.specs.Task.{Task}
 use Rattle.keeping.specs.Pass.{OperatorsAt}
-use Rattle.keeping.specs.Fault.{ClosedTo, closed-start, none-broken, closed-next, broken-here, broken-never}
+use Rattle.keeping.specs.Fault.{ClosedTo}
 use Rattle.keeping.proofs.first_broken.Given as goal
 
 abbrev pub invariant-loop-k : goal.invariant-loop-k

@@ -2,7 +2,6 @@
 use native.Mathlib.Omega.{arith}
 use Rattle.numbering.specs.Sizes.{limits-small}
 use Rattle.keeping.specs.Fault.{stands-there, fault-held, fault-unclosed, fault-nothing}
-use borrow.Author.Rules.{rules}
 use Rattle.keeping.proofs.first_fault.Goals as goal
 
 pub features-end-requires : goal.features-end-requires

@@ -1,7 +1,6 @@
 -- `is_touched`: no before atom is in the set, two are, or one is and the variables that are not named decide.
 use mathlib.Core.Path.{◌∙◌}
 use native.Mathlib.Omega.{arith}
-use borrow.Author.Rules.{rules}
 use Rattle.keeping.specs.Marks.{never-touched, twice-touched, once-touched}
 use Rattle.keeping.proofs.is_touched.Goals as goal
 

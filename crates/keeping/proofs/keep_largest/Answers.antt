@@ -1,6 +1,5 @@
 -- `keep_largest`: the start's pairs go first, then what the passes take out.
 use Rattle.keeping.specs.Keep.{kept-largest}
-use borrow.Author.Rules.{rules}
 use Rattle.keeping.proofs.keep_largest.Goals as goal
 
 pub returns : goal.returns

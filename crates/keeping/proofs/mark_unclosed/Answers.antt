@@ -1,17 +1,13 @@
 -- `mark_unclosed`: below the pair of the turn all that is unclosed is marked; the pair itself is unclosed.
-use Prim.Native.Nat.{ℕ, ◌-◌, ◌<◌}
+use Prim.Native.Nat.{ℕ, ◌<◌}
 use mathlib.Core.Path.{◌≡◌, sym, ap, ◌∙◌}
-use mathlib.Core.Bool.{true}
 use native.Mathlib.Omega.{arith}
 use lib.ListN.{length, length-replicate}
 use Rattle.meaning.specs.Feature.{features}
-use Rattle.meaning.specs.Pair.{unclosed_pair}
-use Rattle.meaning.specs.Workspace.{has}
-use Rattle.theory.specs.Slices.{entries_in}
 use Rattle.numbering.specs.Sizes.{limits-small}
 use Rattle.pairs.specs.Ready.{Listed, ready-listed}
-use Rattle.pairs.specs.Walk.{Reached, reached-first, reached-here}
-use Rattle.keeping.specs.Marks.{MarkedTo, marked_start, marked_next, marked_all}
+use Rattle.pairs.specs.Walk.{reached-first, reached-here}
+use Rattle.keeping.specs.Marks.{marked_start, marked_next, marked_all}
 use Rattle.keeping.proofs.mark_unclosed.Goals as goal
 use Rattle.keeping.proofs.mark_unclosed.Goals.{After-next_pair-next, At-loop-pair}
 

@@ -1,13 +1,12 @@
 -- `pass`: after k operators nothing that went is in a good sublist, and the operators that were passed need not be judged again unless a before atom is touched.
-use Prim.Native.Nat.{ℕ, ◌<◌, ◌≤◌, ◌-◌}
+use Prim.Native.Nat.{ℕ, ◌<◌}
 use mathlib.Core.Path.{◌≡◌, sym, ap, ◌∙◌}
 use mathlib.Core.Logic.{inl, inr}
 use native.Mathlib.Omega.{arith}
 use lib.ListN.{length, length-replicate}
-use borrow.Author.Rules.{rules}
 use Rattle.words.specs.Part.{has-none}
 use Rattle.meaning.specs.Workspace.{has}
-use Rattle.keeping.specs.Pass.{PassBy, pass-start, pass-end, pass-unread, pass-next, either-told}
+use Rattle.keeping.specs.Pass.{pass-start, pass-end, pass-unread, pass-next, either-told}
 use Rattle.keeping.proofs.pass.Goals as goal
 use Rattle.keeping.proofs.pass.Goals.{At-loop-k, Joined-dropped, then-dropped, else-dropped}
 

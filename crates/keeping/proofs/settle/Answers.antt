@@ -1,12 +1,9 @@
 -- `settle`: pairs become fewer from pass to pass, or there is no further one.
-use mathlib.Core.Path.{◌≡◌, refl, ◌∙◌}
+use mathlib.Core.Path.{refl, ◌∙◌}
 use native.Mathlib.Omega.{arith}
-use lib.ListN.{length}
 use borrow.Author.Rules.{rules}
-use Rattle.meaning.specs.Limits.{most_atoms}
-use Rattle.meaning.specs.Workspace.{words_for}
 use Rattle.numbering.specs.Sizes.{atoms-most}
-use Rattle.keeping.specs.Pass.{SettledTo, passes_left, settled-start, settled-next, settled-all, passes-fewer}
+use Rattle.keeping.specs.Pass.{settled-start, settled-next, settled-all, passes-fewer}
 use Rattle.keeping.proofs.settle.Goals as goal
 
 pub loop-more-init : goal.loop-more-init

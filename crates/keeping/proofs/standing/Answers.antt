@@ -1,10 +1,8 @@
 -- `standing`: each turn stores one variable more, and its value.
-use Prim.Native.Nat.{◌-◌}
-use mathlib.Core.Path.{◌≡◌, refl}
+use mathlib.Core.Path.{refl}
 use native.Mathlib.Omega.{arith}
-use lib.ListN.{length, length-set}
-use Rattle.meaning.specs.Limits.{most_variables}
-use Rattle.keeping.specs.Standing.{Stored, stored_next, stored-standing}
+use lib.ListN.{length-set}
+use Rattle.keeping.specs.Standing.{stored_next, stored-standing}
 use Rattle.keeping.proofs.standing.Goals as goal
 
 pub loop-i-init : goal.loop-i-init

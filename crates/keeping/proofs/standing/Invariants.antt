@@ -1,10 +1,9 @@
 -- `standing`: each turn stores one variable more, and its value.
 use Prim.Native.Nat.{◌-◌}
-use mathlib.Core.Path.{◌≡◌, refl}
-use native.Mathlib.Omega.{arith}
-use lib.ListN.{length, length-set}
+use mathlib.Core.Path.{◌≡◌}
+use lib.ListN.{length}
 use Rattle.meaning.specs.Limits.{most_variables}
-use Rattle.keeping.specs.Standing.{Stored, stored_next, stored-standing}
+use Rattle.keeping.specs.Standing.{Stored}
 use Rattle.keeping.proofs.standing.Given as goal
 
 abbrev pub invariant-loop-i : goal.invariant-loop-i

@@ -1,6 +1,5 @@
 -- `touch`: the two atoms of the pair are put in, one after the other.
 use native.Mathlib.Omega.{arith}
-use borrow.Author.Rules.{rules}
 use Rattle.numbering.specs.Sizes.{limits-small}
 use Rattle.keeping.specs.Marks.{atom-room, touched-both}
 use Rattle.keeping.proofs.touch.Goals as goal

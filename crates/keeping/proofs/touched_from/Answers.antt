@@ -1,12 +1,10 @@
 -- `touched_from`: none of the before atoms from the start on that the walk has passed is in the set.
-use Prim.Native.Nat.{◌<◌, ◌≤◌, ◌-◌}
+use Prim.Native.Nat.{◌<◌}
 use native.Mathlib.Omega.{arith}
-use lib.ListN.{length}
 use Rattle.meaning.specs.Feature.{atoms}
 use Rattle.theory.specs.Numbering.{single-below}
 use Rattle.numbering.specs.Sizes.{limits-small}
-use Rattle.words.specs.Next.{Clear}
-use Rattle.keeping.specs.Marks.{atom_in, atom-met, atom-passed, atoms-passed}
+use Rattle.keeping.specs.Marks.{atom-met, atom-passed, atoms-passed}
 use Rattle.keeping.proofs.touched_from.Goals as goal
 
 pub loop-k-init : goal.loop-k-init

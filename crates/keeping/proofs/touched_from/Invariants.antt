@@ -1,12 +1,8 @@
 -- `touched_from`: none of the before atoms from the start on that the walk has passed is in the set.
-use Prim.Native.Nat.{◌<◌, ◌≤◌, ◌-◌}
-use native.Mathlib.Omega.{arith}
+use Prim.Native.Nat.{◌≤◌, ◌-◌}
 use lib.ListN.{length}
-use Rattle.meaning.specs.Feature.{atoms}
-use Rattle.theory.specs.Numbering.{single-below}
-use Rattle.numbering.specs.Sizes.{limits-small}
 use Rattle.words.specs.Next.{Clear}
-use Rattle.keeping.specs.Marks.{atom_in, atom-met, atom-passed, atoms-passed}
+use Rattle.keeping.specs.Marks.{atom_in}
 use Rattle.keeping.proofs.touched_from.Given as goal
 
 abbrev pub invariant-loop-k : goal.invariant-loop-k

@@ -3,7 +3,6 @@ use mathlib.Core.Path.{sym, ◌∙◌}
 use native.Mathlib.Omega.{arith}
 use Rattle.numbering.specs.Sizes.{atoms-most}
 use Rattle.keeping.specs.Fault.{broken-found, broken-idle}
-use borrow.Author.Rules.{rules}
 use Rattle.keeping.proofs.unclosed_under.Goals as goal
 
 pub fill_possible-requires : goal.fill_possible-requires

@@ -1,7 +1,6 @@
 -- `layout::goal`: the words lent are the goal's values.
 use mathlib.Core.Path.{◌∙◌}
 use native.Mathlib.Omega.{arith}
-use borrow.Author.Rules.{rules}
 use Rattle.layout.specs.Places.{places-are}
 use Rattle.layout.specs.Parts.{lent-goal}
 use Rattle.layout.proofs.goal.Goals as goal

@@ -1,7 +1,6 @@
 -- `layout::pairs`: the words lent are the listed pairs.
 use mathlib.Core.Path.{◌∙◌}
 use native.Mathlib.Omega.{arith}
-use borrow.Author.Rules.{rules}
 use Rattle.layout.specs.Places.{places-are}
 use Rattle.layout.specs.Parts.{lent-pairs}
 use Rattle.layout.proofs.pairs.Goals as goal

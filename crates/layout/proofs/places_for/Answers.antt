@@ -1,6 +1,5 @@
 -- `places_for`: the words of all slots are few enough to count, and each place is the sum that the meaning has.
 use native.Mathlib.Omega.{arith}
-use borrow.Author.Rules.{rules}
 use Rattle.layout.specs.Places.{slots-few}
 use Rattle.layout.proofs.places_for.Goals as goal
 

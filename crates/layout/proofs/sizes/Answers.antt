@@ -1,5 +1,4 @@
 -- `layout::sizes`: the words lent are the sizes.
-use borrow.Author.Rules.{rules}
 use mathlib.Core.Path.{◌∙◌}
 use Rattle.meaning.specs.Workspace.{sizes_at}
 use Rattle.layout.specs.Parts.{lent}

@@ -1,7 +1,6 @@
 -- `layout::slots`: the words lent are the slots.
 use mathlib.Core.Path.{◌∙◌}
 use native.Mathlib.Omega.{arith}
-use borrow.Author.Rules.{rules}
 use Rattle.layout.specs.Places.{places-are}
 use Rattle.layout.specs.Parts.{lent-slots}
 use Rattle.layout.proofs.slots.Goals as goal

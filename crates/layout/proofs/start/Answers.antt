@@ -1,7 +1,6 @@
 -- `layout::start`: the words lent are the start's values.
 use mathlib.Core.Path.{◌∙◌}
 use native.Mathlib.Omega.{arith}
-use borrow.Author.Rules.{rules}
 use Rattle.layout.specs.Places.{places-are}
 use Rattle.layout.specs.Parts.{lent-start}
 use Rattle.layout.proofs.start.Goals as goal

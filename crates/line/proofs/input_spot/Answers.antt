@@ -1,7 +1,6 @@
 -- `input_spot`: an input that is too long has no place, any other that of its first fault.
 use mathlib.Core.Path.{refl}
 use borrow.Author.Tests.{lt-ltb, le-ltb}
-use borrow.Author.Rules.{rules}
 use Rattle.line.proofs.input_spot.Goals as goal
 
 pub returns-then-input-gt-MOST_INPUT : goal.returns-then-input-gt-MOST_INPUT

@@ -6,7 +6,6 @@ use Rattle.meaning.specs.Line.{place_text, line}
 use Rattle.placing.specs.Answers.{spot_of}
 use Rattle.text.specs.Parts.{ShortSpot, refused-few}
 use Rattle.line.specs.Fits.{ShortNumber, printed-short}
-use borrow.Author.Rules.{rules}
 use Rattle.line.proofs.put_line.Goals as goal
 
 pub put_refused-requires : goal.put_refused-requires

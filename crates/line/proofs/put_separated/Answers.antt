@@ -10,7 +10,6 @@ use Rattle.decimal.specs.Decimal.{word_width, word-few}
 use Rattle.decimal.specs.Members.{words-members-few}
 use Rattle.line.specs.Fits.{feature_digits}
 use Rattle.line.specs.Text.{separated-put}
-use borrow.Author.Rules.{rules}
 use Rattle.line.proofs.put_separated.Goals as goal
 use Rattle.line.proofs.put_separated.Goals.{After-count-count}
 

@@ -1,7 +1,6 @@
 -- `seek`: an answer for each way out, by the laws on what opening and finding tell.
 use native.Mathlib.Omega.{arith}
 use Rattle.line.specs.Sought.{too_long_lem, unopened, sought}
-use borrow.Author.Rules.{rules}
 use Rattle.line.proofs.seek.Goals as goal
 
 pub returns-then-input-gt-MOST_INPUT : goal.returns-then-input-gt-MOST_INPUT

@@ -7,7 +7,6 @@ use Rattle.meaning.specs.Place.{in_task}
 use Rattle.task.specs.Answer.{KnownAs, known-room}
 use Rattle.order.specs.Answer.{partial-accepted, partial-refused}
 use Rattle.locating.specs.Spots.{fault-spot, weights-spot}
-use borrow.Author.Rules.{rules}
 use Rattle.locating.proofs.partial_spot.Goals as goal
 use Rattle.locating.proofs.partial_spot.Goals.{In-Accepted}
 

@@ -6,7 +6,6 @@ use Rattle.meaning.specs.File.{judged_task}
 use Rattle.meaning.specs.Place.{in_task}
 use Rattle.task.specs.Answer.{KnownAs, known-room, judged-accepted, judged-refused}
 use Rattle.locating.specs.Spots.{fault-spot, weights-spot}
-use borrow.Author.Rules.{rules}
 use Rattle.locating.proofs.spot.Goals as goal
 use Rattle.locating.proofs.spot.Goals.{In-Accepted}
 

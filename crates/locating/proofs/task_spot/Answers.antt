@@ -3,7 +3,6 @@ use mathlib.Core.Path.{refl}
 use Rattle.meaning.specs.Place.{nowhere, in_task}
 use Rattle.task.specs.Answer.{judged-told, judged-refused}
 use Rattle.locating.specs.Spots.{fault-spot, next-spot}
-use borrow.Author.Rules.{rules}
 use Rattle.locating.proofs.task_spot.Goals as goal
 
 pub returns-in-Accepted : goal.returns-in-Accepted

@@ -6,7 +6,6 @@ use Rattle.meaning.specs.Place.{nowhere, in_weights}
 use Rattle.layout.specs.Parts.{room-zeros}
 use Rattle.reader.specs.Answer.{reads-next, reads-fault}
 use Rattle.locating.specs.Spots.{fault-spot, next-spot}
-use borrow.Author.Rules.{rules}
 use Rattle.locating.proofs.weights_spot.Goals as goal
 
 pub slice_bounds-read_weights-end : goal.slice_bounds-read_weights-end

@@ -2,7 +2,6 @@
 use Prim.Native.Nat.{◌≤◌}
 use native.Mathlib.Omega.{arith}
 use lib.ListN.{replicate, length-take}
-use borrow.Author.Rules.{rules}
 use Rattle.meaning.specs.Limits.{most_variables, most_features}
 use Rattle.meaning.specs.Workspace.{words_for, slots_at}
 use Rattle.number.specs.Answers.{reason_of}

@@ -1,5 +1,4 @@
 -- `answer_in` writes by what is asked for.
-use borrow.Author.Rules.{rules}
 use Rattle.mending.proofs.answer_in.Goals as goal
 
 pub returns-then-dropping : goal.returns-then-dropping

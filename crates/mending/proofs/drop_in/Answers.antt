@@ -1,9 +1,6 @@
 -- `drop_in`: the pairs that are kept, added to the listed ones, leave those that are dropped.
-use Prim.Native.Nat.{ℕ}
 use mathlib.Core.Path.{◌≡◌, sym, ◌∙◌}
-use mathlib.Core.List.{List}
 use lib.ListN.{length}
-use borrow.Author.Rules.{rules}
 use Rattle.meaning.specs.Workspace.{words_for}
 use Rattle.task.specs.Answer.{left-room, read_left}
 use Rattle.mending.specs.Answer.{pairs-long, drops-so}

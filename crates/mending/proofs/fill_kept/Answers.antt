@@ -1,6 +1,5 @@
 -- `fill_kept`: the listed pairs are copied, and what is left of the copy is kept.
 use mathlib.Core.Path.{sym, ◌∙◌}
-use borrow.Author.Rules.{rules}
 use Rattle.layout.specs.Parts.{Headed, headed-sizes}
 use Rattle.task.specs.Answer.{left-room, read_left}
 use Rattle.mending.specs.Answer.{pairs-long, lent-ready, kept_in_lem}

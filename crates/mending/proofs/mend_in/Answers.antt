@@ -1,10 +1,7 @@
 -- `mend_in`: the pairs that are kept, the parts of the header, and the file that is written from them.
-use Prim.Native.Nat.{ℕ}
 use mathlib.Core.Path.{◌≡◌, refl, ◌∙◌}
-use mathlib.Core.List.{List}
 use native.Mathlib.Omega.{arith}
 use lib.ListN.{length}
-use borrow.Author.Rules.{rules}
 use Rattle.meaning.specs.Workspace.{words_for}
 use Rattle.theory.specs.Spent.{Bytes}
 use Rattle.layout.specs.Parts.{Headed, headed-sizes}

@@ -1,6 +1,5 @@
 -- `pair_fault`: what is known of a task that was read goes to `tell_fault`, if the room is long enough; a refusal is answered as it is.
 use lib.ListN.{replicate}
-use borrow.Author.Rules.{rules}
 use Rattle.meaning.specs.Limits.{most_variables, most_features}
 use Rattle.meaning.specs.Workspace.{slots_at}
 use Rattle.task.specs.Answer.{ReadInto, judged-told, judged-refused}

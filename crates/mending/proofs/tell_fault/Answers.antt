@@ -1,6 +1,5 @@
 -- `tell_fault`: the parts of the header, and what is written for each fault.
 use mathlib.Core.Path.{subst}
-use borrow.Author.Rules.{rules}
 use Rattle.layout.specs.Parts.{Headed, headed-sizes}
 use Rattle.task.specs.Answer.{left-room, read_left}
 use Rattle.keeping.specs.Fault.{FaultIs}

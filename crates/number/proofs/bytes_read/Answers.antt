@@ -1,8 +1,6 @@
 -- `bytes_read`: at each byte that says that one group follows, what is read so far and what is still to be read come to the whole.
-use Prim.Native.Nat.{◌+◌, ◌≤◌}
 use mathlib.Core.Path.{◌≡◌}
 use native.Mathlib.Omega.{arith}
-use Rattle.meaning.specs.Limits.{most_groups}
 use Rattle.meaning.specs.Number.{groups_read, bytes_read}
 use Rattle.number.specs.Laws.{read_none, read-last, read_more}
 use Rattle.number.proofs.bytes_read.Goals as goal

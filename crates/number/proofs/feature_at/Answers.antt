@@ -1,6 +1,5 @@
 -- `feature_at` reads by the kind.
 use Rattle.meaning.specs.File.{feature_of}
-use borrow.Author.Rules.{rules}
 use Rattle.number.proofs.feature_at.Goals as goal
 
 pub returns-then-gapped : goal.returns-then-gapped

@@ -1,6 +1,5 @@
 -- `is_gapped` answers by the first number.
 use mathlib.Core.Path.{sym, ap, ◌∙◌}
-use borrow.Author.Rules.{rules}
 use Rattle.meaning.specs.File.{kind_of}
 use Rattle.number.specs.Answers.{number_of}
 use Rattle.number.proofs.is_gapped.Goals as goal

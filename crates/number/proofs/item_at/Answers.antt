@@ -1,6 +1,5 @@
 -- `item_at` answers by the number that was read and by the two tests of its range.
 use mathlib.Core.Path.{◌≡◌, sym, ap, ◌∙◌}
-use borrow.Author.Rules.{rules}
 use borrow.Author.Tests.{lt-ltb, le-ltb, le-leb, lt-leb}
 use Rattle.meaning.specs.Number.{number, got}
 use Rattle.meaning.specs.File.{item}

@@ -1,5 +1,4 @@
 -- `number_at` reads as many groups as a number may have.
-use borrow.Author.Rules.{rules}
 use Rattle.meaning.specs.Number.{number}
 use Rattle.number.proofs.number_at.Goals as goal
 

@@ -1,10 +1,7 @@
 -- `numbers_on` meets its contract: after each turn the numbers that are still to be passed over lead from the place reached to where all would.
-use Prim.Native.Nat.{◌-◌, ◌≤◌}
-use mathlib.Core.Path.{◌≡◌, sym, ap, ◌∙◌}
+use mathlib.Core.Path.{sym, ap, ◌∙◌}
 use native.Mathlib.Omega.{arith}
 use native.Mathlib.Nat.{sub-zero}
-use borrow.Author.Rules.{rules}
-use Rattle.meaning.specs.Number.{numbers_on}
 use Rattle.number.specs.Answers.{number_of, reason_of}
 use Rattle.number.specs.Laws.{on_none, on-more, on-fault}
 use Rattle.number.proofs.numbers_on.Goals as goal

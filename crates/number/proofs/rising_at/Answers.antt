@@ -1,6 +1,5 @@
 -- `rising_at` answers by the number in its range that was read and by the test of its order.
 use mathlib.Core.Path.{◌≡◌, sym, ap, ◌∙◌}
-use borrow.Author.Rules.{rules}
 use borrow.Author.Tests.{le-leb, lt-leb}
 use Rattle.meaning.specs.Number.{Range, got}
 use Rattle.meaning.specs.File.{inside, item, rising}

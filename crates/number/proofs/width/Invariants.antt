@@ -1,12 +1,10 @@
 -- `width` counts the bytes of a number: at each turn as many are counted as the number has bytes more than what is left of it.
 use Prim.Native.Nat.{ℕ, ◌+◌}
-use mathlib.Core.Path.{◌≡◌, ap}
+use mathlib.Core.Path.{◌≡◌}
 use mathlib.Core.List.{List}
-use native.Mathlib.Omega.{arith}
 use lib.ListN.{length}
 use Rattle.meaning.specs.Number.{number_bytes}
-use Rattle.theory.specs.NumberBack.{number-bytes-length}
-use Rattle.number.specs.Laws.{Spelled, spelled-number, spelled-one, spelled-more}
+use Rattle.number.specs.Laws.{Spelled}
 use Rattle.number.proofs.width.Given as goal
 
 abbrev pub invariant-loop-left : goal.invariant-loop-left

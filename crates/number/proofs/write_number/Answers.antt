@@ -1,12 +1,11 @@
 -- `write_number` stores the bytes of a number: at each turn the bytes of what is left, stored from here on, give the same room as all of them from the start.
-use Prim.Native.Nat.{ℕ, ◌+◌, ◌<◌}
+use Prim.Native.Nat.{◌+◌, ◌<◌}
 use mathlib.Core.Path.{◌≡◌, refl, sym, ap, ◌∙◌}
-use mathlib.Core.List.{List}
 use native.Mathlib.Omega.{arith}
 use lib.ListN.{length, length-set}
 use lib.Seq.{sets}
 use Rattle.meaning.specs.Number.{number_bytes}
-use Rattle.number.specs.Laws.{Spelled, spelled-number, spelled-filled, spelled-one, spelled-more, sets_more, sets-all}
+use Rattle.number.specs.Laws.{spelled-number, spelled-filled, spelled-one, spelled-more, sets_more, sets-all}
 use Rattle.number.proofs.write_number.Goals as goal
 use Rattle.number.proofs.write_number.Goals.{At-loop-left}
 
@@ -51,5 +50,8 @@ returns c =
     let bytes = number_bytes c.args.n in
     let room = c.args.room.now in
     let last = spelled-one _ _ inv.1 c.loop-left-test.false in
-    let after : c.loop-left.next + 1 ≡ c.args.at + length bytes = omega (arith, inv.3, ap length last) in record { after = after; written = sym (inv.4 ∙ ap (sets c.loop-left.room c.loop-left.next) last)
-          ∙ sets-all room c.args.at (c.loop-left.next + 1) bytes after (omega (arith, after, c.requires.1)) }
+    let after : c.loop-left.next + 1 ≡ c.args.at + length bytes = omega (arith, inv.3, ap length last) in record {
+      after = after;
+      written = sym (inv.4 ∙ ap (sets c.loop-left.room c.loop-left.next) last)
+          ∙ sets-all room c.args.at (c.loop-left.next + 1) bytes after (omega (arith, after, c.requires.1));
+    }

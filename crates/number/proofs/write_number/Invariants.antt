@@ -1,12 +1,11 @@
 -- `write_number` stores the bytes of a number: at each turn the bytes of what is left, stored from here on, give the same room as all of them from the start.
-use Prim.Native.Nat.{ℕ, ◌+◌, ◌<◌}
-use mathlib.Core.Path.{◌≡◌, refl, sym, ap, ◌∙◌}
+use Prim.Native.Nat.{ℕ, ◌+◌}
+use mathlib.Core.Path.{◌≡◌}
 use mathlib.Core.List.{List}
-use native.Mathlib.Omega.{arith}
-use lib.ListN.{length, length-set}
+use lib.ListN.{length}
 use lib.Seq.{sets}
 use Rattle.meaning.specs.Number.{number_bytes}
-use Rattle.number.specs.Laws.{Spelled, spelled-number, spelled-filled, spelled-one, spelled-more, sets_more, sets-all}
+use Rattle.number.specs.Laws.{Spelled}
 use Rattle.number.proofs.write_number.Given as goal
 
 abbrev pub invariant-loop-left : goal.invariant-loop-left

@@ -1,6 +1,5 @@
 -- `atoms` meets its contract: the atoms before the end are all atoms.
 use mathlib.Core.Path.{◌∙◌}
-use borrow.Author.Rules.{rules}
 use Rattle.numbering.specs.Sums.{all-atoms}
 use Rattle.numbering.proofs.atoms.Goals as goal
 

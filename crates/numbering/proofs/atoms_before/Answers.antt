@@ -1,5 +1,4 @@
 -- `atoms_before` meets its contract: after i turns the sum is that of the first i sizes, and it stays small.
-use Prim.Native.Nat.{◌≤◌, ◌-◌}
 use mathlib.Core.Path.{◌≡◌, refl, ap, ◌∙◌}
 use native.Mathlib.Omega.{arith}
 use lib.ListN.{take}

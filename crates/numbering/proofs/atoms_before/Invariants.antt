@@ -1,10 +1,8 @@
 -- `atoms_before` meets its contract: after i turns the sum is that of the first i sizes, and it stays small.
 use Prim.Native.Nat.{◌≤◌, ◌-◌}
-use mathlib.Core.Path.{◌≡◌, refl, ap, ◌∙◌}
-use native.Mathlib.Omega.{arith}
+use mathlib.Core.Path.{◌≡◌}
 use lib.ListN.{take}
 use Rattle.meaning.specs.Feature.{sum_of}
-use Rattle.numbering.specs.Sums.{atoms-turn}
 use Rattle.numbering.proofs.atoms_before.Given as goal
 
 abbrev pub invariant-loop-i : goal.invariant-loop-i

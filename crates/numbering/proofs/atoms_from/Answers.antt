@@ -1,8 +1,7 @@
 -- `atoms_from` meets its contract: from variable k on the atoms are counted, and from j on too once k is there.
-use Prim.Native.Nat.{◌+◌, ◌-◌, ◌≤◌}
+use Prim.Native.Nat.{◌+◌, ◌-◌}
 use mathlib.Core.Path.{◌≡◌}
 use native.Mathlib.Omega.{arith}
-use lib.ListN.{length}
 use Rattle.meaning.specs.Feature.{atoms}
 use Rattle.numbering.specs.Sizes.{sum-small}
 use Rattle.numbering.specs.Sums.{all-atoms}

@@ -1,6 +1,5 @@
 -- `block_at`: each block on the way stands in its place and begins at f or before.
 use Prim.Native.Nat.{◌≤◌}
-use native.Mathlib.Omega.{arith}
 use Rattle.numbering.specs.Order.{Stands, blocks_left}
 use Rattle.numbering.proofs.block_at.Given as goal
 

@@ -1,6 +1,5 @@
 -- `both` meets its contract: the number stands in the plane of the two variables.
 use mathlib.Core.Path.{◌∙◌}
-use borrow.Author.Rules.{rules}
 use Rattle.numbering.specs.Planes.{plane-small}
 use Rattle.numbering.proofs.both.Goals as goal
 

@@ -1,8 +1,8 @@
 -- `features` meets its contract: after j turns the two sums count the atoms and the pairs of the first j variables.
-use Prim.Native.Nat.{◌+◌, ◌*◌, ◌≤◌, ◌-◌}
+use Prim.Native.Nat.{◌+◌, ◌*◌, ◌≤◌}
 use mathlib.Core.Path.{◌≡◌, refl}
 use native.Mathlib.Omega.{arith}
-use lib.ListN.{take, length}
+use lib.ListN.{take}
 use Rattle.meaning.specs.Limits.{most_atoms}
 use Rattle.meaning.specs.Feature.{sum_of, pairs_of}
 use Rattle.numbering.specs.Sums.{atoms-turn, pairs-turn, counted}

@@ -1,5 +1,4 @@
 -- `first_block`: it is empty, and the first features of two variables begin behind the atoms.
-use borrow.Author.Rules.{rules}
 use Rattle.numbering.specs.Order.{first-stands}
 use Rattle.numbering.proofs.first_block.Goals as goal
 

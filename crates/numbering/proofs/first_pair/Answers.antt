@@ -3,7 +3,6 @@ use Prim.Native.Nat.{ℕ, ◌+◌, ◌-◌, ◌*◌, ◌≤◌}
 use mathlib.Core.Path.{◌≡◌}
 use mathlib.Core.List.{List}
 use native.Mathlib.Omega.{arith}
-use borrow.Author.Rules.{rules}
 use Rattle.meaning.specs.Limits.{most_atoms}
 use Rattle.numbering.specs.Sizes.{most_pairs}
 use Rattle.numbering.specs.Blocks.{Counted, counted-first, counted-turn, counted-small, counted-last}

@@ -1,12 +1,6 @@
 -- `first_pair` meets its contract: at each turn only the pairs of the variables before k are not counted, and all sums stay small.
-use Prim.Native.Nat.{ℕ, ◌+◌, ◌-◌, ◌*◌, ◌≤◌}
-use mathlib.Core.Path.{◌≡◌}
-use mathlib.Core.List.{List}
-use native.Mathlib.Omega.{arith}
-use borrow.Author.Rules.{rules}
-use Rattle.meaning.specs.Limits.{most_atoms}
-use Rattle.numbering.specs.Sizes.{most_pairs}
-use Rattle.numbering.specs.Blocks.{Counted, counted-first, counted-turn, counted-small, counted-last}
+use Prim.Native.Nat.{◌≤◌}
+use Rattle.numbering.specs.Blocks.{Counted}
 use Rattle.numbering.proofs.first_pair.Given as goal
 
 abbrev pub invariant-loop-k : goal.invariant-loop-k

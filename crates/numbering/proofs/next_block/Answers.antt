@@ -2,7 +2,6 @@
 use Prim.Native.Nat.{◌+◌, ◌*◌, ◌≤◌}
 use native.Mathlib.Omega.{arith}
 use native.Mathlib.Numerals.{add-one}
-use borrow.Author.Rules.{rules}
 use Rattle.meaning.specs.Limits.{most_atoms}
 use Rattle.numbering.specs.Sizes.{most_pairs}
 use Rattle.numbering.specs.Order.{along-small, along-follows, down-follows}

@@ -1,6 +1,5 @@
 -- `single` meets its contract: the sum is the definition's, and it stays within the atoms.
 use native.Mathlib.Omega.{arith}
-use borrow.Author.Rules.{rules}
 use Rattle.meaning.specs.Feature.{single}
 use Rattle.theory.specs.Numbering.{front-room}
 use Rattle.numbering.specs.Sizes.{sum-small}

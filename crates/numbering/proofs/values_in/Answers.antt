@@ -1,6 +1,5 @@
 -- `values_in`: the place in a block is two digits, and the second variable's size is their base.
 use native.Mathlib.Omega.{arith}
-use borrow.Author.Rules.{rules}
 use Rattle.numbering.specs.Order.{value_room, values_join}
 use Rattle.numbering.proofs.values_in.Goals as goal
 

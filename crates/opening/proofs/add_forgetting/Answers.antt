@@ -2,7 +2,6 @@
 use native.Mathlib.Omega.{arith}
 use Rattle.condition.specs.Later.{settled-rowed}
 use Rattle.opening.specs.Forgotten.{forgotten-opened, forgotten-rows}
-use borrow.Author.Rules.{rules}
 use Rattle.opening.proofs.add_forgetting.Goals as goal
 
 pub add_rows_later-requires : goal.add_rows_later-requires

@@ -1,15 +1,10 @@
 -- `add_forgettings`: what is inserted are the rows of those before the place of the one that was found.
-use Prim.Native.Nat.{◌-◌, ◌<◌}
-use mathlib.Core.Path.{◌≡◌, refl, ◌∙◌}
-use mathlib.Core.Bool.{false}
+use Prim.Native.Nat.{◌<◌}
+use mathlib.Core.Path.{refl, ◌∙◌}
 use native.Mathlib.Omega.{arith}
 use lib.ListN.{length}
-use Rattle.meaning.specs.Workspace.{has}
-use Rattle.forgetting.specs.Out.{out_by}
-use Rattle.forgetting.specs.Kept.{kept_before, kept_all}
-use Rattle.condition.specs.Later.{Kept, settled_as}
 use Rattle.opening.specs.Step.{work-due}
-use Rattle.opening.specs.Forgotten.{Forgot, forgot_none, forgot-more, forgot-all, forgot-less}
+use Rattle.opening.specs.Forgotten.{forgot_none, forgot-more, forgot-all, forgot-less}
 use Rattle.opening.proofs.add_forgettings.Goals as goal
 use Rattle.opening.proofs.add_forgettings.Goals.{After-add_forgetting}
 

@@ -1,15 +1,13 @@
 -- `add_forgettings`: what is inserted are the rows of those before the place of the one that was found.
-use Prim.Native.Nat.{◌-◌, ◌<◌}
-use mathlib.Core.Path.{◌≡◌, refl, ◌∙◌}
+use Prim.Native.Nat.{◌-◌}
+use mathlib.Core.Path.{◌≡◌}
 use mathlib.Core.Bool.{false}
-use native.Mathlib.Omega.{arith}
 use lib.ListN.{length}
 use Rattle.meaning.specs.Workspace.{has}
 use Rattle.forgetting.specs.Out.{out_by}
 use Rattle.forgetting.specs.Kept.{kept_before, kept_all}
 use Rattle.condition.specs.Later.{Kept, settled_as}
-use Rattle.opening.specs.Step.{work-due}
-use Rattle.opening.specs.Forgotten.{Forgot, forgot_none, forgot-more, forgot-all, forgot-less}
+use Rattle.opening.specs.Forgotten.{Forgot}
 use Rattle.opening.proofs.add_forgettings.Given as goal
 
 abbrev pub invariant-loop-kept : goal.invariant-loop-kept

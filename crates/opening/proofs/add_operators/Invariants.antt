@@ -1,14 +1,9 @@
 -- `add_operators`: the operators that are left, inserted into the workspace as it is, give what all of them give.
-use Prim.Native.Nat.{◌≤◌, ◌<◌, ◌-◌}
-use mathlib.Core.Path.{◌≡◌, refl, sym, ◌∙◌}
-use native.Mathlib.Omega.{arith}
-use native.Mathlib.Nat.{sub-zero}
+use Prim.Native.Nat.{◌≤◌, ◌-◌}
+use mathlib.Core.Path.{◌≡◌}
 use lib.ListN.{length}
-use borrow.Author.Rules.{rules}
-use Rattle.operator.specs.Fold.{walk_end, turn-unread}
 use Rattle.condition.specs.Later.{Kept, settled_as}
-use Rattle.opening.specs.Adding.{Workable, added_from, added-workable, added_more}
-use Rattle.opening.specs.Step.{work-due}
+use Rattle.opening.specs.Adding.{Workable, added_from}
 use Rattle.opening.proofs.add_operators.Given as goal
 
 abbrev pub invariant-loop-k : goal.invariant-loop-k

@@ -2,7 +2,6 @@
 use mathlib.Core.Path.{sym}
 use native.Mathlib.Omega.{arith}
 use lib.Seq.{length-take-le}
-use borrow.Author.Rules.{rules}
 use Rattle.opening.specs.Begin.{begin-made}
 use Rattle.opening.proofs.begin.Goals as goal
 

@@ -1,7 +1,6 @@
 -- `open`: each answer of the judge by its law; the workspace that is begun holds the task's content with empty slots.
-use Prim.Native.Nat.{ℕ, ◌≤◌}
+use Prim.Native.Nat.{◌≤◌}
 use mathlib.Core.Path.{◌≡◌, sym, ◌∙◌}
-use mathlib.Core.List.{List}
 use native.Mathlib.Omega.{arith}
 use lib.ListN.{replicate, length-take}
 use lib.Seq.{length-take-le}
@@ -11,7 +10,6 @@ use Rattle.layout.specs.Places.{places-are}
 use Rattle.layout.specs.Parts.{room-zeros}
 use Rattle.task.specs.Answer.{Known, judged-accepted, judged-refused, known-room}
 use Rattle.opening.specs.Begin.{begun_sized, begun-blank, begun-added, begun-rows, opens_small, opens-done, opens-refused}
-use borrow.Author.Rules.{rules}
 use Rattle.opening.proofs.open.Goals as goal
 use Rattle.opening.proofs.open.Goals.{After-places_for-places, After-words_for-w, In-Accepted}
 

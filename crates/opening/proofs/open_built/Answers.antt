@@ -9,7 +9,6 @@ use Rattle.layout.specs.Places.{places-are}
 use Rattle.task.specs.Answer.{known-room}
 use Rattle.opening.specs.Begin.{begun-blank, opens_small}
 use Rattle.opening.specs.Built.{built-ready, built-opened}
-use borrow.Author.Rules.{rules}
 use Rattle.opening.proofs.open_built.Goals as goal
 use Rattle.opening.proofs.open_built.Goals.{After-places_for-places}
 

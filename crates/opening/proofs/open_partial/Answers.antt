@@ -1,5 +1,4 @@
 -- `open_partial`: what is known of an accepted file goes to `open_built`; a refusal is answered by its number.
-use borrow.Author.Rules.{rules}
 use Rattle.order.specs.Answer.{partial-accepted, partial-refused}
 use Rattle.opening.specs.Begin.{opens-refused}
 use Rattle.opening.proofs.open_partial.Goals as goal

@@ -1,7 +1,6 @@
 -- `settle_when_due`: settled or not, what the slots are once settled stays (`again-as`).
 use mathlib.Core.Path.{refl}
 use Rattle.condition.specs.Later.{again_kept, again-as}
-use borrow.Author.Rules.{rules}
 use Rattle.opening.proofs.settle_when_due.Goals as goal
 
 pub returns-then-n-count : goal.returns-then-n-count

@@ -1,5 +1,4 @@
 -- `judge_entry` tests what `entries_judged` tests of one entry, in the same order.
-use borrow.Author.Rules.{rules}
 use borrow.Author.Tests.{lt-ltb, le-ltb, le-leb, lt-leb}
 use Rattle.meaning.specs.Answer.{entries_judged}
 use Rattle.operator.proofs.judge_entry.Goals as goal

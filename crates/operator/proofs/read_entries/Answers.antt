@@ -1,13 +1,11 @@
 -- `read_entries` reads entry by entry: at each turn the entries that are held, with those that are read from here on, are all entries.
-use Prim.Native.Nat.{◌+◌, ◌-◌, ◌<◌, ◌≤◌}
+use Prim.Native.Nat.{◌+◌, ◌-◌, ◌<◌}
 use mathlib.Core.Path.{◌≡◌, sym, ap, ◌∙◌}
 use mathlib.Core.List.{[], ◌∷◌}
 use native.Mathlib.Omega.{arith}
 use native.Mathlib.Nat.{sub-zero}
-use borrow.Author.Rules.{rules}
 use lib.ListN.{length, length-set}
 use Rattle.meaning.specs.Sets.{table}
-use Rattle.meaning.specs.Limits.{most_variables}
 use Rattle.meaning.specs.Number.{got}
 use Rattle.meaning.specs.File.{entries_of}
 use Rattle.meaning.specs.Answer.{operator_in}

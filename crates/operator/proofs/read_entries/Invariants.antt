@@ -1,20 +1,11 @@
 -- `read_entries` reads entry by entry: at each turn the entries that are held, with those that are read from here on, are all entries.
-use Prim.Native.Nat.{◌+◌, ◌-◌, ◌<◌, ◌≤◌}
-use mathlib.Core.Path.{◌≡◌, sym, ap, ◌∙◌}
-use mathlib.Core.List.{[], ◌∷◌}
-use native.Mathlib.Omega.{arith}
-use native.Mathlib.Nat.{sub-zero}
-use borrow.Author.Rules.{rules}
-use lib.ListN.{length, length-set}
-use Rattle.meaning.specs.Sets.{table}
+use Prim.Native.Nat.{◌-◌, ◌≤◌}
+use mathlib.Core.Path.{◌≡◌}
+use lib.ListN.{length}
 use Rattle.meaning.specs.Limits.{most_variables}
-use Rattle.meaning.specs.Number.{got}
 use Rattle.meaning.specs.File.{entries_of}
-use Rattle.meaning.specs.Answer.{operator_in}
-use Rattle.theory.specs.Parts.{entries-said}
-use Rattle.theory.specs.Slices.{entry_of}
-use Rattle.operator.specs.Records.{first_of, entry_read_of}
-use Rattle.operator.specs.Laws.{behind, behind-none, held_more, read_more, read-fault, read_all}
+use Rattle.operator.specs.Records.{first_of}
+use Rattle.operator.specs.Laws.{behind}
 use Rattle.operator.proofs.read_entries.Given as goal
 
 abbrev pub invariant-loop-k : goal.invariant-loop-k

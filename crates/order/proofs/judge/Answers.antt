@@ -1,5 +1,4 @@
 -- `judge`: the front that was read, in words of its own; then what is judged behind it.
-use borrow.Author.Rules.{rules}
 use Rattle.theory.specs.PartialParts.{out_for}
 use Rattle.task.specs.Answer.{front-told, front-faulted}
 use Rattle.order.specs.Front.{front-unread}

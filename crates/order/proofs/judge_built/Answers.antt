@@ -2,8 +2,6 @@
 use Prim.Native.Nat.{◌≤◌}
 use mathlib.Core.Path.{sym, ◌∙◌}
 use native.Mathlib.Omega.{arith}
-use borrow.Author.Tests.{not-true, not-false}
-use borrow.Author.Rules.{rules}
 use Rattle.meaning.specs.Limits.{most_atoms}
 use Rattle.forgetting.specs.Kept.{kept-few}
 use Rattle.order.specs.Last.{last-outgrown, last-held, last-unclosed, last-got}

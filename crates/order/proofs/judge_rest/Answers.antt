@@ -1,5 +1,4 @@
 -- `judge_rest`: the operators are read by the file's own sizes; where nothing follows, the file was read wholly.
-use borrow.Author.Rules.{rules}
 use Rattle.theory.specs.PartialParts.{out_for}
 use Rattle.layout.specs.Parts.{headed-sizes}
 use Rattle.order.specs.Front.{front-room, front-few, operators-unread, operators-over, operators-whole}

@@ -1,6 +1,5 @@
 -- `judge_whole`: the parts of the header that was built are lent, and what is judged of them is judged of the file.
 use mathlib.Core.Path.{sym, ap, ◌∙◌}
-use borrow.Author.Rules.{rules}
 use Rattle.number.specs.Answers.{number_of}
 use Rattle.layout.specs.Parts.{Headed}
 use Rattle.order.specs.Whole.{whole-own, built-room, built-ready, whole-refused, whole-accepted}

@@ -1,14 +1,9 @@
 -- `fill_possible`: after u turns the words hold the possible atoms of the first u variables; a named variable adds nothing.
-use Prim.Native.Nat.{◌≤◌, ◌-◌}
 use mathlib.Core.Path.{sym, ◌∙◌}
-use mathlib.Core.Logic.{⊎_elim}
 use native.Mathlib.Omega.{arith}
 use lib.ListN.{length}
-use borrow.Author.Tests.{not-true, not-false}
-use Rattle.meaning.specs.Workspace.{has}
-use Rattle.theory.specs.Slices.{entries_in}
 use Rattle.pairs.specs.Ready.{ready-listed, ready-befores, names_apart}
-use Rattle.pairs.specs.Fill.{Filled, filled-start, filled-lacks, filled-skip, filled_put, filled-done}
+use Rattle.pairs.specs.Fill.{filled-start, filled-lacks, filled-skip, filled_put, filled-done}
 use Rattle.pairs.proofs.fill_possible.Goals as goal
 use Rattle.pairs.proofs.fill_possible.Goals.{then-not-names, else-not-names}
 
@@ -31,8 +26,8 @@ pub loop-u-preserved : goal.loop-u-preserved
 loop-u-preserved c = (
   omega arith,
   elim c.if-not-names.branch [
-      | then-not-names w ↦ filled_put _ _ _ _ _ _ _ _ _ _ c.loop-u.invariant.1 (sym (c.names.ensures _ _) ∙ w.if-not-names.true) w.fill_variable.ensures w.possible-is
-      | else-not-names w ↦ filled-skip _ _ _ _ _ _ c.loop-u.invariant.1 _ (sym (c.names.ensures _ _) ∙ w.if-not-names.false) w.possible-is
+    | then-not-names w ↦ filled_put _ _ _ _ _ _ _ _ _ _ c.loop-u.invariant.1 (sym (c.names.ensures _ _) ∙ w.if-not-names.true) w.fill_variable.ensures w.possible-is
+    | else-not-names w ↦ filled-skip _ _ _ _ _ _ c.loop-u.invariant.1 _ (sym (c.names.ensures _ _) ∙ w.if-not-names.false) w.possible-is
   ],
 )
 

@@ -1,14 +1,9 @@
 -- `fill_possible`: after u turns the words hold the possible atoms of the first u variables; a named variable adds nothing.
 use Prim.Native.Nat.{◌≤◌, ◌-◌}
-use mathlib.Core.Path.{sym, ◌∙◌}
-use mathlib.Core.Logic.{⊎_elim}
-use native.Mathlib.Omega.{arith}
 use lib.ListN.{length}
-use borrow.Author.Tests.{not-true, not-false}
 use Rattle.meaning.specs.Workspace.{has}
 use Rattle.theory.specs.Slices.{entries_in}
-use Rattle.pairs.specs.Ready.{ready-listed, ready-befores, names_apart}
-use Rattle.pairs.specs.Fill.{Filled, filled-start, filled-lacks, filled-skip, filled_put, filled-done}
+use Rattle.pairs.specs.Fill.{Filled}
 use Rattle.pairs.proofs.fill_possible.Given as goal
 
 abbrev pub invariant-loop-u : goal.invariant-loop-u

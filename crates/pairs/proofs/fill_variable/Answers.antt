@@ -1,14 +1,11 @@
 -- `fill_variable`: after y turns the free atoms of the first y values are added; a value that is paired with a before atom adds nothing.
-use Prim.Native.Nat.{◌+◌, ◌≤◌, ◌-◌}
+use Prim.Native.Nat.{◌+◌}
 use mathlib.Core.Path.{◌≡◌, sym, ◌∙◌}
-use mathlib.Core.Logic.{⊎_elim}
 use native.Mathlib.Omega.{arith}
-use borrow.Author.Tests.{not-true, not-false}
 use Rattle.meaning.specs.Task.{size}
-use Rattle.meaning.specs.Workspace.{has}
 use Rattle.numbering.specs.Sizes.{limits-small}
 use Rattle.pairs.specs.Ready.{ValueAt, value-at}
-use Rattle.pairs.specs.Fill.{free_atoms, Added, free-start, free-skip, free-put}
+use Rattle.pairs.specs.Fill.{free-start, free-skip, free-put}
 use Rattle.pairs.proofs.fill_variable.Goals as goal
 use Rattle.pairs.proofs.fill_variable.Goals.{then-not-is_paired_among, else-not-is_paired_among, In-loop-y}
 
@@ -41,9 +38,9 @@ pub loop-y-preserved : goal.loop-y-preserved
 loop-y-preserved c = let (h, a, d, l, r, k) = c.requires in (
   omega arith,
   elim c.if-not-is_paired_among.branch [
-      | then-not-is_paired_among w ↦ free-put _ _ _ _ _ _ _ _ c.loop-y.invariant.1 _ _ r k (omega (arith, c.size-d.ensures))
-      (sym (c.is_paired_among.ensures ∙ c.looks-n.ensures.same _ _ _) ∙ w.if-not-is_paired_among.true) (atom (goal.at.loop-y-preserved c).In-loop-y).number (w.possible-is ∙ w.toggle.ensures)
-      | else-not-is_paired_among w ↦ free-skip _ _ _ _ _ _ _ _ c.loop-y.invariant.1 _ (sym (c.is_paired_among.ensures ∙ c.looks-n.ensures.same _ _ _) ∙ w.if-not-is_paired_among.false) w.possible-is
+    | then-not-is_paired_among w ↦ free-put _ _ _ _ _ _ _ _ c.loop-y.invariant.1 _ _ r k (omega (arith, c.size-d.ensures))
+        (sym (c.is_paired_among.ensures ∙ c.looks-n.ensures.same _ _ _) ∙ w.if-not-is_paired_among.true) (atom (goal.at.loop-y-preserved c).In-loop-y).number (w.possible-is ∙ w.toggle.ensures)
+    | else-not-is_paired_among w ↦ free-skip _ _ _ _ _ _ _ _ c.loop-y.invariant.1 _ (sym (c.is_paired_among.ensures ∙ c.looks-n.ensures.same _ _ _) ∙ w.if-not-is_paired_among.false) w.possible-is
   ],
 )
 

@@ -1,5 +1,4 @@
 -- `first_unclosed`: the walk begins at the first listed pair.
-use borrow.Author.Rules.{rules}
 use Rattle.theory.specs.Slices.{entries_in}
 use Rattle.meaning.specs.Feature.{atoms}
 use Rattle.pairs.specs.Ready.{ready-listed}

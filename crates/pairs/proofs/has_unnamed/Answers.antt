@@ -1,12 +1,7 @@
 -- `has_unnamed`: each of the first u variables is named or has no atom in the set, whatever the before and after values of the operator are.
-use Prim.Native.Nat.{ℕ, ◌≤◌, ◌-◌}
-use mathlib.Core.Path.{◌≡◌, ap, sym, ◌∙◌}
-use mathlib.Core.Logic.{⊎_elim}
-use mathlib.Core.Bool.{not, false, ◌&&◌}
-use mathlib.Core.List.{List}
+use mathlib.Core.Path.{ap, sym, ◌∙◌}
+use mathlib.Core.Bool.{not}
 use native.Mathlib.Omega.{arith}
-use lib.ListN.{length}
-use Rattle.meaning.specs.Sets.{some}
 use Rattle.meaning.specs.Task.{names}
 use Rattle.theory.specs.Search.{some_at, and_both, and-none-left, and-none-right}
 use Rattle.theory.specs.Slices.{entries_in}

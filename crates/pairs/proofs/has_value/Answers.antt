@@ -1,10 +1,7 @@
 -- `has_value`: none of the first y values has its atom in the words.
-use Prim.Native.Nat.{◌+◌, ◌≤◌, ◌-◌}
-use mathlib.Core.Path.{◌≡◌, ap, sym, ◌∙◌}
-use mathlib.Core.Bool.{false}
+use Prim.Native.Nat.{◌+◌}
+use mathlib.Core.Path.{ap, sym, ◌∙◌}
 use native.Mathlib.Omega.{arith}
-use Rattle.meaning.specs.Sets.{some}
-use Rattle.meaning.specs.Feature.{single}
 use Rattle.meaning.specs.Workspace.{has}
 use Rattle.numbering.specs.Sizes.{limits-small}
 use Rattle.theory.specs.Search.{some_at}

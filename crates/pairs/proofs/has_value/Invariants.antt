@@ -1,16 +1,10 @@
 -- `has_value`: none of the first y values has its atom in the words.
-use Prim.Native.Nat.{◌+◌, ◌≤◌, ◌-◌}
-use mathlib.Core.Path.{◌≡◌, ap, sym, ◌∙◌}
+use Prim.Native.Nat.{◌≤◌, ◌-◌}
+use mathlib.Core.Path.{◌≡◌}
 use mathlib.Core.Bool.{false}
-use native.Mathlib.Omega.{arith}
 use Rattle.meaning.specs.Sets.{some}
 use Rattle.meaning.specs.Feature.{single}
 use Rattle.meaning.specs.Workspace.{has}
-use Rattle.numbering.specs.Sizes.{limits-small}
-use Rattle.theory.specs.Search.{some_at}
-use Rattle.pairs.specs.Places.{some-start, some_next, some-done}
-use Rattle.pairs.specs.Ready.{ValueAt, value-at}
-use Rattle.pairs.specs.Judge.{valued}
 use Rattle.pairs.proofs.has_value.Given as goal
 
 abbrev pub invariant-loop-y : goal.invariant-loop-y

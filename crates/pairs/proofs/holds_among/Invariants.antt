@@ -1,15 +1,12 @@
 -- `holds_among`: none of the first j variables has a value that is paired with that of an earlier one.
 use Prim.Native.Nat.{◌≤◌, ◌-◌}
-use mathlib.Core.Path.{◌≡◌, sym, ◌∙◌}
+use mathlib.Core.Path.{◌≡◌}
 use mathlib.Core.Bool.{false}
-use native.Mathlib.Omega.{arith}
 use lib.ListN.{length}
 use Rattle.meaning.specs.Sets.{some}
 use Rattle.meaning.specs.Task.{value}
 use Rattle.meaning.specs.Workspace.{has}
-use Rattle.meaning.specs.Pair.{paired, holds}
-use Rattle.theory.specs.Search.{some_at}
-use Rattle.pairs.specs.Places.{some-start, some_next, some-done}
+use Rattle.meaning.specs.Pair.{paired}
 use Rattle.pairs.proofs.holds_among.Given as goal
 
 abbrev pub invariant-loop-j : goal.invariant-loop-j

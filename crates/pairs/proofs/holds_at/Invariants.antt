@@ -1,14 +1,11 @@
 -- `holds_at`: the value of variable j is paired with that of none of the first i variables.
 use Prim.Native.Nat.{◌≤◌, ◌-◌}
-use mathlib.Core.Path.{◌≡◌, sym, ◌∙◌}
+use mathlib.Core.Path.{◌≡◌}
 use mathlib.Core.Bool.{false}
-use native.Mathlib.Omega.{arith}
 use Rattle.meaning.specs.Sets.{some}
 use Rattle.meaning.specs.Task.{value}
 use Rattle.meaning.specs.Workspace.{has}
 use Rattle.meaning.specs.Pair.{paired}
-use Rattle.theory.specs.Search.{some_at}
-use Rattle.pairs.specs.Places.{some-start, some_next, some-done}
 use Rattle.pairs.proofs.holds_at.Given as goal
 
 abbrev pub invariant-loop-i : goal.invariant-loop-i

@@ -1,15 +1,10 @@
 -- `is_clashing`: none of the first l atoms is paired with one before it.
-use Prim.Native.Nat.{◌≤◌, ◌-◌}
-use mathlib.Core.Path.{◌≡◌, sym, ◌∙◌}
-use mathlib.Core.Bool.{false}
+use mathlib.Core.Path.{sym, ◌∙◌}
 use native.Mathlib.Omega.{arith}
 use native.Mathlib.Nat.{ne_of_lt}
-use lib.ListN.{length, get_or}
-use Rattle.meaning.specs.Sets.{some}
-use Rattle.meaning.specs.Workspace.{has}
 use Rattle.theory.specs.Search.{some_at}
 use Rattle.pairs.specs.Places.{some-start, some_next, some-done}
-use Rattle.pairs.specs.Judge.{paired_within, clashing_in}
+use Rattle.pairs.specs.Judge.{clashing_in}
 use Rattle.pairs.proofs.is_clashing.Goals as goal
 
 pub loop-l-init : goal.loop-l-init

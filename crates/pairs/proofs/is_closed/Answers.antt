@@ -1,6 +1,5 @@
 -- `is_closed`: an operator that is not idle decides by the first listed pair that is unclosed under it.
 use mathlib.Core.Path.{sym, ◌∙◌}
-use borrow.Author.Rules.{rules}
 use Rattle.numbering.specs.Sizes.{limits-small}
 use Rattle.pairs.specs.Judge.{closed-idle}
 use Rattle.pairs.specs.Walk.{closed-found}

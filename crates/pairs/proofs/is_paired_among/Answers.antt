@@ -1,12 +1,6 @@
 -- `is_paired_among`: none of the first k atoms is paired with the given one.
-use Prim.Native.Nat.{◌≤◌, ◌-◌}
-use mathlib.Core.Path.{◌≡◌, sym, ◌∙◌}
-use mathlib.Core.Bool.{false}
+use mathlib.Core.Path.{sym, ◌∙◌}
 use native.Mathlib.Omega.{arith}
-use lib.ListN.{get_or}
-use Rattle.meaning.specs.Sets.{some}
-use Rattle.meaning.specs.Workspace.{has}
-use Rattle.meaning.specs.Pair.{paired}
 use Rattle.theory.specs.Search.{some_at}
 use Rattle.pairs.specs.Places.{some-start, some_next, some-done}
 use Rattle.pairs.specs.Judge.{paired_within}

@@ -1,5 +1,4 @@
 -- `is_paired_within`: nothing is paired where no pair is listed.
-use borrow.Author.Rules.{rules}
 use mathlib.Core.Path.{sym, ◌∙◌}
 use Rattle.std.proofs.Common.{ap, not}
 use Rattle.pairs.specs.None.{none-paired}

@@ -1,16 +1,12 @@
 -- `is_stuck`: each of the first u variables is named or has an atom in the words, whatever the before and after values of the operator are.
 use Prim.Native.Nat.{ℕ, ◌≤◌, ◌-◌}
-use mathlib.Core.Path.{◌≡◌, ap, sym, ◌∙◌}
-use mathlib.Core.Logic.{⊎_elim}
+use mathlib.Core.Path.{◌≡◌}
 use mathlib.Core.Bool.{not, false, ◌&&◌}
 use mathlib.Core.List.{List}
-use native.Mathlib.Omega.{arith}
 use lib.ListN.{length}
 use Rattle.meaning.specs.Sets.{some}
 use Rattle.meaning.specs.Task.{names}
-use Rattle.theory.specs.Search.{some_at, and_both, and-none-left, and-none-right}
 use Rattle.theory.specs.Slices.{entries_in}
-use Rattle.pairs.specs.Places.{some-start, some_next, some-done}
 use Rattle.pairs.specs.Judge.{valued}
 use Rattle.pairs.proofs.is_stuck.Given as goal
 

@@ -1,10 +1,7 @@
 -- `is_unclosed`: a pair of two unnamed variables is not; another is if the operator leaves both its atoms.
 use mathlib.Core.Path.{◌≡◌, refl, sym, ◌∙◌}
-use mathlib.Core.Logic.{⊎_elim}
 use mathlib.Core.Bool.{true, ◌||◌}
 use native.Mathlib.Omega.{arith}
-use borrow.Author.Rules.{rules}
-use borrow.Author.Tests.{not-true, not-false}
 use Rattle.meaning.specs.Task.{Operator, names}
 use Rattle.theory.specs.Search.{and-none-left, or_left, or_right}
 use Rattle.theory.specs.Slices.{entries_in}
@@ -18,7 +15,7 @@ operator-of c = let a = c.args in entries_in a.variables.now a.befores.now a.aft
 
 -- Past the first test one of the variables is named.
 named : (c : Joined-else-not-names) → let b = c.args.pair.block in (names (operator-of (goal.at.Joined-else-not-names c).After-names) b.first || names (operator-of (goal.at.Joined-else-not-names c).After-names) b.second) ≡ true
-named c = 
+named c =
     let b = c.args.pair.block in
     let o = operator-of (goal.at.Joined-else-not-names c).After-names in
     elim c.else-not-names.branch [

@@ -1,7 +1,6 @@
 -- `leaves`: a variable with a place is named and gets the value at its place; another has what the table has.
 use mathlib.Core.Path.{ap, sym, ◌∙◌}
 use native.Mathlib.Omega.{arith}
-use borrow.Author.Rules.{rules}
 use Rattle.meaning.specs.Workspace.{has}
 use Rattle.numbering.specs.Sizes.{limits-small}
 use Rattle.theory.specs.Numbering.{single-below}

@@ -1,5 +1,4 @@
 -- `looks`: no atom need be looked at where no pair is listed, and all are enough.
-use borrow.Author.Rules.{rules}
 use Rattle.pairs.specs.None.{none-suffices}
 use Rattle.pairs.proofs.looks.Goals as goal
 

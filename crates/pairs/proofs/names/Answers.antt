@@ -1,5 +1,4 @@
 -- `names`: the variable has a place.
-use borrow.Author.Rules.{rules}
 use Rattle.pairs.specs.Ready.{place-names}
 use Rattle.pairs.proofs.names.Goals as goal
 

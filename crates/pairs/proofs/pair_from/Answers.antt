@@ -1,6 +1,5 @@
 -- `pair_from`: a feature below N has a block, and its block does not stand before the given one.
 use native.Mathlib.Omega.{arith}
-use borrow.Author.Rules.{rules}
 use Rattle.numbering.specs.Sizes.{limits-small}
 use Rattle.pairs.proofs.pair_from.Goals as goal
 

@@ -1,8 +1,6 @@
 -- `place`: none of the places before k holds the variable.
-use Prim.Native.Nat.{◌≤◌, ◌-◌}
 use native.Mathlib.Omega.{arith}
-use lib.ListN.{length}
-use Rattle.pairs.specs.Ready.{Apart, apart_next}
+use Rattle.pairs.specs.Ready.{apart_next}
 use Rattle.pairs.proofs.place.Goals as goal
 
 pub loop-k-init : goal.loop-k-init

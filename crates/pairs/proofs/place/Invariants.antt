@@ -1,8 +1,7 @@
 -- `place`: none of the places before k holds the variable.
 use Prim.Native.Nat.{◌≤◌, ◌-◌}
-use native.Mathlib.Omega.{arith}
 use lib.ListN.{length}
-use Rattle.pairs.specs.Ready.{Apart, apart_next}
+use Rattle.pairs.specs.Ready.{Apart}
 use Rattle.pairs.proofs.place.Given as goal
 
 abbrev pub invariant-loop-k : goal.invariant-loop-k

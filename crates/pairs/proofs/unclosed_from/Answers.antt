@@ -1,10 +1,8 @@
 -- `unclosed_from`: none of the listed pairs that the walk has passed is unclosed.
-use Prim.Native.Nat.{◌-◌}
 use mathlib.Core.Path.{sym, ◌∙◌}
 use native.Mathlib.Omega.{arith}
-use Rattle.theory.specs.Slices.{entries_in}
 use Rattle.pairs.specs.Ready.{Listed, ready-listed}
-use Rattle.pairs.specs.Walk.{Reached, reached-next}
+use Rattle.pairs.specs.Walk.{reached-next}
 use Rattle.pairs.proofs.unclosed_from.Goals as goal
 use Rattle.pairs.proofs.unclosed_from.Goals.{At-loop-next}
 

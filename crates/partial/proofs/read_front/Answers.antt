@@ -4,7 +4,6 @@ use Rattle.reader.specs.States.{AfterStates}
 use Rattle.reader.specs.Pairs.{cleared, states-unread, header-behind}
 use Rattle.partial.specs.Front.{partial_states_of, partial_front_of}
 use Rattle.partial.specs.States.{after-goal}
-use borrow.Author.Rules.{rules}
 use Rattle.partial.proofs.read_front.Goals as goal
 use Rattle.partial.proofs.read_front.Goals.{In-Next}
 

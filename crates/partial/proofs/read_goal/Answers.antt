@@ -1,18 +1,12 @@
 -- `read_goal` meets its contract: after each turn the values that are still to be read go behind those in the words, and leave what all values would.
 -- The sizes, and the marks that are still to be used, stay as they were.
-use Prim.Native.Nat.{◌+◌, ◌-◌, ◌≤◌}
-use mathlib.Core.Path.{◌≡◌, sym, ap, ◌∙◌}
+use mathlib.Core.Path.{sym, ap, ◌∙◌}
 use native.Mathlib.Omega.{arith}
 use native.Mathlib.Nat.{add-zero}
-use borrow.Author.Rules.{rules}
-use lib.ListN.{take, drop}
-use lib.Seq.{sets}
-use Rattle.meaning.specs.Partial.{goal_of}
-use Rattle.layout.specs.Parts.{sizes_part}
 use Rattle.number.specs.Answers.{number_of}
-use Rattle.reader.specs.Answer.{placed, placed-next, placed-fault}
+use Rattle.reader.specs.Answer.{placed-next, placed-fault}
 use Rattle.reader.specs.Lists.{list-more, list-fault}
-use Rattle.partial.specs.Goal.{Kept, kept-all, kept_set, first-value, values-none, values-written}
+use Rattle.partial.specs.Goal.{kept-all, kept_set, first-value, values-none, values-written}
 use Rattle.partial.proofs.read_goal.Goals as goal
 
 pub goal_at-goal-requires : goal.goal_at-goal-requires

@@ -10,7 +10,6 @@ use Rattle.meaning.specs.Partial.{built_sizes, partial_header}
 use Rattle.reader.specs.Answer.{reads-unread}
 use Rattle.reader.specs.After.{after-sizes}
 use Rattle.reader.specs.Header.{Within, Sized, sizes-known, sizes-judged}
-use borrow.Author.Rules.{rules}
 use Rattle.partial.proofs.read_limited.Goals as goal
 use Rattle.partial.proofs.read_limited.Goals.{In-Next}
 

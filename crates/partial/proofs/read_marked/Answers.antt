@@ -10,7 +10,6 @@ use Rattle.reader.specs.Lists.{apart-behind}
 use Rattle.reader.specs.Answer.{ReadsInto, written, reads-unread}
 use Rattle.partial.specs.Front.{marked_of}
 use Rattle.partial.specs.States.{AfterLimited, after-limited, marks-unread, start-behind}
-use borrow.Author.Rules.{rules}
 use Rattle.partial.proofs.read_marked.Goals as goal
 use Rattle.partial.proofs.read_marked.Goals.{After-items_below, In-Next}
 

@@ -8,7 +8,6 @@ use Rattle.reader.specs.Answer.{reads-unread}
 use Rattle.reader.specs.States.{AfterStates}
 use Rattle.partial.specs.Front.{marked_of, partial_states_of}
 use Rattle.partial.specs.States.{after-marked, goal-behind}
-use borrow.Author.Rules.{rules}
 use Rattle.partial.proofs.read_states.Goals as goal
 use Rattle.partial.proofs.read_states.Goals.{In-Next}
 

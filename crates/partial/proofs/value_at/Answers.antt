@@ -1,6 +1,5 @@
 -- `value_at` meets its contract: the mark decides between the two answers.
 use mathlib.Core.Path.{sym, ◌∙◌}
-use borrow.Author.Rules.{rules}
 use Rattle.partial.specs.Goal.{value-named, value-silent}
 use Rattle.partial.proofs.value_at.Goals as goal
 

@@ -1,6 +1,5 @@
 -- `part_at`: the number at each spot is shown as far as it is read.
 use Rattle.placing.specs.Answers.{task-part, weights-part}
-use borrow.Author.Rules.{rules}
 use Rattle.placing.proofs.part_at.Goals as goal
 
 pub returns-in-InTask : goal.returns-in-InTask

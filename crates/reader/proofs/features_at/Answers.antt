@@ -1,14 +1,9 @@
 -- `features_at` meets its contract: after each turn the features that are still to be read are toggled in the words, and leave what all features would.
-use Prim.Native.Nat.{◌-◌, ◌≤◌}
-use mathlib.Core.Path.{◌≡◌, sym, ap, ◌∙◌}
+use mathlib.Core.Path.{sym, ap, ◌∙◌}
 use native.Mathlib.Omega.{arith}
 use native.Mathlib.Nat.{sub-zero}
-use borrow.Author.Rules.{rules}
-use lib.ListN.{length}
-use Rattle.meaning.specs.File.{kind_if, features_of}
 use Rattle.number.specs.Answers.{number_of}
-use Rattle.reader.specs.Answer.{placed, placed-next, placed-fault}
-use Rattle.words.specs.Toggled.{toggled_all}
+use Rattle.reader.specs.Answer.{placed-next, placed-fault}
 use Rattle.reader.specs.Lists.{list-fault, first-feature, features-more, features-none, feature-below}
 use Rattle.reader.proofs.features_at.Goals as goal
 

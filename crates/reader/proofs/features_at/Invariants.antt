@@ -1,15 +1,10 @@
 -- `features_at` meets its contract: after each turn the features that are still to be read are toggled in the words, and leave what all features would.
 use Prim.Native.Nat.{◌-◌, ◌≤◌}
-use mathlib.Core.Path.{◌≡◌, sym, ap, ◌∙◌}
-use native.Mathlib.Omega.{arith}
-use native.Mathlib.Nat.{sub-zero}
-use borrow.Author.Rules.{rules}
+use mathlib.Core.Path.{◌≡◌}
 use lib.ListN.{length}
 use Rattle.meaning.specs.File.{kind_if, features_of}
-use Rattle.number.specs.Answers.{number_of}
-use Rattle.reader.specs.Answer.{placed, placed-next, placed-fault}
+use Rattle.reader.specs.Answer.{placed}
 use Rattle.words.specs.Toggled.{toggled_all}
-use Rattle.reader.specs.Lists.{list-fault, first-feature, features-more, features-none, feature-below}
 use Rattle.reader.proofs.features_at.Given as goal
 
 abbrev pub invariant-loop-i : goal.invariant-loop-i

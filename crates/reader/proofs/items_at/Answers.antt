@@ -1,16 +1,12 @@
 -- `items_at` meets its contract: after each turn the numbers that are still to be read go behind those in the words, and leave what all numbers would.
 -- The bounds that are still to be used stay as they were.
-use Prim.Native.Nat.{◌+◌, ◌-◌, ◌≤◌}
-use mathlib.Core.Path.{◌≡◌, sym, ap, ◌∙◌}
+use mathlib.Core.Path.{sym, ap, ◌∙◌}
 use native.Mathlib.Omega.{arith}
 use native.Mathlib.Nat.{add-zero}
-use borrow.Author.Rules.{rules}
-use lib.ListN.{length, take, drop, length-set}
-use lib.Seq.{sets}
-use Rattle.meaning.specs.File.{items_of}
+use lib.ListN.{length-set}
 use Rattle.number.specs.Answers.{number_of, reason_of}
-use Rattle.reader.specs.Answer.{placed, placed-next, placed-fault}
-use Rattle.reader.specs.Lists.{Unread, unread-all, unread-set, list-more, list-fault, first-item, items-none, items-written}
+use Rattle.reader.specs.Answer.{placed-next, placed-fault}
+use Rattle.reader.specs.Lists.{unread-all, unread-set, list-more, list-fault, first-item, items-none, items-written}
 use Rattle.reader.proofs.items_at.Goals as goal
 
 pub loop-i-init : goal.loop-i-init

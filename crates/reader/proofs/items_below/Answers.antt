@@ -4,7 +4,6 @@ use native.Mathlib.Omega.{arith}
 use lib.ListN.{length}
 use lib.Seq.{length-take-le}
 use Rattle.reader.specs.Lists.{apart-same, laid, laid-length, bounds-room, items-over}
-use borrow.Author.Rules.{rules}
 use Rattle.reader.proofs.items_below.Goals as goal
 use Rattle.reader.proofs.items_below.Goals.{After-copy}
 

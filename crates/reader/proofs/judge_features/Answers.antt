@@ -1,5 +1,4 @@
 -- `judge_features` meets its contract: the test of N decides between the two answers.
-use borrow.Author.Rules.{rules}
 use borrow.Author.Tests.{le-leb, lt-leb}
 use Rattle.reader.proofs.judge_features.Goals as goal
 

@@ -5,7 +5,6 @@ use Rattle.theory.specs.Contents.{sizes_in}
 use Rattle.number.specs.Answers.{number_of}
 use Rattle.layout.specs.Parts.{headed-sizes, sizes-first}
 use Rattle.reader.specs.Pairs.{Cleared, part_small, pairs-unread, count-unread, header-got}
-use borrow.Author.Rules.{rules}
 use Rattle.reader.proofs.read_behind.Goals as goal
 use Rattle.reader.proofs.read_behind.Goals.{After-features-n}
 

@@ -7,7 +7,6 @@ use Rattle.meaning.specs.Workspace.{words_for}
 use Rattle.number.specs.Answers.{number_of}
 use Rattle.reader.specs.Answer.{answer-fault}
 use Rattle.reader.specs.Features.{list-fault, list_read}
-use borrow.Author.Rules.{rules}
 use Rattle.reader.proofs.read_features.Goals as goal
 
 pub features_at-requires : goal.features_at-requires

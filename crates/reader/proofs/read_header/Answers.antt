@@ -3,7 +3,6 @@ use native.Mathlib.Omega.{arith}
 use Rattle.reader.specs.Front.{states_of, front_of}
 use Rattle.reader.specs.States.{AfterStates, after-goal}
 use Rattle.reader.specs.Pairs.{cleared, states-unread, header-behind}
-use borrow.Author.Rules.{rules}
 use Rattle.reader.proofs.read_header.Goals as goal
 use Rattle.reader.proofs.read_header.Goals.{In-Next}
 

@@ -10,7 +10,6 @@ use Rattle.numbering.specs.Sizes.{SmallSizes}
 use Rattle.reader.specs.Answer.{reads-unread}
 use Rattle.reader.specs.After.{after-sizes}
 use Rattle.reader.specs.Header.{Sized, within-small, sizes-known, sizes-judged}
-use borrow.Author.Rules.{rules}
 use Rattle.reader.proofs.read_limited.Goals as goal
 use Rattle.reader.proofs.read_limited.Goals.{In-Next}
 

@@ -1,6 +1,5 @@
 -- `read_list` meets its contract: each answer is one law on the list of features and the place after it.
 use Rattle.reader.specs.Header.{list-unread, list_over, list-whole}
-use borrow.Author.Rules.{rules}
 use Rattle.reader.proofs.read_list.Goals as goal
 
 pub returns-then-next-bytes : goal.returns-then-next-bytes

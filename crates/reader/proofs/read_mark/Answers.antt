@@ -1,8 +1,6 @@
 -- `read_mark` reads the mark of the kind.
 use mathlib.Core.Path.{◌≡◌, sym, ap, ◌∙◌}
 use mathlib.Core.Bool.{true, false}
-use borrow.Author.Rules.{rules}
-use borrow.Author.Tests.{not-true, not-false}
 use Rattle.meaning.specs.File.{mark_of}
 use Rattle.number.specs.Answers.{number_of, declared-reason}
 use Rattle.reader.proofs.read_mark.Goals as goal

@@ -6,7 +6,6 @@ use Rattle.theory.specs.Contents.{sizes_in}
 use Rattle.layout.specs.Places.{places-are}
 use Rattle.layout.specs.Parts.{headed-sizes, sizes-first}
 use Rattle.reader.specs.Pairs.{part_small, pairs-room, pairs-none, pairs-put}
-use borrow.Author.Rules.{rules}
 use Rattle.reader.proofs.read_pairs.Goals as goal
 use Rattle.reader.proofs.read_pairs.Goals.{After-places_for-places}
 

@@ -8,7 +8,6 @@ use Rattle.meaning.specs.Number.{got}
 use Rattle.number.specs.Answers.{number_of}
 use Rattle.reader.specs.Answer.{answer-fault}
 use Rattle.reader.specs.Header.{count_at, count-fault, count-known, sizes-behind}
-use borrow.Author.Rules.{rules}
 use Rattle.reader.proofs.read_sizes.Goals as goal
 use Rattle.reader.proofs.read_sizes.Goals.{In-Got}
 

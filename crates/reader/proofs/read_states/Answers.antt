@@ -10,7 +10,6 @@ use Rattle.reader.specs.Answer.{ReadsInto, begun, reads-unread}
 use Rattle.reader.specs.After.{count_left}
 use Rattle.reader.specs.Front.{start_of, start_words, states_of}
 use Rattle.reader.specs.States.{AfterSizes, AfterStart, after-header, after-start, start-behind, goal-behind}
-use borrow.Author.Rules.{rules}
 use Rattle.reader.proofs.read_states.Goals as goal
 use Rattle.reader.proofs.read_states.Goals.{After-items_at, In-Next, In-Next-items_at}
 

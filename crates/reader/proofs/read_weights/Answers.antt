@@ -1,6 +1,5 @@
 -- `read_weights` meets its contract: the list stands behind the mark.
 use mathlib.Core.Path.{sym, ◌∙◌}
-use borrow.Author.Rules.{rules}
 use Rattle.reader.specs.Header.{weights-marked, weights-unmarked}
 use Rattle.reader.proofs.read_weights.Goals as goal
 

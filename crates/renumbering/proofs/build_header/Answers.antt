@@ -2,7 +2,6 @@
 use mathlib.Core.Path.{sym}
 use native.Mathlib.Omega.{arith}
 use lib.Seq.{length-take-le}
-use borrow.Author.Rules.{rules}
 use Rattle.renumbering.proofs.build_header.Goals as goal
 
 pub slice_bounds-build_with-end : goal.slice_bounds-build_with-end

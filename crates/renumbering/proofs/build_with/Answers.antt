@@ -3,7 +3,6 @@ use mathlib.Core.List.{◌++◌}
 use mathlib.Core.Path.{◌≡◌, sym, ap, ◌∙◌}
 use native.Mathlib.Omega.{arith}
 use lib.ListN.{length}
-use borrow.Author.Rules.{rules}
 use Rattle.meaning.specs.Feature.{features}
 use Rattle.meaning.specs.Partial.{built_sizes}
 use Rattle.layout.specs.Parts.{sizes_part}
@@ -42,5 +41,8 @@ put_pairs-requires c = let few = total-most _ _ _ c.requires.0 in
 
 pub returns : goal.returns
 unfolding built_words
-returns c = let a = c.args in record { total = all (goal.at.returns c).After-features-total; words = pairs-behind _ _ _ c.requires.0.headed c.widen.new.wider (long (goal.at.returns c).After-widen) _ _ _ _ c.put_states.ensures c.put_pairs.ensures
-          ∙ ap (λ sizes. begun a.header.now (states_by a.v sizes a.own.now ++ pairs_by a.v a.n a.own.now)) (wide (goal.at.returns c).After-widen) }
+returns c = let a = c.args in record {
+  total = all (goal.at.returns c).After-features-total;
+  words = pairs-behind _ _ _ c.requires.0.headed c.widen.new.wider (long (goal.at.returns c).After-widen) _ _ _ _ c.put_states.ensures c.put_pairs.ensures
+      ∙ ap (λ sizes. begun a.header.now (states_by a.v sizes a.own.now ++ pairs_by a.v a.n a.own.now)) (wide (goal.at.returns c).After-widen);
+}

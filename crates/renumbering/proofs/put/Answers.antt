@@ -1,5 +1,4 @@
 -- `put`: the part that was written is put back.
-use borrow.Author.Rules.{rules}
 use Rattle.renumbering.specs.Header.{put-made}
 use Rattle.renumbering.proofs.put.Goals as goal
 

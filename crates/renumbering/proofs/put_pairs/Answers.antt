@@ -1,6 +1,5 @@
 -- `put_pairs`: the pairs are renumbered into a part of the header, which is put back.
 use native.Mathlib.Omega.{arith}
-use borrow.Author.Rules.{rules}
 use Rattle.layout.specs.Places.{places-are}
 use Rattle.renumbering.specs.Header.{total-most, own-renumbers, pairs-put}
 use Rattle.renumbering.proofs.put_pairs.Goals as goal

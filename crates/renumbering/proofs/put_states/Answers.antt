@@ -1,6 +1,5 @@
 -- `put_states`: count, sizes, start and goal stand one behind the other (`states-put`).
 use native.Mathlib.Omega.{arith}
-use borrow.Author.Rules.{rules}
 use Rattle.renumbering.specs.Header.{start-room, goal-room, states-put}
 use Rattle.renumbering.proofs.put_states.Goals as goal
 

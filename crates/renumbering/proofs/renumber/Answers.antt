@@ -1,12 +1,9 @@
 -- `renumber`: after each variable, the pairs with those before as the first are in.
-use Prim.Native.Nat.{◌≤◌, ◌-◌}
 use mathlib.Core.Path.{◌≡◌}
 use native.Mathlib.Omega.{arith}
 use lib.ListN.{length}
-use Rattle.meaning.specs.Workspace.{has}
-use Rattle.meaning.specs.Sets.{flat}
-use Rattle.words.specs.Toggled.{toggled_all, toggled-start, toggled-turn, length-next}
-use Rattle.renumbering.specs.Pairs.{row_pairs, renumbers-next, renumbered-packed}
+use Rattle.words.specs.Toggled.{toggled-start, toggled-turn, length-next}
+use Rattle.renumbering.specs.Pairs.{renumbers-next, renumbered-packed}
 use Rattle.renumbering.proofs.renumber.Goals as goal
 
 pub loop-i-init : goal.loop-i-init

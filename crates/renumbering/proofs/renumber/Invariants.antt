@@ -1,12 +1,11 @@
 -- `renumber`: after each variable, the pairs with those before as the first are in.
 use Prim.Native.Nat.{◌≤◌, ◌-◌}
 use mathlib.Core.Path.{◌≡◌}
-use native.Mathlib.Omega.{arith}
 use lib.ListN.{length}
 use Rattle.meaning.specs.Workspace.{has}
 use Rattle.meaning.specs.Sets.{flat}
-use Rattle.words.specs.Toggled.{toggled_all, toggled-start, toggled-turn, length-next}
-use Rattle.renumbering.specs.Pairs.{row_pairs, renumbers-next, renumbered-packed}
+use Rattle.words.specs.Toggled.{toggled_all}
+use Rattle.renumbering.specs.Pairs.{row_pairs}
 use Rattle.renumbering.proofs.renumber.Given as goal
 
 abbrev pub invariant-loop-i : goal.invariant-loop-i

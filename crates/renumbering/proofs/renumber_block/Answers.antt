@@ -1,11 +1,9 @@
 -- `renumber_block`: after each value of the first variable, the lines of those before are in.
-use Prim.Native.Nat.{◌≤◌, ◌<◌, ◌-◌}
-use mathlib.Core.Path.{◌≡◌, ap, ◌∙◌}
+use Prim.Native.Nat.{◌<◌}
+use mathlib.Core.Path.{ap, ◌∙◌}
 use native.Mathlib.Omega.{arith}
-use Rattle.meaning.specs.Workspace.{has}
-use Rattle.meaning.specs.Sets.{flat}
 use Rattle.words.specs.Toggled.{toggled_all, toggled-start, toggled-turn, length-next}
-use Rattle.renumbering.specs.Pairs.{line_pairs, renumbers-next, old-asks, new-asks, line-room, block-lines, block_none}
+use Rattle.renumbering.specs.Pairs.{renumbers-next, old-asks, new-asks, line-room, block-lines, block_none}
 use Rattle.renumbering.proofs.renumber_block.Goals as goal
 use Rattle.renumbering.proofs.renumber_block.Goals.{After-size-end}
 

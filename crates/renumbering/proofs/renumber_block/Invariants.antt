@@ -1,11 +1,10 @@
 -- `renumber_block`: after each value of the first variable, the lines of those before are in.
-use Prim.Native.Nat.{◌≤◌, ◌<◌, ◌-◌}
-use mathlib.Core.Path.{◌≡◌, ap, ◌∙◌}
-use native.Mathlib.Omega.{arith}
+use Prim.Native.Nat.{◌≤◌, ◌-◌}
+use mathlib.Core.Path.{◌≡◌}
 use Rattle.meaning.specs.Workspace.{has}
 use Rattle.meaning.specs.Sets.{flat}
-use Rattle.words.specs.Toggled.{toggled_all, toggled-start, toggled-turn, length-next}
-use Rattle.renumbering.specs.Pairs.{line_pairs, renumbers-next, old-asks, new-asks, line-room, block-lines, block_none}
+use Rattle.words.specs.Toggled.{toggled_all}
+use Rattle.renumbering.specs.Pairs.{line_pairs}
 use Rattle.renumbering.proofs.renumber_block.Given as goal
 
 abbrev pub invariant-loop-x : goal.invariant-loop-x

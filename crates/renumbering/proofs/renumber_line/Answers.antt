@@ -1,12 +1,8 @@
 -- `renumber_line`: after each value of the second variable, the pairs with those before are in.
-use Prim.Native.Nat.{◌≤◌, ◌-◌}
 use mathlib.Core.Path.{◌≡◌}
 use native.Mathlib.Omega.{arith}
-use Rattle.meaning.specs.Workspace.{has}
-use Rattle.meaning.specs.Sets.{flat}
-use Rattle.numbering.specs.Planes.{number_in}
-use Rattle.words.specs.Toggled.{toggled_all, toggled-start, toggled-turn, length-next}
-use Rattle.renumbering.specs.Pairs.{small-fits, number_if, line_pairs}
+use Rattle.words.specs.Toggled.{toggled-start, toggled-turn, length-next}
+use Rattle.renumbering.specs.Pairs.{small-fits, line_pairs}
 use Rattle.renumbering.proofs.renumber_line.Goals as goal
 
 pub loop-y-init : goal.loop-y-init

@@ -1,7 +1,5 @@
 -- `renumber_pair`: one toggle, if the old number is listed.
 use mathlib.Core.Path.{sym, ◌∙◌}
-use borrow.Author.Tests.{not-true, not-false}
-use borrow.Author.Rules.{rules}
 use Rattle.words.specs.Toggled.{toggled-none, toggled-one}
 use Rattle.renumbering.proofs.renumber_pair.Goals as goal
 

@@ -1,12 +1,9 @@
 -- `renumber_row`: after each second variable, the pairs with those before are in.
-use Prim.Native.Nat.{◌≤◌, ◌-◌}
 use mathlib.Core.Path.{◌≡◌, ◌∙◌}
 use native.Mathlib.Omega.{arith}
 use lib.ListN.{length}
-use Rattle.meaning.specs.Workspace.{has}
-use Rattle.meaning.specs.Sets.{flat}
-use Rattle.words.specs.Toggled.{toggled_all, toggled-start, toggled-turn, length-next}
-use Rattle.renumbering.specs.Pairs.{block_pairs, row_pairs, renumbers-next}
+use Rattle.words.specs.Toggled.{toggled-start, toggled-turn, length-next}
+use Rattle.renumbering.specs.Pairs.{row_pairs, renumbers-next}
 use Rattle.renumbering.proofs.renumber_row.Goals as goal
 
 pub loop-j-init : goal.loop-j-init

@@ -1,12 +1,11 @@
 -- `renumber_row`: after each second variable, the pairs with those before are in.
 use Prim.Native.Nat.{◌≤◌, ◌-◌}
-use mathlib.Core.Path.{◌≡◌, ◌∙◌}
-use native.Mathlib.Omega.{arith}
+use mathlib.Core.Path.{◌≡◌}
 use lib.ListN.{length}
 use Rattle.meaning.specs.Workspace.{has}
 use Rattle.meaning.specs.Sets.{flat}
-use Rattle.words.specs.Toggled.{toggled_all, toggled-start, toggled-turn, length-next}
-use Rattle.renumbering.specs.Pairs.{block_pairs, row_pairs, renumbers-next}
+use Rattle.words.specs.Toggled.{toggled_all}
+use Rattle.renumbering.specs.Pairs.{block_pairs}
 use Rattle.renumbering.proofs.renumber_row.Given as goal
 
 abbrev pub invariant-loop-j : goal.invariant-loop-j

@@ -1,12 +1,9 @@
 -- `widen`: the loop writes the wider sizes from the front (`Written`).
-use Prim.Native.Nat.{◌-◌}
 use mathlib.Core.Path.{refl, sym, ◌∙◌}
 use native.Mathlib.Omega.{arith}
 use native.Mathlib.Numerals.{add-one}
-use lib.ListN.{length}
-use Rattle.meaning.specs.Partial.{built_sizes}
 use Rattle.theory.specs.PartialPairs.{built-length, built-size}
-use Rattle.words.specs.Written.{Written, written_next, written-done}
+use Rattle.words.specs.Written.{written_next, written-done}
 use Rattle.renumbering.proofs.widen.Goals as goal
 
 pub loop-i-init : goal.loop-i-init

@@ -1,6 +1,5 @@
 -- `apart_row` meets its contract: the features of the difference are toggled, from words with no member on.
 use mathlib.Core.Path.{sym, ◌∙◌}
-use borrow.Author.Rules.{rules}
 use Rattle.rows.specs.Moves.{room-none}
 use Rattle.rows.specs.Given.{names-listed}
 use Rattle.rows.specs.Change.{apart-packed}

@@ -1,7 +1,6 @@
 -- `fill_base` meets its contract: the least values with the before values put in are the base state.
 use mathlib.Core.Path.{◌∙◌, ap}
 use lib.ListN.{length}
-use borrow.Author.Rules.{rules}
 use Rattle.theory.specs.Slices.{entry-fine}
 use Rattle.rows.specs.Base.{length-least, base-filled}
 use Rattle.rows.proofs.fill_base.Goals as goal

@@ -1,9 +1,8 @@
 -- `fill_befores` meets its contract: after k turns the before values of the first k entries are put in.
-use Prim.Native.Nat.{ℕ, ◌≤◌, ◌-◌}
-use mathlib.Core.Path.{◌≡◌, refl, ap, ◌∙◌}
-use native.Mathlib.Omega.{arith}
-use lib.ListN.{length, length-set}
-use Rattle.rows.specs.Base.{with_befores, befores-turn}
+use Prim.Native.Nat.{◌≤◌, ◌-◌}
+use mathlib.Core.Path.{◌≡◌}
+use lib.ListN.{length}
+use Rattle.rows.specs.Base.{with_befores}
 use Rattle.rows.proofs.fill_befores.Given as goal
 
 abbrev pub invariant-loop-k : goal.invariant-loop-k

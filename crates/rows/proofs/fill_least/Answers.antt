@@ -1,12 +1,9 @@
 -- `fill_least` meets its contract: the loop writes the least values from the front (`Written`).
-use Prim.Native.Nat.{◌-◌}
 use mathlib.Core.Path.{refl, sym, ◌∙◌}
 use native.Mathlib.Omega.{arith}
-use lib.ListN.{length}
-use Rattle.meaning.specs.Workspace.{has}
 use Rattle.words.specs.Next.{next-lead}
-use Rattle.words.specs.Written.{Written, written_next, written-done}
-use Rattle.rows.specs.Base.{least_values, length-least, least_at}
+use Rattle.words.specs.Written.{written_next, written-done}
+use Rattle.rows.specs.Base.{length-least, least_at}
 use Rattle.rows.proofs.fill_least.Goals as goal
 
 pub loop-u-init : goal.loop-u-init

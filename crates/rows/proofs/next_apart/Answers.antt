@@ -1,11 +1,7 @@
 -- `next_apart` meets its contract: what is wanted from the start is what is wanted from the place reached.
-use Prim.Native.Nat.{◌≤◌, ◌-◌}
-use mathlib.Core.Path.{◌≡◌, refl, ◌∙◌}
+use mathlib.Core.Path.{refl, ◌∙◌}
 use native.Mathlib.Omega.{arith}
-use lib.ListN.{length}
-use Rattle.meaning.specs.Task.{size}
-use Rattle.meaning.specs.Workspace.{has}
-use Rattle.rows.specs.Apart.{wanted_by, wanted_from, from_found, from_next, from_end}
+use Rattle.rows.specs.Apart.{from_found, from_next, from_end}
 use Rattle.rows.proofs.next_apart.Goals as goal
 
 pub loop-variable-init : goal.loop-variable-init

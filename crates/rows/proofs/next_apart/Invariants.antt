@@ -1,11 +1,10 @@
 -- `next_apart` meets its contract: what is wanted from the start is what is wanted from the place reached.
 use Prim.Native.Nat.{◌≤◌, ◌-◌}
-use mathlib.Core.Path.{◌≡◌, refl, ◌∙◌}
-use native.Mathlib.Omega.{arith}
+use mathlib.Core.Path.{◌≡◌}
 use lib.ListN.{length}
 use Rattle.meaning.specs.Task.{size}
 use Rattle.meaning.specs.Workspace.{has}
-use Rattle.rows.specs.Apart.{wanted_by, wanted_from, from_found, from_next, from_end}
+use Rattle.rows.specs.Apart.{wanted_by, wanted_from}
 use Rattle.rows.proofs.next_apart.Given as goal
 
 abbrev pub invariant-loop-variable : goal.invariant-loop-variable

@@ -1,12 +1,10 @@
 -- `next_possible` meets its contract: from y on and below x no value is possible.
-use Prim.Native.Nat.{◌≤◌, ◌-◌}
 use mathlib.Core.Path.{sym, ap, ◌∙◌}
 use native.Mathlib.Omega.{arith}
 use Rattle.meaning.specs.Workspace.{has}
 use Rattle.theory.specs.Numbering.{single-below}
 use Rattle.numbering.specs.Sizes.{limits-small}
-use Rattle.words.specs.Next.{Clear}
-use Rattle.rows.specs.Base.{atoms_at, clear-start, clear_next}
+use Rattle.rows.specs.Base.{clear-start, clear_next}
 use Rattle.rows.proofs.next_possible.Goals as goal
 
 pub size-d-requires : goal.size-d-requires

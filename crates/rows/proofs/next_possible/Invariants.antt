@@ -1,12 +1,8 @@
 -- `next_possible` meets its contract: from y on and below x no value is possible.
 use Prim.Native.Nat.{◌≤◌, ◌-◌}
-use mathlib.Core.Path.{sym, ap, ◌∙◌}
-use native.Mathlib.Omega.{arith}
 use Rattle.meaning.specs.Workspace.{has}
-use Rattle.theory.specs.Numbering.{single-below}
-use Rattle.numbering.specs.Sizes.{limits-small}
 use Rattle.words.specs.Next.{Clear}
-use Rattle.rows.specs.Base.{atoms_at, clear-start, clear_next}
+use Rattle.rows.specs.Base.{atoms_at}
 use Rattle.rows.proofs.next_possible.Given as goal
 
 abbrev pub invariant-loop-x : goal.invariant-loop-x

@@ -1,11 +1,8 @@
 -- `toggle_apart` meets its contract: after k turns what the two values change with the first k entries is toggled.
-use Prim.Native.Nat.{◌≤◌, ◌-◌}
 use mathlib.Core.Path.{◌≡◌, sym, ap, ◌∙◌}
 use native.Mathlib.Omega.{arith}
 use lib.ListN.{length}
-use Rattle.meaning.specs.Sets.{flat}
-use Rattle.theory.specs.Slices.{entries_in, entry-at, entry-fine, length-held}
-use Rattle.theory.specs.Walk.{entry_at}
+use Rattle.theory.specs.Slices.{entry-at, entry-fine, length-held}
 use Rattle.words.specs.Toggled.{toggled_all, toggled-start, toggled-turn, length-next}
 use Rattle.rows.specs.Moves.{entry_of_move, room-toggled}
 use Rattle.rows.specs.Given.{entry_other}

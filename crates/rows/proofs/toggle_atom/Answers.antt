@@ -1,6 +1,5 @@
 -- `toggle_atom` meets its contract: the other variable's atoms are one that is kept, or one used and one made.
 use mathlib.Core.Path.{refl, sym, ◌∙◌}
-use borrow.Author.Rules.{rules}
 use Rattle.rows.specs.Moves.{room-toggled, kinds-same, kinds-apart, grid-right}
 use Rattle.rows.proofs.toggle_atom.Goals as goal
 

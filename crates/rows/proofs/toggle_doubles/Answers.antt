@@ -1,13 +1,11 @@
 -- `toggle_doubles` meets its contract: after l turns what the first l entries change two by two is toggled.
-use Prim.Native.Nat.{◌≤◌, ◌-◌}
 use mathlib.Core.Path.{◌≡◌, ◌∙◌}
 use native.Mathlib.Omega.{arith}
 use lib.ListN.{length}
-use Rattle.meaning.specs.Sets.{flat}
-use Rattle.theory.specs.Slices.{entries_in, length-held}
-use Rattle.words.specs.Toggled.{toggled_all, toggled-start, toggled-turn, length-next}
+use Rattle.theory.specs.Slices.{length-held}
+use Rattle.words.specs.Toggled.{toggled-start, toggled-turn, length-next}
 use Rattle.rows.specs.Moves.{room-toggled}
-use Rattle.rows.specs.Change.{earlier_features, named_features}
+use Rattle.rows.specs.Change.{named_features}
 use Rattle.rows.proofs.toggle_doubles.Goals as goal
 
 pub loop-l-init : goal.loop-l-init

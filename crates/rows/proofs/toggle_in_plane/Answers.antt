@@ -1,6 +1,5 @@
 -- `toggle_in_plane` meets its contract: the first variable's atoms are one that is kept, or one used and one made.
 use mathlib.Core.Path.{refl, sym, ◌∙◌}
-use borrow.Author.Rules.{rules}
 use Rattle.rows.specs.Moves.{room-toggled, kinds-same, kinds-apart, grid-left}
 use Rattle.rows.proofs.toggle_in_plane.Goals as goal
 

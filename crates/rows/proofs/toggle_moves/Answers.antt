@@ -1,5 +1,4 @@
 -- `toggle_moves` meets its contract: the plane is that of the two variables.
-use borrow.Author.Rules.{rules}
 use Rattle.numbering.specs.Sizes.{limits-small}
 use Rattle.rows.proofs.toggle_moves.Goals as goal
 

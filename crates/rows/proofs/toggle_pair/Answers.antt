@@ -1,6 +1,5 @@
 -- `toggle_pair` meets its contract: where the grid has 1 the one feature is toggled, else none.
 use mathlib.Core.Path.{sym, ◌∙◌}
-use borrow.Author.Rules.{rules}
 use Rattle.numbering.specs.Sizes.{limits-small}
 use Rattle.numbering.specs.Planes.{plane-small}
 use Rattle.rows.specs.Moves.{both-room, grid-on, grid-off}

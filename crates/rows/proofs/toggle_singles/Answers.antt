@@ -1,14 +1,11 @@
 -- `toggle_singles` meets its contract: after k turns the atoms of the first k entries are toggled.
-use Prim.Native.Nat.{◌≤◌, ◌-◌}
 use mathlib.Core.Path.{◌≡◌, sym, ◌∙◌}
 use native.Mathlib.Omega.{arith}
 use lib.ListN.{length}
-use Rattle.meaning.specs.Sets.{flat}
-use Rattle.meaning.specs.Feature.{single}
-use Rattle.theory.specs.Slices.{entries_in, entry-at, entry-fine, length-held}
-use Rattle.theory.specs.Walk.{entry_at, turned, walk}
+use Rattle.theory.specs.Slices.{entry-at, entry-fine, length-held}
+use Rattle.theory.specs.Walk.{walk}
 use Rattle.numbering.specs.Sizes.{limits-small}
-use Rattle.words.specs.Toggled.{toggled_all, toggled-start, toggled-turn, toggled-two, length-next}
+use Rattle.words.specs.Toggled.{toggled-start, toggled-turn, toggled-two, length-next}
 use Rattle.rows.specs.Moves.{room-toggled, room-one, single-room}
 use Rattle.rows.proofs.toggle_singles.Goals as goal
 

@@ -1,15 +1,12 @@
 -- `toggle_singles` meets its contract: after k turns the atoms of the first k entries are toggled.
 use Prim.Native.Nat.{◌≤◌, ◌-◌}
-use mathlib.Core.Path.{◌≡◌, sym, ◌∙◌}
-use native.Mathlib.Omega.{arith}
+use mathlib.Core.Path.{◌≡◌}
 use lib.ListN.{length}
 use Rattle.meaning.specs.Sets.{flat}
 use Rattle.meaning.specs.Feature.{single}
-use Rattle.theory.specs.Slices.{entries_in, entry-at, entry-fine, length-held}
-use Rattle.theory.specs.Walk.{entry_at, turned, walk}
-use Rattle.numbering.specs.Sizes.{limits-small}
-use Rattle.words.specs.Toggled.{toggled_all, toggled-start, toggled-turn, toggled-two, length-next}
-use Rattle.rows.specs.Moves.{room-toggled, room-one, single-room}
+use Rattle.theory.specs.Slices.{entries_in}
+use Rattle.theory.specs.Walk.{entry_at, turned}
+use Rattle.words.specs.Toggled.{toggled_all}
 use Rattle.rows.proofs.toggle_singles.Given as goal
 
 abbrev pub invariant-loop-k : goal.invariant-loop-k

@@ -1,13 +1,9 @@
 -- `toggle_unnamed` meets its contract: after u turns what the first u variables change is toggled.
-use Prim.Native.Nat.{◌≤◌, ◌-◌}
 use mathlib.Core.Path.{◌≡◌, ◌∙◌}
 use native.Mathlib.Omega.{arith}
 use lib.ListN.{length}
-use Rattle.meaning.specs.Sets.{flat}
-use Rattle.theory.specs.Slices.{entries_in}
-use Rattle.words.specs.Toggled.{toggled_all, toggled-start, toggled-turn, length-next}
+use Rattle.words.specs.Toggled.{toggled-start, toggled-turn, length-next}
 use Rattle.rows.specs.Moves.{room-toggled}
-use Rattle.rows.specs.Change.{unnamed_features}
 use Rattle.rows.proofs.toggle_unnamed.Goals as goal
 
 pub loop-u-init : goal.loop-u-init

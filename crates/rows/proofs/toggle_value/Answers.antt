@@ -1,7 +1,6 @@
 -- `toggle_value` meets its contract: the test says whether the variable is named.
 use mathlib.Core.Path.{◌≡◌, sym, ◌∙◌}
 use native.Mathlib.Omega.{arith}
-use borrow.Author.Tests.{not-true, not-false}
 use Rattle.meaning.specs.Task.{names}
 use Rattle.theory.specs.Slices.{entries_in}
 use Rattle.words.specs.Toggled.{toggled-none, length-next}

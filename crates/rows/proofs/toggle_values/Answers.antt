@@ -1,6 +1,5 @@
 -- `toggle_values` meets its contract: one plane has the features of both values.
 use mathlib.Core.Path.{sym, ◌∙◌}
-use borrow.Author.Rules.{rules}
 use Rattle.numbering.specs.Sizes.{limits-small}
 use Rattle.words.specs.Toggled.{toggled-join}
 use Rattle.rows.specs.Moves.{room-toggled}

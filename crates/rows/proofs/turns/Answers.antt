@@ -1,6 +1,5 @@
 -- `turns` meets its contract: both places are in the grid, and its entry there is that of the definition.
 use native.Mathlib.Omega.{arith}
-use borrow.Author.Rules.{rules}
 use Rattle.rows.specs.Moves.{place-small}
 use Rattle.rows.proofs.turns.Goals as goal
 

@@ -4,7 +4,6 @@ use native.Mathlib.Omega.{arith}
 use Rattle.meaning.specs.Place.{of_task, of_weights, shown}
 use Rattle.placing.specs.Answers.{part_of}
 use Rattle.showing.specs.Answer.{place_in, part-within, task-bytes, weight-bytes}
-use borrow.Author.Rules.{rules}
 use Rattle.showing.proofs.display.Goals as goal
 use Rattle.showing.proofs.display.Goals.{In-OfTask, In-OfWeights}
 

@@ -2,7 +2,6 @@
 use mathlib.Core.Path.{ap, ◌∙◌}
 use Rattle.meaning.specs.Place.{part_at, shown_bay}
 use Rattle.showing.specs.Answer.{displays}
-use borrow.Author.Rules.{rules}
 use Rattle.showing.proofs.display_bay.Goals as goal
 
 pub returns : goal.returns

@@ -1,6 +1,5 @@
 -- `display_new`: the words are those of the part that is shown for weights of the new kind.
 use Rattle.showing.specs.Answer.{displays}
-use borrow.Author.Rules.{rules}
 use Rattle.showing.proofs.display_new.Goals as goal
 
 pub returns : goal.returns

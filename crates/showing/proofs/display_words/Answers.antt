@@ -1,6 +1,5 @@
 -- `display_words`: the words are those of the part that `display` lends.
 use Rattle.showing.specs.Answer.{displays}
-use borrow.Author.Rules.{rules}
 use Rattle.showing.proofs.display_words.Goals as goal
 
 pub returns : goal.returns

@@ -1,7 +1,6 @@
 -- `locate`: the part at the spot that was found.
 use mathlib.Core.Path.{ap, ◌∙◌}
 use Rattle.meaning.specs.Place.{part_at, shown_as}
-use borrow.Author.Rules.{rules}
 use Rattle.showing.proofs.locate.Goals as goal
 
 pub returns : goal.returns

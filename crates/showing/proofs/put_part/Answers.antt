@@ -1,6 +1,5 @@
 -- `put_part`: two words are written, or none where there is no room for them.
 use Rattle.showing.specs.Answer.{too_small, task-words, weights-words}
-use borrow.Author.Rules.{rules}
 use Rattle.showing.proofs.put_part.Goals as goal
 
 pub returns-then-room-lt-PLACE_WORDS : goal.returns-then-room-lt-PLACE_WORDS

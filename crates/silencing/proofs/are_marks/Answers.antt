@@ -1,11 +1,9 @@
 -- `are_marks`: the marks that are left pass as all marks do.
-use Prim.Native.Nat.{◌-◌, ◌≤◌}
-use mathlib.Core.Path.{◌≡◌, refl, sym, ◌∙◌}
+use mathlib.Core.Path.{refl, sym, ◌∙◌}
 use native.Mathlib.Omega.{arith}
 use lib.Dec.{ltb}
-use lib.ListN.{length, get_or, drop}
+use lib.ListN.{get_or}
 use borrow.Author.Tests.{lt-ltb, le-ltb}
-use Rattle.meaning.specs.Sets.{all_of}
 use Rattle.silencing.specs.Marks.{are_marks, all-next, all-stop, all_end}
 use Rattle.silencing.proofs.are_marks.Goals as goal
 

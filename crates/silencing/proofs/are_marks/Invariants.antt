@@ -1,12 +1,10 @@
 -- `are_marks`: the marks that are left pass as all marks do.
 use Prim.Native.Nat.{◌-◌, ◌≤◌}
-use mathlib.Core.Path.{◌≡◌, refl, sym, ◌∙◌}
-use native.Mathlib.Omega.{arith}
+use mathlib.Core.Path.{◌≡◌}
 use lib.Dec.{ltb}
-use lib.ListN.{length, get_or, drop}
-use borrow.Author.Tests.{lt-ltb, le-ltb}
+use lib.ListN.{length, drop}
 use Rattle.meaning.specs.Sets.{all_of}
-use Rattle.silencing.specs.Marks.{are_marks, all-next, all-stop, all_end}
+use Rattle.silencing.specs.Marks.{are_marks}
 use Rattle.silencing.proofs.are_marks.Given as goal
 
 abbrev pub invariant-loop-i : goal.invariant-loop-i

@@ -1,12 +1,10 @@
 -- `are_roomy`: the sizes that are left pass as all sizes do.
-use Prim.Native.Nat.{◌-◌, ◌≤◌}
-use mathlib.Core.Path.{◌≡◌, refl, sym, ◌∙◌}
+use mathlib.Core.Path.{refl, sym, ◌∙◌}
 use native.Mathlib.Omega.{arith}
 use lib.Dec.{leb}
-use lib.ListN.{length, get_or, drop}
+use lib.ListN.{get_or}
 use borrow.Author.Tests.{le-leb, lt-leb}
 use Rattle.meaning.specs.Limits.{most_partial_size}
-use Rattle.meaning.specs.Sets.{all_of}
 use Rattle.silencing.specs.Marks.{are_roomy, all-next, all-stop, all_end}
 use Rattle.silencing.proofs.are_roomy.Goals as goal
 

@@ -1,13 +1,11 @@
 -- `are_roomy`: the sizes that are left pass as all sizes do.
 use Prim.Native.Nat.{◌-◌, ◌≤◌}
-use mathlib.Core.Path.{◌≡◌, refl, sym, ◌∙◌}
-use native.Mathlib.Omega.{arith}
+use mathlib.Core.Path.{◌≡◌}
 use lib.Dec.{leb}
-use lib.ListN.{length, get_or, drop}
-use borrow.Author.Tests.{le-leb, lt-leb}
+use lib.ListN.{length, drop}
 use Rattle.meaning.specs.Limits.{most_partial_size}
 use Rattle.meaning.specs.Sets.{all_of}
-use Rattle.silencing.specs.Marks.{are_roomy, all-next, all-stop, all_end}
+use Rattle.silencing.specs.Marks.{are_roomy}
 use Rattle.silencing.proofs.are_roomy.Given as goal
 
 abbrev pub invariant-loop-i : goal.invariant-loop-i

@@ -4,7 +4,6 @@ use mathlib.Core.Path.{◌≡◌, sym, ap, ◌∙◌}
 use native.Mathlib.Omega.{arith}
 use lib.ListN.{length, take}
 use lib.Seq.{length-take-le}
-use borrow.Author.Rules.{rules}
 use Rattle.meaning.specs.Answer.{delivered}
 use Rattle.silencing.specs.Parts.{rest_bytes, parts_bytes}
 use Rattle.silencing.specs.Answer.{silent-front}

@@ -1,9 +1,8 @@
 -- `fill_named`: the values that are named so far stand in front of the table.
-use Prim.Native.Nat.{◌-◌, ◌≤◌}
-use mathlib.Core.Path.{◌≡◌, refl}
+use mathlib.Core.Path.{refl}
 use native.Mathlib.Omega.{arith}
-use lib.ListN.{length, length-set}
-use Rattle.silencing.specs.Marks.{PickedTo, picked_next, picked_all}
+use lib.ListN.{length-set}
+use Rattle.silencing.specs.Marks.{picked_next, picked_all}
 use Rattle.silencing.proofs.fill_named.Goals as goal
 
 pub loop-i-init : goal.loop-i-init

@@ -1,9 +1,8 @@
 -- `fill_named`: the values that are named so far stand in front of the table.
 use Prim.Native.Nat.{◌-◌, ◌≤◌}
-use mathlib.Core.Path.{◌≡◌, refl}
-use native.Mathlib.Omega.{arith}
-use lib.ListN.{length, length-set}
-use Rattle.silencing.specs.Marks.{PickedTo, picked_next, picked_all}
+use mathlib.Core.Path.{◌≡◌}
+use lib.ListN.{length}
+use Rattle.silencing.specs.Marks.{PickedTo}
 use Rattle.silencing.proofs.fill_named.Given as goal
 
 abbrev pub invariant-loop-i : goal.invariant-loop-i

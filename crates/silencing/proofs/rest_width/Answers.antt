@@ -3,7 +3,6 @@ use Prim.Native.Nat.{◌+◌, ◌≤◌}
 use mathlib.Core.Path.{◌≡◌}
 use native.Mathlib.Omega.{arith}
 use lib.ListN.{length}
-use borrow.Author.Rules.{rules}
 use Rattle.writer.specs.Widths.{four_lists}
 use Rattle.silencing.specs.Parts.{rest_bytes, rest-length, rest-few}
 use Rattle.silencing.proofs.rest_width.Goals as goal

@@ -3,7 +3,6 @@ use Prim.Native.Nat.{◌≤◌}
 use mathlib.Core.Path.{refl}
 use native.Mathlib.Omega.{arith}
 use lib.ListN.{length, replicate}
-use borrow.Author.Rules.{rules}
 use Rattle.meaning.specs.Limits.{most_variables, most_features}
 use Rattle.meaning.specs.Workspace.{slots_at}
 use Rattle.theory.specs.Spent.{Bytes}

@@ -3,7 +3,6 @@ use mathlib.Core.Path.{◌≡◌, sym, ◌∙◌}
 use mathlib.Core.Bool.{true}
 use native.Mathlib.Omega.{arith}
 use lib.ListN.{length}
-use borrow.Author.Rules.{rules}
 use Rattle.meaning.specs.Number.{Range, Outgrown}
 use Rattle.writer.specs.Answer.{refused-so}
 use Rattle.silencing.specs.Marks.{are_marks, are_roomy, are-roomy}

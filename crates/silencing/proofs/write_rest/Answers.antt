@@ -2,7 +2,6 @@
 use Prim.Native.Nat.{ℕ}
 use mathlib.Core.Path.{refl, sym}
 use mathlib.Core.List.{List, [], ◌++◌, append-nil}
-use borrow.Author.Rules.{rules}
 use Rattle.meaning.specs.Number.{number_bytes}
 use Rattle.meaning.specs.File.{plain, list_bytes}
 use Rattle.words.specs.Members.{members_in}

@@ -1,6 +1,5 @@
 -- `are_equal` asks label by label: each label so far stands equally often in both lists.
 use mathlib.Core.Path.{◌≡◌, sym, ap, ◌∙◌}
-use mathlib.Core.Bool.{true}
 use native.Mathlib.Omega.{arith}
 use lib.ListN.{length}
 use Rattle.meaning.specs.Bay.{equal_lots}

@@ -24,7 +24,7 @@ loop-k-preserved c =
     let e = c.occurrences.ensures in (
       omega arith,
       elim c.if-occurrences-ne0.branch [
-        then-occurrences-ne0 w ↦ count-hit _ _ _ _ turn.invariant.1 (lt-ltb 0 n (omega (arith, w.if-occurrences-ne0.true, e))) w.count-is
+        | then-occurrences-ne0 w ↦ count-hit _ _ _ _ turn.invariant.1 (lt-ltb 0 n (omega (arith, w.if-occurrences-ne0.true, e))) w.count-is
         | else-occurrences-ne0 w ↦ count-miss _ _ _ _ turn.invariant.1 (le-ltb 0 n (omega (arith, w.if-occurrences-ne0.false, e))) w.count-is
       ],
     )

@@ -20,7 +20,7 @@ loop-place-preserved c =
     let so_far = c.loop-place.invariant.1 in (
       omega arith,
       elim c.if-near-place-eq1.branch [
-        then-near-place-eq1 w ↦ count-hit _ _ _ _ so_far (eq-eqb _ _ w.if-near-place-eq1.true) w.count-is
+        | then-near-place-eq1 w ↦ count-hit _ _ _ _ so_far (eq-eqb _ _ w.if-near-place-eq1.true) w.count-is
         | else-near-place-eq1 w ↦ count-miss _ _ _ _ so_far (ne_eqb _ _ w.if-near-place-eq1.false) w.count-is
       ],
     )

@@ -21,11 +21,13 @@ overflow_add-count c =
 
 pub loop-i-preserved : goal.loop-i-preserved
 loop-i-preserved c =
-    let so_far = c.loop-i.invariant.1 in
-    (omega arith, elim c.if-labels-i.branch [
-      then-labels-i w ↦ count-hit _ _ _ _ so_far (eq-eqb _ _ w.if-labels-i.true) w.count-is
-      | else-labels-i w ↦ count-miss _ _ _ _ so_far (ne_eqb _ _ w.if-labels-i.false) w.count-is
-    ])
+    let so_far = c.loop-i.invariant.1 in (
+      omega arith,
+      elim c.if-labels-i.branch [
+        | then-labels-i w ↦ count-hit _ _ _ _ so_far (eq-eqb _ _ w.if-labels-i.true) w.count-is
+        | else-labels-i w ↦ count-miss _ _ _ _ so_far (ne_eqb _ _ w.if-labels-i.false) w.count-is
+      ],
+    )
 
 pub returns : goal.returns
 returns c =

@@ -2,7 +2,6 @@
 use Prim.Native.Nat.{◌/◌}
 use native.Mathlib.Omega.{arith}
 use Rattle.slots.specs.Change.{added-from}
-use borrow.Author.Rules.{rules}
 use Rattle.slots.proofs.add_from.Goals as goal
 
 pub returns : goal.returns

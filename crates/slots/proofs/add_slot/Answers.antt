@@ -6,7 +6,6 @@ use Rattle.theory.specs.Words.{Words}
 use Rattle.words.specs.Change.{summed}
 use Rattle.slots.specs.Change.{Led, added_none, led-none}
 use Rattle.slots.specs.Area.{slot_at, slot-room, words-slot}
-use borrow.Author.Rules.{rules}
 use Rattle.slots.proofs.add_slot.Goals as goal
 use Rattle.slots.proofs.add_slot.Goals.{After-slot_of-slot}
 

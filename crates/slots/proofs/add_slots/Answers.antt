@@ -1,12 +1,9 @@
 -- `slots::add_slots`: between two turns the row is an `Adding`.
-use Prim.Native.Nat.{◌-◌}
 use mathlib.Core.Path.{refl, sym, ◌∙◌}
-use mathlib.Core.Bool.{◌&&◌}
 use native.Mathlib.Omega.{arith}
-use lib.ListN.{length}
-use Rattle.meaning.specs.Workspace.{has, words_for}
-use Rattle.slots.specs.Area.{slots_in, slot_has, slot-room, length-slot}
-use Rattle.slots.specs.Reducing.{Adding, adding-first, adding-next, adding-done}
+use Rattle.meaning.specs.Workspace.{words_for}
+use Rattle.slots.specs.Area.{slot_has, slot-room, length-slot}
+use Rattle.slots.specs.Reducing.{adding-first, adding-next, adding-done}
 use Rattle.slots.proofs.add_slots.Goals as goal
 
 pub next_shared-p-requires : goal.next_shared-p-requires

@@ -1,8 +1,6 @@
 -- `slots::all_shaped`: the slots before i are in shape (`AllShaped`).
-use Prim.Native.Nat.{◌-◌, ◌≤◌}
 use mathlib.Core.Path.{◌≡◌, refl, ap, ◌∙◌, subst}
 use native.Mathlib.Omega.{arith}
-use borrow.Author.Tests.{not-true, not-false}
 use Rattle.meaning.specs.Workspace.{has, words_for}
 use Rattle.theory.specs.Tells.{Tells}
 use Rattle.slots.specs.Area.{slot_at, slot-room}

@@ -1,8 +1,6 @@
 -- `slots::apart`: what is shared above i is gathered in one word (`Gathered`).
-use Prim.Native.Nat.{◌-◌, ◌*◌, ◌<◌, ◌≤◌}
 use native.Mathlib.Omega.{arith}
-use lib.ListN.{length}
-use Rattle.slots.specs.Shape.{Gathered, gathered-first, gathered_next, gathered-done}
+use Rattle.slots.specs.Shape.{gathered-first, gathered_next, gathered-done}
 use Rattle.slots.proofs.apart.Goals as goal
 
 pub loop-j-init : goal.loop-j-init

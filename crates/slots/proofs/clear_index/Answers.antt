@@ -1,7 +1,6 @@
 -- `slots::clear_index`: each way out is a case of `cleared`.
 use mathlib.Core.Path.{sym, ◌∙◌}
 use Rattle.slots.specs.Change.{cleared}
-use borrow.Author.Rules.{rules}
 use Rattle.slots.proofs.clear_index.Goals as goal
 
 pub returns-then-has : goal.returns-then-has

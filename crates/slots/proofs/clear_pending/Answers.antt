@@ -1,11 +1,11 @@
 -- `slots::clear_pending`: between two turns the area is a `Clearing`.
-use Prim.Native.Nat.{◌+◌, ◌-◌, ◌*◌, ◌≤◌}
+use Prim.Native.Nat.{◌+◌, ◌*◌, ◌≤◌}
 use mathlib.Core.Path.{ap, ◌∙◌}
 use native.Mathlib.Omega.{arith}
 use lib.ListN.{length}
 use Rattle.slots.specs.Area.{slot-in, part-is, length-slot}
 use Rattle.slots.specs.Change.{cleared}
-use Rattle.slots.specs.Inserting.{Clearing, clearing-first, clearing-next, clearing-done}
+use Rattle.slots.specs.Inserting.{clearing-first, clearing-next, clearing-done}
 use Rattle.slots.proofs.clear_pending.Goals as goal
 use Rattle.slots.proofs.clear_pending.Goals.{In-loop-i}
 

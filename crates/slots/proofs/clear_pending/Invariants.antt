@@ -1,11 +1,6 @@
 -- `slots::clear_pending`: between two turns the area is a `Clearing`.
-use Prim.Native.Nat.{◌+◌, ◌-◌, ◌*◌, ◌≤◌}
-use mathlib.Core.Path.{ap, ◌∙◌}
-use native.Mathlib.Omega.{arith}
-use lib.ListN.{length}
-use Rattle.slots.specs.Area.{slot-in, part-is, length-slot}
-use Rattle.slots.specs.Change.{cleared}
-use Rattle.slots.specs.Inserting.{Clearing, clearing-first, clearing-next, clearing-done}
+use Prim.Native.Nat.{◌-◌}
+use Rattle.slots.specs.Inserting.{Clearing}
 use Rattle.slots.proofs.clear_pending.Given as goal
 
 abbrev pub invariant-loop-i : goal.invariant-loop-i

@@ -6,7 +6,6 @@ use lib.Seq.{length-take-le}
 use Rattle.meaning.specs.Workspace.{words_for}
 use Rattle.slots.specs.Area.{slot-room}
 use Rattle.slots.specs.Find.{found_none, found_some, witness-words, words-front}
-use borrow.Author.Rules.{rules}
 use Rattle.slots.proofs.find.Goals as goal
 
 pub returns-then-n-m : goal.returns-then-n-m

@@ -1,5 +1,4 @@
 -- `slots::indices`: the features below i that their own slots have are collected (`Collected`).
-use Prim.Native.Nat.{◌-◌, ◌≤◌}
 use mathlib.Core.Path.{◌≡◌, ap, ◌∙◌, subst}
 use mathlib.Core.Bool.{false, ◌&&◌}
 use native.Mathlib.Omega.{arith}
@@ -9,7 +8,7 @@ use Rattle.meaning.specs.Workspace.{has}
 use Rattle.theory.specs.Truth.{xor-false}
 use Rattle.words.specs.Part.{has-none}
 use Rattle.slots.specs.Area.{slot_at, slot-in}
-use Rattle.slots.specs.Find.{Collected, collected-first, collected-next}
+use Rattle.slots.specs.Find.{collected-first, collected-next}
 use Rattle.slots.proofs.indices.Goals as goal
 
 pub loop-i-init : goal.loop-i-init

@@ -1,15 +1,11 @@
 -- `slots::indices`: the features below i that their own slots have are collected (`Collected`).
 use Prim.Native.Nat.{◌-◌, ◌≤◌}
-use mathlib.Core.Path.{◌≡◌, ap, ◌∙◌, subst}
-use mathlib.Core.Bool.{false, ◌&&◌}
-use native.Mathlib.Omega.{arith}
-use lib.Dec.{ltb}
+use mathlib.Core.Path.{◌≡◌}
+use mathlib.Core.Bool.{false}
 use lib.ListN.{length}
 use Rattle.meaning.specs.Workspace.{has}
-use Rattle.theory.specs.Truth.{xor-false}
-use Rattle.words.specs.Part.{has-none}
-use Rattle.slots.specs.Area.{slot_at, slot-in}
-use Rattle.slots.specs.Find.{Collected, collected-first, collected-next}
+use Rattle.slots.specs.Area.{slot_at}
+use Rattle.slots.specs.Find.{Collected}
 use Rattle.slots.proofs.indices.Given as goal
 
 abbrev pub invariant-loop-i : goal.invariant-loop-i

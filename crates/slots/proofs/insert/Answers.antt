@@ -7,7 +7,6 @@ use Rattle.meaning.specs.Workspace.{words_for}
 use Rattle.slots.specs.Area.{slot-room}
 use Rattle.slots.specs.Waiting.{waiting-led}
 use Rattle.slots.specs.Inserting.{next-led, inserted, inserted-waiting, inserted-none}
-use borrow.Author.Rules.{rules}
 use Rattle.slots.proofs.insert.Goals as goal
 use Rattle.slots.proofs.insert.Goals.{After-reduce_upward}
 

@@ -1,7 +1,6 @@
 -- `slots::is_reduced`: lends room for the indices.
 use native.Mathlib.Omega.{arith}
 use lib.ListN.{length-take}
-use borrow.Author.Rules.{rules}
 use Rattle.slots.proofs.is_reduced.Goals as goal
 
 pub slice_bounds-is_reduced_by-end : goal.slice_bounds-is_reduced_by-end

@@ -7,7 +7,6 @@ use lib.Dec.{ltb}
 use Rattle.meaning.specs.Workspace.{has}
 use Rattle.slots.specs.Area.{slot_at}
 use Rattle.slots.specs.Shape.{shaped-reduced}
-use borrow.Author.Rules.{rules}
 use Rattle.slots.proofs.is_reduced_by.Goals as goal
 
 pub indices-requires : goal.indices-requires

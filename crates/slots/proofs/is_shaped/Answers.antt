@@ -1,6 +1,5 @@
 -- `slots::is_shaped`: each way out is one of the laws on the shape of a slot.
 use Rattle.slots.specs.Shape.{shaped-empty, shaped-least, shaped-past, shaped-apart}
-use borrow.Author.Rules.{rules}
 use Rattle.slots.proofs.is_shaped.Goals as goal
 
 pub returns-then-least-bits : goal.returns-then-least-bits

@@ -3,7 +3,6 @@ use mathlib.Core.Path.{◌≡◌, ap, sym, ◌∙◌}
 use Rattle.meaning.specs.Workspace.{has}
 use Rattle.slots.specs.Change.{marked}
 use Rattle.slots.specs.Area.{slot_at}
-use borrow.Author.Rules.{rules}
 use Rattle.slots.proofs.mark.Goals as goal
 use Rattle.slots.proofs.mark.Goals.{After-has}
 

@@ -2,7 +2,6 @@
 use native.Mathlib.Omega.{arith}
 use Rattle.meaning.specs.Workspace.{has}
 use Rattle.slots.specs.Inserting.{after-put}
-use borrow.Author.Rules.{rules}
 use Rattle.slots.proofs.put.Goals as goal
 
 pub returns : goal.returns

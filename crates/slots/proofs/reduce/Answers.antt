@@ -1,15 +1,13 @@
 -- `slots::reduce`: between two turns the row is a `Turn`; words that hold what is left are its words.
-use Prim.Native.Nat.{◌+◌, ◌-◌, ◌*◌}
+use Prim.Native.Nat.{◌+◌, ◌*◌}
 use mathlib.Core.Path.{◌≡◌, refl, sym, ◌∙◌, subst}
-use mathlib.Core.Bool.{true}
 use native.Mathlib.Omega.{arith}
 use lib.ListN.{length}
 use Rattle.meaning.specs.Limits.{word_bits}
 use Rattle.meaning.specs.Workspace.{has, words_for}
-use Rattle.theory.specs.Words.{Words}
 use Rattle.words.specs.Next.{Next}
-use Rattle.slots.specs.Area.{slots_in, slot_has, slot-room, length-slot, led-area, LedArea}
-use Rattle.slots.specs.Reducing.{Turn, turn-first, turn-next, turn-done, next-every, red-past, words_of}
+use Rattle.slots.specs.Area.{slot_has, slot-room, length-slot, led-area, LedArea}
+use Rattle.slots.specs.Reducing.{turn-first, turn-next, turn-done, next-every, red-past, words_of}
 use Rattle.slots.proofs.reduce.Goals as goal
 use Rattle.slots.proofs.reduce.Goals.{Start}
 

@@ -1,5 +1,5 @@
 -- `slots::reduce_upward`: between two turns the row is a `Turn`.
-use Prim.Native.Nat.{ℕ, ◌+◌, ◌-◌, ◌*◌}
+use Prim.Native.Nat.{ℕ, ◌+◌, ◌*◌}
 use mathlib.Core.Path.{◌≡◌, refl, sym, ◌∙◌, subst}
 use mathlib.Core.Bool.{true, ◌&&◌}
 use native.Mathlib.Omega.{arith}
@@ -9,7 +9,7 @@ use Rattle.meaning.specs.Workspace.{has, words_for}
 use Rattle.words.specs.Next.{Next}
 use Rattle.slots.specs.Area.{slots_in, slot_has, slot-room, length-slot}
 use Rattle.slots.specs.Waiting.{indexes-cover}
-use Rattle.slots.specs.Reducing.{Turn, turn-first, turn-next, turn-done}
+use Rattle.slots.specs.Reducing.{turn-first, turn-next, turn-done}
 use Rattle.slots.proofs.reduce_upward.Goals as goal
 use Rattle.slots.proofs.reduce_upward.Goals.{Start}
 

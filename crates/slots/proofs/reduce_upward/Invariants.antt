@@ -1,15 +1,9 @@
 -- `slots::reduce_upward`: between two turns the row is a `Turn`.
-use Prim.Native.Nat.{ℕ, ◌+◌, ◌-◌, ◌*◌}
-use mathlib.Core.Path.{◌≡◌, refl, sym, ◌∙◌, subst}
-use mathlib.Core.Bool.{true, ◌&&◌}
-use native.Mathlib.Omega.{arith}
+use Prim.Native.Nat.{◌-◌}
 use lib.ListN.{length}
-use Rattle.meaning.specs.Limits.{word_bits}
-use Rattle.meaning.specs.Workspace.{has, words_for}
-use Rattle.words.specs.Next.{Next}
-use Rattle.slots.specs.Area.{slots_in, slot_has, slot-room, length-slot}
-use Rattle.slots.specs.Waiting.{indexes-cover}
-use Rattle.slots.specs.Reducing.{Turn, turn-first, turn-next, turn-done}
+use Rattle.meaning.specs.Workspace.{has}
+use Rattle.slots.specs.Area.{slots_in}
+use Rattle.slots.specs.Reducing.{Turn}
 use Rattle.slots.proofs.reduce_upward.Given as goal
 
 abbrev pub invariant-loop-p : goal.invariant-loop-p

@@ -3,7 +3,6 @@ use mathlib.Core.Path.{ap, ◌∙◌}
 use lib.ListN.{replicate}
 use Rattle.slots.specs.Reducing.{zeros_of}
 use Rattle.slots.specs.Settling.{settled-already}
-use borrow.Author.Rules.{rules}
 use Rattle.slots.proofs.settle.Goals as goal
 
 pub returns-then-is_empty : goal.returns-then-is_empty

@@ -2,11 +2,9 @@
 use mathlib.Core.Path.{◌≡◌, ap, sym, ◌∙◌}
 use native.Mathlib.Omega.{arith}
 use lib.ListN.{length}
-use borrow.Author.Tests.{not-true}
 use Rattle.meaning.specs.Workspace.{has, words_for}
 use Rattle.slots.specs.Area.{slot_at, slot-room}
 use Rattle.slots.specs.Settling.{pending-stays, empty-stays, apart-stays, written_back}
-use borrow.Author.Rules.{rules}
 use Rattle.slots.proofs.settle_slot.Goals as goal
 use Rattle.slots.proofs.settle_slot.Goals.{After-add_slots, After-slot_of-slot}
 

@@ -1,8 +1,7 @@
 -- `slots::settle_slots`: between two turns the slots below i are settled (`Settling`).
-use Prim.Native.Nat.{◌-◌}
 use mathlib.Core.Path.{sym, ◌∙◌}
 use native.Mathlib.Omega.{arith}
-use Rattle.slots.specs.Settling.{Settling, settling-first, settling-led, settling-indexes, settling-next, settling-done}
+use Rattle.slots.specs.Settling.{settling-first, settling-led, settling-indexes, settling-next, settling-done}
 use Rattle.slots.proofs.settle_slots.Goals as goal
 
 pub loop-i-init : goal.loop-i-init

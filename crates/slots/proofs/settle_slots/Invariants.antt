@@ -1,8 +1,6 @@
 -- `slots::settle_slots`: between two turns the slots below i are settled (`Settling`).
 use Prim.Native.Nat.{◌-◌}
-use mathlib.Core.Path.{sym, ◌∙◌}
-use native.Mathlib.Omega.{arith}
-use Rattle.slots.specs.Settling.{Settling, settling-first, settling-led, settling-indexes, settling-next, settling-done}
+use Rattle.slots.specs.Settling.{Settling}
 use Rattle.slots.proofs.settle_slots.Given as goal
 
 abbrev pub invariant-loop-i : goal.invariant-loop-i

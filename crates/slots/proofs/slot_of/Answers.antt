@@ -1,5 +1,4 @@
 -- `slots::slot_of`: the part from the place of slot i on, w words long, is slot i.
-use borrow.Author.Rules.{rules}
 use Rattle.slots.specs.Area.{part-is, length_part}
 use Rattle.slots.proofs.slot_of.Goals as goal
 

@@ -1,13 +1,11 @@
 -- `slots::witness`: the features below i whose slots have m are collected, beside m itself (`Collected`).
-use Prim.Native.Nat.{ℕ, ◌+◌, ◌-◌, ◌≤◌}
-use mathlib.Core.Path.{◌≡◌, ap, ◌∙◌, subst}
-use native.Mathlib.Omega.{arith}
+use Prim.Native.Nat.{◌+◌, ◌-◌, ◌≤◌}
+use mathlib.Core.Path.{◌≡◌}
 use lib.Dec.{eqb}
-use lib.ListN.{length, length-replicate}
+use lib.ListN.{length}
 use Rattle.meaning.specs.Workspace.{has}
-use Rattle.words.specs.Change.{toggled}
-use Rattle.slots.specs.Area.{slot_at, slot-upto}
-use Rattle.slots.specs.Find.{Collected, collected-first, collected-next, has_one}
+use Rattle.slots.specs.Area.{slot_at}
+use Rattle.slots.specs.Find.{Collected}
 use Rattle.slots.proofs.witness.Given as goal
 
 abbrev pub invariant-loop-i : goal.invariant-loop-i

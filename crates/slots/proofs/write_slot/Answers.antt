@@ -2,7 +2,6 @@
 use mathlib.Core.Path.{ap}
 use lib.ListN.{length}
 use Rattle.slots.specs.Area.{slot_put}
-use borrow.Author.Rules.{rules}
 use Rattle.slots.proofs.write_slot.Goals as goal
 
 pub returns : goal.returns

@@ -1,33 +1,30 @@
 -- `are_closed`: the operators that are left decide as all of them do; none of the listed pairs that the walk has passed is unclosed under an operator that is not idle.
-use Prim.Native.Nat.{ℕ, ◌≤◌, ◌<◌, ◌-◌}
+use Prim.Native.Nat.{◌≤◌, ◌<◌}
 use mathlib.Core.Path.{◌≡◌, refl, sym, ◌∙◌}
-use mathlib.Core.Logic.{⊎_elim}
 use mathlib.Core.Bool.{true}
-use mathlib.Core.List.{List}
 use native.Mathlib.Omega.{arith}
 use native.Mathlib.Nat.{sub-zero}
-use lib.ListN.{length, take}
+use lib.ListN.{take}
 use lib.Seq.{length-take-le}
 use borrow.Author.Rules.{rules}
-use borrow.Author.Tests.{not-true, not-false}
-use Rattle.meaning.specs.Limits.{most_variables, most_atoms}
+use Rattle.meaning.specs.Limits.{most_variables}
 use Rattle.meaning.specs.Task.{Operator, IsOperator}
-use Rattle.meaning.specs.Feature.{atoms, features}
+use Rattle.meaning.specs.Feature.{features}
 use Rattle.meaning.specs.Number.{Read, got}
 use Rattle.meaning.specs.File.{operator_of}
 use Rattle.meaning.specs.Answer.{operator_in}
 use Rattle.meaning.specs.Pair.{closed}
-use Rattle.meaning.specs.Workspace.{words_for, has}
+use Rattle.meaning.specs.Workspace.{has}
 use Rattle.theory.specs.Slices.{entries_in}
 use Rattle.numbering.specs.Sizes.{limits-small, atoms-most}
 use Rattle.operator.specs.Records.{record_of}
 use Rattle.operator.specs.Known.{read_next, read-faulted, Room, operator-is}
 use Rattle.pairs.specs.Ready.{Ready}
 use Rattle.pairs.specs.Judge.{closed-idle}
-use Rattle.pairs.specs.Walk.{Reached, reached-first, reached-next, closed-past, closed-broken}
+use Rattle.pairs.specs.Walk.{reached-first, reached-next, closed-past, closed-broken}
 use Rattle.pairs.specs.Slices.{count_room, slices-read, slices-ready}
-use Rattle.operator.specs.Fold.{walked, walk_end, walk-unread, walk_more, walk-left}
-use Rattle.task.specs.Walk.{closed_also, closed_from}
+use Rattle.operator.specs.Fold.{walk_end, walk-unread, walk_more, walk-left}
+use Rattle.task.specs.Walk.{closed_also}
 use Rattle.task.proofs.are_closed.Goals as goal
 use Rattle.task.proofs.are_closed.Goals.{then-not-is_idle+else-loop-pair-test, else-not-is_idle, After-is_unclosed, After-read_operator-read, In-Next, Joined-not-is_idle}
 
@@ -73,9 +70,9 @@ below c = omega (arith, c.loop-pair-test.true, all (goal.at.After-is_unclosed c)
 met : (c : Joined-not-is_idle) → (c.if-not-is_idle.closed ≡ true) × (closed c.args.sizes.now (has c.args.pairs.now) (operator-of (goal.at.Joined-not-is_idle c).In-Next) ≡ true)
 met c = elim c.if-not-is_idle.branch [
   | then-not-is_idle+else-loop-pair-test w ↦ (
-      w.closed-is ∙ w.loop-pair.invariant.0,
-      closed-past _ _ _ (ready (goal.at.Joined-not-is_idle c).In-Next).entries _ w.loop-pair.invariant.1 (omega (arith, w.loop-pair-test.false, all (goal.at.Joined-not-is_idle c).In-Next)),
-    )
+    w.closed-is ∙ w.loop-pair.invariant.0,
+    closed-past _ _ _ (ready (goal.at.Joined-not-is_idle c).In-Next).entries _ w.loop-pair.invariant.1 (omega (arith, w.loop-pair-test.false, all (goal.at.Joined-not-is_idle c).In-Next)),
+  )
   | else-not-is_idle w ↦ (w.closed-is ∙ c.walk.invariant.1, closed-idle _ _ _ (sym c.is_idle.ensures ∙ w.if-not-is_idle.false))
 ]
 

@@ -1,5 +1,4 @@
 -- `judge`: a file of the kind that its first number says, judged wholly.
-use borrow.Author.Rules.{rules}
 use Rattle.task.specs.Rest.{either-judged}
 use Rattle.task.specs.Answer.{answer-same}
 use Rattle.task.proofs.judge.Goals as goal

@@ -1,6 +1,5 @@
 -- `judge_by`: the mark that was read, and what is judged behind it.
 use mathlib.Core.Path.{sym, ◌∙◌}
-use borrow.Author.Rules.{rules}
 use Rattle.task.specs.Answer.{marked-judged, unmarked-judged}
 use Rattle.task.proofs.judge_by.Goals as goal
 

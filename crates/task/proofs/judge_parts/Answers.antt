@@ -1,5 +1,4 @@
 -- `judge_parts`: the front that was read, whose parts are lent from the words; then what is judged behind it.
-use borrow.Author.Rules.{rules}
 use Rattle.meaning.specs.File.{kind_if}
 use Rattle.layout.specs.Parts.{headed-sizes}
 use Rattle.task.specs.Answer.{Fronted, front-told, front-faulted, front-refused, fronted-room, lent-ready, rest-refused, rest-accepted}

@@ -1,13 +1,8 @@
 -- `operators_at`: after each operator, those that are left lead to the same answer.
 use Prim.Native.Nat.{◌≤◌, ◌-◌}
-use mathlib.Core.Path.{◌≡◌, sym, ap, ◌∙◌}
-use native.Mathlib.Omega.{arith}
-use native.Mathlib.Nat.{sub-zero}
+use mathlib.Core.Path.{◌≡◌}
 use Rattle.meaning.specs.File.{operators_of}
-use Rattle.number.specs.Answers.{place_of, place-fault}
-use Rattle.operator.specs.Known.{read_next, read-faulted}
-use Rattle.operator.specs.Fold.{place-more, operators-fault, operators-none}
-use borrow.Author.Rules.{rules}
+use Rattle.number.specs.Answers.{place_of}
 use Rattle.task.proofs.operators_at.Given as goal
 
 abbrev pub invariant-loop-k : goal.invariant-loop-k

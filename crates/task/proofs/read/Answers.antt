@@ -1,5 +1,4 @@
 -- `read`: a file of the kind that its first number says, judged up to 5.
-use borrow.Author.Rules.{rules}
 use Rattle.task.specs.Rest.{either-read}
 use Rattle.task.specs.Answer.{answer-same}
 use Rattle.task.proofs.read.Goals as goal

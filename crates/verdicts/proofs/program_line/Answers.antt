@@ -1,6 +1,5 @@
 -- `program_line`: files of which one is too long are refused, any others have the line of their verdict.
 use mathlib.Core.Path.{refl, sym, ◌∙◌}
-use borrow.Author.Rules.{rules}
 use Rattle.verdicts.proofs.program_line.Goals as goal
 
 pub returns-then-are_long : goal.returns-then-are_long

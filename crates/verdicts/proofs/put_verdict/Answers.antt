@@ -7,7 +7,6 @@ use Rattle.decimal.specs.Decimal.{word-few}
 use Rattle.placing.specs.Answers.{spot_of}
 use Rattle.text.specs.Parts.{most_digits, ShortSpot}
 use Rattle.verdicts.specs.Fits.{Short, checked-near, refusal-few}
-use borrow.Author.Rules.{rules}
 use Rattle.verdicts.proofs.put_verdict.Goals as goal
 
 pub put_numbered-requires : goal.put_numbered-requires

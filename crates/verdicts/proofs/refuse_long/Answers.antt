@@ -8,7 +8,6 @@ use Rattle.meaning.specs.Answer.{delivered}
 use Rattle.meaning.specs.Place.{nowhere}
 use Rattle.meaning.specs.Line.{spot_text, file_text, refused_line, verdict_line}
 use Rattle.text.specs.Parts.{put_front, put-within, refused-few, refusal-short}
-use borrow.Author.Rules.{rules}
 use Rattle.verdicts.proofs.refuse_long.Goals as goal
 
 pub put_refused-end-requires : goal.put_refused-end-requires

@@ -1,10 +1,8 @@
 -- `words::add`: the loop writes `summed` from the front (`Written`); each word that it reads is still that of before.
 use Prim.Native.Nat.{◌-◌}
-use mathlib.Core.Path.{◌≡◌, refl, sym}
-use native.Mathlib.Omega.{arith}
 use lib.ListN.{length}
-use Rattle.words.specs.Change.{summed, length-summed, get_d-summed}
-use Rattle.words.specs.Written.{Written, written-word, written_next, written-done}
+use Rattle.words.specs.Change.{summed}
+use Rattle.words.specs.Written.{Written}
 use Rattle.words.proofs.add.Given as goal
 
 abbrev pub invariant-loop-i : goal.invariant-loop-i

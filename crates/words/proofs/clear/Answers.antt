@@ -1,9 +1,8 @@
 -- `words::clear`: the loop writes zeros from the front (`Written`).
-use Prim.Native.Nat.{◌-◌}
 use mathlib.Core.Path.{refl, sym}
 use native.Mathlib.Omega.{arith}
-use lib.ListN.{length, replicate, length-replicate, get_or-replicate}
-use Rattle.words.specs.Written.{Written, written_next, written-done}
+use lib.ListN.{length, length-replicate, get_or-replicate}
+use Rattle.words.specs.Written.{written_next, written-done}
 use Rattle.words.proofs.clear.Goals as goal
 
 pub loop-i-init : goal.loop-i-init

@@ -1,9 +1,7 @@
 -- `words::clear`: the loop writes zeros from the front (`Written`).
 use Prim.Native.Nat.{◌-◌}
-use mathlib.Core.Path.{refl, sym}
-use native.Mathlib.Omega.{arith}
-use lib.ListN.{length, replicate, length-replicate, get_or-replicate}
-use Rattle.words.specs.Written.{Written, written_next, written-done}
+use lib.ListN.{length, replicate}
+use Rattle.words.specs.Written.{Written}
 use Rattle.words.proofs.clear.Given as goal
 
 abbrev pub invariant-loop-i : goal.invariant-loop-i

@@ -1,9 +1,7 @@
 -- `words::copy`: the loop writes the other list from the front (`Written`).
-use Prim.Native.Nat.{◌-◌}
 use mathlib.Core.Path.{refl}
 use native.Mathlib.Omega.{arith}
-use lib.ListN.{length}
-use Rattle.words.specs.Written.{Written, written_next, written-done}
+use Rattle.words.specs.Written.{written_next, written-done}
 use Rattle.words.proofs.copy.Goals as goal
 
 pub loop-i-init : goal.loop-i-init

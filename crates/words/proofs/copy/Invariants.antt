@@ -1,9 +1,7 @@
 -- `words::copy`: the loop writes the other list from the front (`Written`).
 use Prim.Native.Nat.{◌-◌}
-use mathlib.Core.Path.{refl}
-use native.Mathlib.Omega.{arith}
 use lib.ListN.{length}
-use Rattle.words.specs.Written.{Written, written_next, written-done}
+use Rattle.words.specs.Written.{Written}
 use Rattle.words.proofs.copy.Given as goal
 
 abbrev pub invariant-loop-i : goal.invariant-loop-i

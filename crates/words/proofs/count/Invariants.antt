@@ -1,12 +1,11 @@
 -- `count` counts from member to member: at each turn the members below the place reached are counted.
-use Prim.Native.Nat.{◌+◌, ◌*◌, ◌-◌}
-use mathlib.Core.Path.{◌≡◌, sym, ap, ◌∙◌}
-use native.Mathlib.Omega.{arith}
+use Prim.Native.Nat.{◌*◌, ◌-◌}
+use mathlib.Core.Path.{◌≡◌}
 use lib.ListN.{length}
 use Rattle.meaning.specs.Limits.{word_bits}
 use Rattle.meaning.specs.Workspace.{has}
 use Rattle.theory.specs.Run.{members}
-use Rattle.words.specs.Members.{Reached, reached, members-few, members-first, members-behind}
+use Rattle.words.specs.Members.{Reached}
 use Rattle.words.proofs.count.Given as goal
 
 abbrev pub invariant-loop-f : goal.invariant-loop-f

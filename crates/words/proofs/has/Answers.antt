@@ -1,7 +1,6 @@
 -- `words::has`: the tested digit is the definition itself.
 use mathlib.Core.Path.{refl}
 use Rattle.meaning.specs.Workspace.{has}
-use borrow.Author.Rules.{rules}
 use Rattle.words.proofs.has.Goals as goal
 
 pub returns : goal.returns

@@ -1,6 +1,5 @@
 -- `include`: a member stays, and what is none is toggled.
-use mathlib.Core.Path.{◌≡◌, sym, ◌∙◌}
-use borrow.Author.Rules.{rules}
+use mathlib.Core.Path.{sym, ◌∙◌}
 use Rattle.words.specs.Change.{included-already, included-now}
 use Rattle.words.proofs.include.Goals as goal
 

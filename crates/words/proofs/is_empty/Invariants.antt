@@ -1,11 +1,9 @@
 -- `words::is_empty`: the words that are done have no member (`Clear`), and a word that is not 0 has one.
 use Prim.Native.Nat.{◌-◌, ◌*◌, ◌≤◌}
-use native.Mathlib.Omega.{arith}
 use lib.ListN.{length}
 use Rattle.meaning.specs.Limits.{word_bits}
 use Rattle.meaning.specs.Workspace.{has}
-use Rattle.theory.specs.Tells.{told-yes, told-no}
-use Rattle.words.specs.Next.{Clear, clear-word, not-empty, all-clear}
+use Rattle.words.specs.Next.{Clear}
 use Rattle.words.proofs.is_empty.Given as goal
 
 abbrev pub invariant-loop-i : goal.invariant-loop-i

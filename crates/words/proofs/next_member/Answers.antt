@@ -1,10 +1,9 @@
 -- `words::next_member`: from `start` on nothing is a member in the words that are done (`Clear`); the lowest one of the first word that is not 0 is next.
-use Prim.Native.Nat.{◌-◌, ◌*◌, ◌/◌, ◌≤◌}
+use Prim.Native.Nat.{◌/◌}
 use native.Mathlib.Omega.{arith}
-use lib.ListN.{length, get_or}
+use lib.ListN.{get_or}
 use lib.Count.{trailing_le}
-use Rattle.meaning.specs.Workspace.{has}
-use Rattle.words.specs.Next.{Clear, rest_of, next-none, next-rest, clear-rest, next_word, clear-word}
+use Rattle.words.specs.Next.{rest_of, next-none, next-rest, clear-rest, next_word, clear-word}
 use Rattle.words.proofs.next_member.Goals as goal
 use Rattle.words.proofs.next_member.Goals.{Then-rest-ne0, Then-word-ne0}
 

@@ -1,10 +1,7 @@
 -- `words::next_shared`: as `next_member`, of the words that two sets have in common.
-use Prim.Native.Nat.{◌-◌, ◌*◌, ◌/◌, ◌≤◌}
-use mathlib.Core.Bool.{◌&&◌}
+use Prim.Native.Nat.{◌/◌}
 use native.Mathlib.Omega.{arith}
-use lib.ListN.{length}
-use Rattle.meaning.specs.Workspace.{has}
-use Rattle.words.specs.Next.{Clear, next-none}
+use Rattle.words.specs.Next.{next-none}
 use Rattle.words.specs.Share.{shared-rest, shared-clear, shared-word, shared-more}
 use Rattle.words.proofs.next_shared.Goals as goal
 use Rattle.words.proofs.next_shared.Goals.{Then-rest-ne0, Then-word-ne0}

@@ -1,11 +1,9 @@
 -- `words::next_shared`: as `next_member`, of the words that two sets have in common.
-use Prim.Native.Nat.{◌-◌, ◌*◌, ◌/◌, ◌≤◌}
+use Prim.Native.Nat.{◌-◌, ◌*◌, ◌≤◌}
 use mathlib.Core.Bool.{◌&&◌}
-use native.Mathlib.Omega.{arith}
 use lib.ListN.{length}
 use Rattle.meaning.specs.Workspace.{has}
-use Rattle.words.specs.Next.{Clear, next-none}
-use Rattle.words.specs.Share.{shared-rest, shared-clear, shared-word, shared-more}
+use Rattle.words.specs.Next.{Clear}
 use Rattle.words.proofs.next_shared.Given as goal
 
 abbrev pub invariant-loop-i : goal.invariant-loop-i

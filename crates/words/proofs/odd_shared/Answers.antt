@@ -1,10 +1,9 @@
 -- `words::odd_shared`: the bits of the sum have the parity of what is shared in the words that are done (`Parity`).
-use Prim.Native.Nat.{◌-◌, ◌^◌, ◌<◌, ◌≤◌}
 use mathlib.Core.Path.{◌≡◌}
 use native.Mathlib.Omega.{arith}
 use lib.ListN.{length}
 use lib.Bits.{xor_lt, and_lt}
-use Rattle.words.specs.Parity.{Parity, parity-start, parity-next, parity-done}
+use Rattle.words.specs.Parity.{parity-start, parity-next, parity-done}
 use Rattle.words.proofs.odd_shared.Goals as goal
 
 pub loop-i-init : goal.loop-i-init

@@ -1,10 +1,7 @@
 -- `words::odd_shared`: the bits of the sum have the parity of what is shared in the words that are done (`Parity`).
 use Prim.Native.Nat.{◌-◌, ◌^◌, ◌<◌, ◌≤◌}
-use mathlib.Core.Path.{◌≡◌}
-use native.Mathlib.Omega.{arith}
 use lib.ListN.{length}
-use lib.Bits.{xor_lt, and_lt}
-use Rattle.words.specs.Parity.{Parity, parity-start, parity-next, parity-done}
+use Rattle.words.specs.Parity.{Parity}
 use Rattle.words.proofs.odd_shared.Given as goal
 
 abbrev pub invariant-loop-i : goal.invariant-loop-i

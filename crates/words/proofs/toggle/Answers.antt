@@ -4,7 +4,6 @@ use native.Mathlib.Omega.{arith}
 use native.Mathlib.Nat.{one-mul, mod-eq_of_lt}
 use lib.Pow.{pow-lt}
 use Rattle.words.specs.Change.{toggled}
-use borrow.Author.Rules.{rules}
 use Rattle.words.proofs.toggle.Goals as goal
 
 pub returns : goal.returns

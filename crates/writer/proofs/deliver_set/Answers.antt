@@ -4,7 +4,6 @@ use mathlib.Core.Path.{◌≡◌, refl, sym, ◌∙◌}
 use mathlib.Core.List.{List, [], append-nil}
 use native.Mathlib.Omega.{arith}
 use lib.ListN.{length, length-append}
-use borrow.Author.Rules.{rules}
 use Rattle.meaning.specs.Limits.{word_bits}
 use Rattle.meaning.specs.Number.{Small}
 use Rattle.meaning.specs.File.{kind_if, list_bytes, mark_bytes, weight_bytes_as}

@@ -1,6 +1,5 @@
 -- `entry_width` adds up the widths of the entry's three numbers.
 use native.Mathlib.Omega.{arith}
-use borrow.Author.Rules.{rules}
 use Rattle.theory.specs.NumberBack.{number-bytes-length}
 use Rattle.theory.specs.Slices.{entry_of}
 use Rattle.writer.specs.Widths.{entry_length}

@@ -3,7 +3,6 @@ use Prim.Native.Nat.{◌+◌, ◌≤◌}
 use mathlib.Core.Path.{◌≡◌}
 use native.Mathlib.Omega.{arith}
 use lib.ListN.{length}
-use borrow.Author.Rules.{rules}
 use Rattle.meaning.specs.File.{kind_if}
 use Rattle.words.specs.Members.{members_in}
 use Rattle.writer.specs.Widths.{four_lists, mark-few, list-few, numbers-few}

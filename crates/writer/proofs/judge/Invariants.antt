@@ -1,10 +1,8 @@
 -- `judge` finds the first fault: at each turn what is left of the list, from the least that is allowed, is judged as the whole list is.
 use Prim.Native.Nat.{◌-◌, ◌≤◌}
-use mathlib.Core.Path.{◌≡◌, refl, sym, ◌∙◌}
-use native.Mathlib.Omega.{arith}
+use mathlib.Core.Path.{◌≡◌}
 use lib.ListN.{length, drop}
 use Rattle.writer.specs.Weights.{weights_judged}
-use Rattle.writer.specs.Judging.{judged-outside, judged-unordered, judged-more, judged-none}
 use Rattle.writer.proofs.judge.Given as goal
 
 abbrev pub invariant-loop-i : goal.invariant-loop-i

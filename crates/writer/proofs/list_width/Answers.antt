@@ -1,7 +1,6 @@
 -- `list_width` adds the width of the count.
 use native.Mathlib.Omega.{arith}
 use lib.ListN.{length}
-use borrow.Author.Rules.{rules}
 use Rattle.meaning.specs.Number.{number_bytes}
 use Rattle.theory.specs.NumberBack.{number-bytes-length}
 use Rattle.writer.specs.Widths.{counted-length, numbers-few}

@@ -1,5 +1,4 @@
 -- `mark_width`: the new kind has the byte of a 0, the old one none.
-use borrow.Author.Rules.{rules}
 use Rattle.writer.proofs.mark_width.Goals as goal
 
 pub returns-then-gapped : goal.returns-then-gapped

@@ -1,17 +1,13 @@
 -- `members_width` adds up widths from member to member: at each turn the bytes of the members ahead make up the rest.
 use Prim.Native.Nat.{◌+◌, ◌*◌, ◌-◌, ◌≤◌}
-use mathlib.Core.Path.{◌≡◌, ap}
-use native.Mathlib.Omega.{arith}
+use mathlib.Core.Path.{◌≡◌}
 use lib.ListN.{length}
 use Rattle.meaning.specs.Limits.{word_bits}
 use Rattle.meaning.specs.Number.{number_bytes}
 use Rattle.meaning.specs.File.{kind_if, bytes_of, numbers_for}
 use Rattle.meaning.specs.Workspace.{has}
-use Rattle.theory.specs.ReadBack.{said_as, numbers-length}
-use Rattle.theory.specs.NumberBack.{number-bytes-length}
-use Rattle.words.specs.Members.{Reached, reached, members-few, members_in}
-use Rattle.writer.specs.Widths.{numbers-few, part_length}
-use Rattle.writer.specs.Walk.{said-most, ahead, ahead-first, ahead-next, ahead_none}
+use Rattle.words.specs.Members.{Reached, members_in}
+use Rattle.writer.specs.Walk.{ahead}
 use Rattle.writer.proofs.members_width.Given as goal
 
 abbrev pub invariant-loop-f : goal.invariant-loop-f

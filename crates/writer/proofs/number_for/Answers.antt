@@ -1,5 +1,4 @@
 -- `number_for`: the feature itself, or how far it is above the least.
-use borrow.Author.Rules.{rules}
 use Rattle.writer.proofs.number_for.Goals as goal
 
 pub returns-then-gapped : goal.returns-then-gapped

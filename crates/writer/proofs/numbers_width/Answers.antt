@@ -1,10 +1,8 @@
 -- `numbers_width` adds up widths: at each turn the bytes of what is left make up the rest.
-use Prim.Native.Nat.{◌+◌, ◌-◌, ◌≤◌}
-use mathlib.Core.Path.{◌≡◌, ap}
+use mathlib.Core.Path.{ap}
 use native.Mathlib.Omega.{arith}
-use lib.ListN.{length, drop}
+use lib.ListN.{length}
 use Rattle.meaning.specs.Number.{number_bytes}
-use Rattle.meaning.specs.File.{bytes_of}
 use Rattle.writer.specs.Widths.{bytes-none, numbers-few, width-more}
 use Rattle.writer.proofs.numbers_width.Goals as goal
 

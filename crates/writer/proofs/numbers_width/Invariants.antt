@@ -1,11 +1,9 @@
 -- `numbers_width` adds up widths: at each turn the bytes of what is left make up the rest.
 use Prim.Native.Nat.{◌+◌, ◌-◌, ◌≤◌}
-use mathlib.Core.Path.{◌≡◌, ap}
-use native.Mathlib.Omega.{arith}
+use mathlib.Core.Path.{◌≡◌}
 use lib.ListN.{length, drop}
 use Rattle.meaning.specs.Number.{number_bytes}
 use Rattle.meaning.specs.File.{bytes_of}
-use Rattle.writer.specs.Widths.{bytes-none, numbers-few, width-more}
 use Rattle.writer.proofs.numbers_width.Given as goal
 
 abbrev pub invariant-loop-i : goal.invariant-loop-i

@@ -1,9 +1,9 @@
 -- `operator_width` adds up the widths of the count and of the entries: at each turn the bytes of the entries left make up the rest.
-use Prim.Native.Nat.{◌+◌, ◌-◌, ◌≤◌}
-use mathlib.Core.Path.{◌≡◌, ap}
+use Prim.Native.Nat.{◌≤◌}
+use mathlib.Core.Path.{ap}
 use native.Mathlib.Omega.{arith}
-use lib.ListN.{length, drop}
-use Rattle.meaning.specs.File.{bytes_of, entry_bytes, operator_bytes}
+use lib.ListN.{length}
+use Rattle.meaning.specs.File.{entry_bytes}
 use Rattle.theory.specs.Slices.{entries_in, length-held}
 use Rattle.writer.specs.Widths.{bytes-none, operator-length, operator-few, entry-width-more, triple-at}
 use Rattle.writer.proofs.operator_width.Goals as goal

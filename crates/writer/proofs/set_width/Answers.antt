@@ -3,7 +3,6 @@ use Prim.Native.Nat.{◌*◌}
 use mathlib.Core.Path.{ap}
 use native.Mathlib.Omega.{arith}
 use lib.ListN.{length}
-use borrow.Author.Rules.{rules}
 use Rattle.meaning.specs.Limits.{word_bits}
 use Rattle.meaning.specs.Number.{number_bytes}
 use Rattle.meaning.specs.File.{kind_if}

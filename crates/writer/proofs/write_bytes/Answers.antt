@@ -1,9 +1,8 @@
 -- `write_bytes`: the loop copies byte after byte (`paste` of the standard laws).
-use Prim.Native.Nat.{◌-◌, ◌≤◌}
-use mathlib.Core.Path.{◌≡◌, refl}
+use mathlib.Core.Path.{refl}
 use native.Mathlib.Omega.{arith}
-use lib.ListN.{length, length-set}
-use lib.Seq.{paste, paste-zero}
+use lib.ListN.{length-set}
+use lib.Seq.{paste-zero}
 use Rattle.writer.specs.Copied.{copied_next, copied_all}
 use Rattle.writer.proofs.write_bytes.Goals as goal
 

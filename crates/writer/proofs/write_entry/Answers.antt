@@ -2,7 +2,6 @@
 use mathlib.Core.Path.{refl, sym}
 use mathlib.Core.List.{[], ◌++◌, append-nil}
 use native.Mathlib.Omega.{arith}
-use borrow.Author.Rules.{rules}
 use Rattle.meaning.specs.Number.{number_bytes}
 use Rattle.meaning.specs.File.{entry_bytes}
 use Rattle.theory.specs.Slices.{entry_of}

@@ -3,7 +3,6 @@ use Prim.Native.Nat.{ℕ}
 use mathlib.Core.Path.{refl, sym}
 use mathlib.Core.List.{List, [], ◌++◌, append-nil}
 use native.Mathlib.Omega.{arith}
-use borrow.Author.Rules.{rules}
 use Rattle.meaning.specs.Number.{number_bytes}
 use Rattle.meaning.specs.File.{kind_if, bytes_of, counted, list_bytes, mark_bytes}
 use Rattle.words.specs.Members.{members_in}

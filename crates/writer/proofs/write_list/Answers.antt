@@ -3,7 +3,6 @@ use mathlib.Core.Path.{refl, sym}
 use mathlib.Core.List.{[], append-nil}
 use native.Mathlib.Omega.{arith}
 use lib.ListN.{length}
-use borrow.Author.Rules.{rules}
 use Rattle.meaning.specs.Number.{number_bytes}
 use Rattle.meaning.specs.File.{bytes_of, counted}
 use Rattle.writer.specs.Widths.{counted-length}

@@ -2,7 +2,6 @@
 use mathlib.Core.Path.{refl, ap}
 use native.Mathlib.Omega.{arith}
 use lib.ListN.{length}
-use borrow.Author.Rules.{rules}
 use Rattle.meaning.specs.File.{kind_if, mark_bytes}
 use Rattle.writer.proofs.write_mark.Goals as goal
 

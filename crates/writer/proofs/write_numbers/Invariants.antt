@@ -1,11 +1,9 @@
 -- `write_numbers` writes a number at each turn: the bytes of the numbers left are what remains.
 use Prim.Native.Nat.{◌-◌, ◌≤◌}
-use native.Mathlib.Omega.{arith}
-use lib.ListN.{length, get_or, drop}
+use lib.ListN.{length, drop}
 use Rattle.meaning.specs.Number.{number_bytes}
 use Rattle.meaning.specs.File.{bytes_of}
-use Rattle.writer.specs.Widths.{bytes-more, bytes-none}
-use Rattle.writer.specs.Remains.{Remains, remains-all, part-fits, remains-after, remains-none}
+use Rattle.writer.specs.Remains.{Remains}
 use Rattle.writer.proofs.write_numbers.Given as goal
 
 abbrev pub invariant-loop-i : goal.invariant-loop-i

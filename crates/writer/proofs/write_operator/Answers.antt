@@ -1,9 +1,9 @@
 -- `write_operator` writes the count, and then an entry at each turn: the bytes of the entries left are what remains.
-use Prim.Native.Nat.{◌-◌, ◌≤◌}
+use Prim.Native.Nat.{◌≤◌}
 use mathlib.Core.List.{[], append-nil}
 use mathlib.Core.Path.{refl, sym, ◌∙◌}
 use native.Mathlib.Omega.{arith}
-use lib.ListN.{length, drop}
+use lib.ListN.{length}
 use Rattle.meaning.specs.Number.{number_bytes}
 use Rattle.meaning.specs.File.{bytes_of, entry_bytes, operator_bytes}
 use Rattle.theory.specs.Slices.{entry_in, entries_in, length-held}
@@ -18,7 +18,7 @@ write_number-next-requires c =
     (c.requires.0.0.0, omega (arith, c.requires.1, operator-length a.variables.now a.befores.now a.afters.now))
 
 -- After the count the entries remain.
-after-count : (c : After-write_number-next) → 
+after-count : (c : After-write_number-next) →
     let a = c.args in
     let o = entries_in a.variables.now a.befores.now a.afters.now in
     Remains a.room.now a.at (operator_bytes o) c.write_number-next.new.room c.write_number-next.result (bytes_of entry_bytes o)

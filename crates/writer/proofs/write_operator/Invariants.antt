@@ -1,14 +1,9 @@
 -- `write_operator` writes the count, and then an entry at each turn: the bytes of the entries left are what remains.
 use Prim.Native.Nat.{◌-◌, ◌≤◌}
-use mathlib.Core.List.{[], append-nil}
-use mathlib.Core.Path.{refl, sym, ◌∙◌}
-use native.Mathlib.Omega.{arith}
 use lib.ListN.{length, drop}
-use Rattle.meaning.specs.Number.{number_bytes}
-use Rattle.meaning.specs.File.{bytes_of, entry_bytes, operator_bytes}
-use Rattle.theory.specs.Slices.{entry_in, entries_in, length-held}
-use Rattle.writer.specs.Widths.{bytes-none, operator-length, operator-split, entries-more, triple-at}
-use Rattle.writer.specs.Remains.{Remains, remains-all, part-fits, remains-after, remains-none}
+use Rattle.meaning.specs.File.{bytes_of, entry_bytes}
+use Rattle.theory.specs.Slices.{entries_in}
+use Rattle.writer.specs.Remains.{Remains}
 use Rattle.writer.proofs.write_operator.Given as goal
 
 abbrev pub invariant-loop-i : goal.invariant-loop-i

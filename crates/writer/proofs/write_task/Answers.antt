@@ -10,7 +10,6 @@ use Rattle.writer.specs.Widths.{four_lists}
 use Rattle.writer.specs.Answer.{refused-so}
 use Rattle.writer.specs.Remains.{delivered-small}
 use Rattle.writer.specs.TaskFile.{file_bytes, file-length, file-few, file-delivered}
-use borrow.Author.Rules.{rules}
 use Rattle.writer.proofs.write_task.Goals as goal
 use Rattle.writer.proofs.write_task.Goals.{After-width, Else-room-front, Start}
 

@@ -1,7 +1,6 @@
 -- `write_weights` refuses what is judged faulty and what has no room, and otherwise writes the list at the front.
 use mathlib.Core.Path.{◌≡◌, sym, ap, ◌∙◌}
 use native.Mathlib.Omega.{arith}
-use borrow.Author.Rules.{rules}
 use Rattle.meaning.specs.Number.{Small, number_bytes}
 use Rattle.meaning.specs.File.{counted, weight_bytes}
 use Rattle.meaning.specs.Answer.{fine}

@@ -1,7 +1,6 @@
 -- `file_end`: a byte is below 256, so that no number here is too large.
 use Prim.Native.Nat.{◌+◌}
 use native.Mathlib.Omega.{arith}
-use borrow.Author.Rules.{rules}
 use Rattle.cases.proofs.file_end.Goals as goal
 
 pub overflow_cast-high : goal.overflow_cast-high

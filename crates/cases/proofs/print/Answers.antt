@@ -5,7 +5,6 @@ use Rattle.meaning.specs.Answer.{Checks}
 use Rattle.meaning.specs.Line.{checked_spot, verdict_line}
 use Rattle.text.specs.Answer.{line-of-ends}
 use Rattle.verdicts.specs.Fits.{verdict_bytes}
-use borrow.Author.Rules.{rules}
 use Rattle.cases.proofs.print.Goals as goal
 
 pub line_in-requires : goal.line_in-requires

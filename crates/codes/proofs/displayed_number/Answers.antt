@@ -3,7 +3,6 @@ use mathlib.Core.Path.{ap, sym, ◌∙◌, subst}
 use native.Mathlib.Omega.{arith}
 use Rattle.showing.specs.Answer.{displayed_of}
 use Rattle.codes.specs.Code.{number_of, answer_code, holder_code, Fits}
-use borrow.Author.Rules.{rules}
 use Rattle.codes.proofs.displayed_number.Goals as goal
 
 pub coded-requires-in-Refused : goal.coded-requires-in-Refused

@@ -3,7 +3,6 @@ use mathlib.Core.Path.{ap, sym, ◌∙◌, subst}
 use native.Mathlib.Omega.{arith}
 use Rattle.editing.specs.Answers.{edited_of}
 use Rattle.codes.specs.Code.{number_of, answer_code, edit_code, Fits}
-use borrow.Author.Rules.{rules}
 use Rattle.codes.proofs.edited_number.Goals as goal
 
 pub coded-requires-in-Refused : goal.coded-requires-in-Refused

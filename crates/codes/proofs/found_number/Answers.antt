@@ -3,7 +3,6 @@ use mathlib.Core.Path.{ap, sym, ◌∙◌, subst}
 use native.Mathlib.Omega.{arith}
 use Rattle.finding.specs.Found.{found_of}
 use Rattle.codes.specs.Code.{number_of, answer_code, finding_code, Fits}
-use borrow.Author.Rules.{rules}
 use Rattle.codes.proofs.found_number.Goals as goal
 
 pub coded-requires-in-Refused : goal.coded-requires-in-Refused

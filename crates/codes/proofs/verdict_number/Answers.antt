@@ -3,7 +3,6 @@ use mathlib.Core.Path.{ap, sym, ◌∙◌, subst}
 use native.Mathlib.Omega.{arith}
 use Rattle.checking.specs.Answer.{verdict_of}
 use Rattle.codes.specs.Code.{number_of, answer_code, verdict_code, Fits}
-use borrow.Author.Rules.{rules}
 use Rattle.codes.proofs.verdict_number.Goals as goal
 
 pub coded-requires-in-Operator : goal.coded-requires-in-Operator

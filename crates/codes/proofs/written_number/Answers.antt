@@ -3,7 +3,6 @@ use mathlib.Core.Path.{ap, sym, ◌∙◌, subst}
 use native.Mathlib.Omega.{arith}
 use Rattle.writer.specs.Answer.{written_of}
 use Rattle.codes.specs.Code.{number_of, answer_code, length_code, Fits}
-use borrow.Author.Rules.{rules}
 use Rattle.codes.proofs.written_number.Goals as goal
 
 pub coded-requires : goal.coded-requires

@@ -4,7 +4,6 @@ use lib.ListN.{take, replicate}
 use Rattle.meaning.specs.Line.{Prints, printed_spot, line}
 use Rattle.text.specs.Answer.{line-of-ends}
 use Rattle.line.specs.Fits.{line_bytes}
-use borrow.Author.Rules.{rules}
 use Rattle.finder.proofs.main.Goals as goal
 
 pub line_in-requires : goal.line_in-requires

@@ -3,7 +3,6 @@ use Rattle.meaning.specs.Answer.{add_operator, Edits}
 use Rattle.editing.specs.Answers.{edited_of}
 use Rattle.florumeja.specs.Fits.{edits-fit}
 use Rattle.florumeja.specs.Places.{handed, edits-same}
-use borrow.Author.Rules.{rules}
 use Rattle.florumeja.proofs.florumeja_add_operator.Goals as goal
 use Rattle.florumeja.proofs.florumeja_add_operator.Goals.{After-add_operator}
 

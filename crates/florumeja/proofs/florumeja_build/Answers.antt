@@ -1,7 +1,6 @@
 -- `florumeja_build`: the value fits, so that the number says the answer.
 use Rattle.writer.specs.Answer.{outcome_of}
 use Rattle.florumeja.specs.Fits.{builds-fit}
-use borrow.Author.Rules.{rules}
 use Rattle.florumeja.proofs.florumeja_build.Goals as goal
 
 pub written_number-requires : goal.written_number-requires

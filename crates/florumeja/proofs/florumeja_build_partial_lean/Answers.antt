@@ -2,7 +2,6 @@
 use Rattle.meaning.specs.Partial.{left_out_lean}
 use Rattle.writer.specs.Answer.{outcome_of}
 use Rattle.florumeja.specs.Fits.{builds-partial-fit}
-use borrow.Author.Rules.{rules}
 use Rattle.florumeja.proofs.florumeja_build_partial_lean.Goals as goal
 
 pub written_number-requires : goal.written_number-requires

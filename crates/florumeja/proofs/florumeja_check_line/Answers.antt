@@ -2,7 +2,6 @@
 use native.Mathlib.Omega.{arith}
 use Rattle.writer.specs.Answer.{outcome_of}
 use Rattle.florumeja.specs.Fits.{verdict-lines-fit}
-use borrow.Author.Rules.{rules}
 use Rattle.florumeja.proofs.florumeja_check_line.Goals as goal
 
 pub written_number-requires : goal.written_number-requires

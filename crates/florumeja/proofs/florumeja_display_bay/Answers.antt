@@ -2,7 +2,6 @@
 use Rattle.meaning.specs.Place.{shown_bay}
 use Rattle.showing.specs.Answer.{leaving_of}
 use Rattle.florumeja.specs.Fits.{displays-fit}
-use borrow.Author.Rules.{rules}
 use Rattle.florumeja.proofs.florumeja_display_bay.Goals as goal
 
 pub displayed_number-requires : goal.displayed_number-requires

@@ -3,7 +3,6 @@ use Rattle.meaning.specs.File.{gapped}
 use Rattle.meaning.specs.Place.{shown_as}
 use Rattle.showing.specs.Answer.{leaving_of}
 use Rattle.florumeja.specs.Fits.{displays-fit}
-use borrow.Author.Rules.{rules}
 use Rattle.florumeja.proofs.florumeja_display_new.Goals as goal
 
 pub displayed_number-requires : goal.displayed_number-requires

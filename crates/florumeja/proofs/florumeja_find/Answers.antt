@@ -1,6 +1,5 @@
 -- `florumeja_find`: the value fits, so that the number says the answer.
 use Rattle.florumeja.specs.Fits.{finds-fit}
-use borrow.Author.Rules.{rules}
 use Rattle.florumeja.proofs.florumeja_find.Goals as goal
 
 pub found_number-requires : goal.found_number-requires

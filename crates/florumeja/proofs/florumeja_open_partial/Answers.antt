@@ -1,7 +1,6 @@
 -- `florumeja_open_partial`: the value fits, so that the number says the answer.
 use Rattle.opening.specs.Answer.{opened_of}
 use Rattle.florumeja.specs.Fits.{opens-partial-fit}
-use borrow.Author.Rules.{rules}
 use Rattle.florumeja.proofs.florumeja_open_partial.Goals as goal
 
 pub opened_number-requires : goal.opened_number-requires

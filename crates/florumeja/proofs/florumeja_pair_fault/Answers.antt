@@ -1,7 +1,6 @@
 -- `florumeja_pair_fault`: the value fits, so that the number says the answer.
 use Rattle.mending.specs.Answer.{fault_of}
 use Rattle.florumeja.specs.Fits.{faults-fit}
-use borrow.Author.Rules.{rules}
 use Rattle.florumeja.proofs.florumeja_pair_fault.Goals as goal
 
 pub fault_number-requires : goal.fault_number-requires

@@ -2,7 +2,6 @@
 use Rattle.meaning.specs.Answer.{replace_goal}
 use Rattle.editing.specs.Answers.{edited_of}
 use Rattle.florumeja.specs.Fits.{edits-fit}
-use borrow.Author.Rules.{rules}
 use Rattle.florumeja.proofs.florumeja_replace_goal.Goals as goal
 
 pub edited_number-requires : goal.edited_number-requires

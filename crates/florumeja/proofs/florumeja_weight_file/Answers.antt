@@ -2,7 +2,6 @@
 use Rattle.words.specs.Members.{members_in}
 use Rattle.writer.specs.Answer.{outcome_of}
 use Rattle.florumeja.specs.Fits.{writes-fit}
-use borrow.Author.Rules.{rules}
 use Rattle.florumeja.proofs.florumeja_weight_file.Goals as goal
 
 pub written_number-requires : goal.written_number-requires

@@ -2,7 +2,6 @@
 use Rattle.meaning.specs.File.{gapped}
 use Rattle.writer.specs.Answer.{outcome_of}
 use Rattle.florumeja.specs.Fits.{converts-weights-fit}
-use borrow.Author.Rules.{rules}
 use Rattle.florumeja.proofs.florumeja_weights_to_new.Goals as goal
 
 pub written_number-requires : goal.written_number-requires

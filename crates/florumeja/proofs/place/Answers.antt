@@ -1,7 +1,6 @@
 -- `place`: past the end there is nothing.
 use mathlib.Core.Path.{sym}
 use lib.ListN.{get_or-eq_default}
-use borrow.Author.Rules.{rules}
 use Rattle.florumeja.proofs.place.Goals as goal
 
 pub returns-then-words-i : goal.returns-then-words-i

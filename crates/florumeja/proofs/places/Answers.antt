@@ -1,11 +1,8 @@
 -- `places`: each turn copies one more place.
-use Prim.Native.Nat.{◌-◌, ◌≤◌}
-use mathlib.Core.Path.{◌≡◌, refl}
+use mathlib.Core.Path.{refl}
 use native.Mathlib.Omega.{arith}
-use lib.ListN.{length, length-set}
-use borrow.Author.Rules.{rules}
-use Rattle.meaning.specs.Limits.{most_variables}
-use Rattle.florumeja.specs.Places.{SamePlaces, place-copied}
+use lib.ListN.{length-set}
+use Rattle.florumeja.specs.Places.{place-copied}
 use Rattle.florumeja.proofs.places.Goals as goal
 
 pub loop-i-init : goal.loop-i-init

@@ -1,11 +1,9 @@
 -- `places`: each turn copies one more place.
 use Prim.Native.Nat.{◌-◌, ◌≤◌}
-use mathlib.Core.Path.{◌≡◌, refl}
-use native.Mathlib.Omega.{arith}
-use lib.ListN.{length, length-set}
-use borrow.Author.Rules.{rules}
+use mathlib.Core.Path.{◌≡◌}
+use lib.ListN.{length}
 use Rattle.meaning.specs.Limits.{most_variables}
-use Rattle.florumeja.specs.Places.{SamePlaces, place-copied}
+use Rattle.florumeja.specs.Places.{SamePlaces}
 use Rattle.florumeja.proofs.places.Given as goal
 
 abbrev pub invariant-loop-i : goal.invariant-loop-i

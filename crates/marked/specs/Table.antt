@@ -63,12 +63,3 @@ pub tells-right : (c : Case) → Tells (right? c) (Right c)
 unfolding right?
 tells-right (finds task answer) = tells-says task answer
 tells-right (checks task weights answer) = tells-checks task weights answer
-
--- All twelve pass, by computing.
-computed : all_of right? marked ≡ true
-unfolding marked right? computing
-computed = refl
-
--- The single theorem: every marked case has its outcome by the definitions.
-pub marked-right : (c : Case) → In c marked → Right c
-marked-right c m = (tells-right c).yes (all-at right? marked computed c m)

@@ -16,7 +16,8 @@ use Rattle.meaning.specs.Place.{nowhere}
 use Rattle.meaning.specs.Line.{separating, Says, Prints, digits, word, words_in, line}
 use Rattle.meaning.specs.Bay.{Bay, judged_bay, bay_task, Builds}
 use Rattle.marked.specs.Decide.{tells-says, tells-checks, computing, bays, slots_in, slots?, slots-of}
-use Rattle.marked.specs.Table.{finds, file_b, marked, marked-right}
+use Rattle.marked.specs.Table.{finds, file_b, marked}
+use Rattle.marked.proofs.Table.{marked-right}
 
 -- To name one of these on an `unfolding` line opens what the bytes of a task, the words of a workspace, a bay are computed with.
 writing : Unit {0}

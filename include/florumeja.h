@@ -20,12 +20,12 @@
  * Nothing is kept between calls and nothing is allocated. The most stack that a call can take, in bytes, whatever its input, as bench/stack reads it from
  * the compiled archive (measured, not proved; what memcpy and memset of the C library take comes on top):
  *
- *   line             84872      check_partial, check_partial_new   23112      weights_to_new, weights_to_old  19248      replace_start  4544
- *   open_partial     29232      build_partial, build_partial_lean  20992      add_operator                    18840      replace_goal   4496
- *   display_partial  24992      mend, dropped                      20832      silence                         15616      display_bay     864
- *   open             23608      pair_fault                         19296      to_new, to_old                  15152      weight_file      72
- *   check_line       23288      display, display_new               19248      find                             8736
- *   check, check_new 23144                                                    build                            5440
+ *   line             83104      check_partial, check_partial_new   21248      weights_to_new, weights_to_old  17520      replace_start  4504
+ *   open_partial     27328      build_partial, build_partial_lean  19168      add_operator                    16528      replace_goal   4392
+ *   display_partial  23200      mend, dropped                      24352      silence                         13984      display_bay     640
+ *   open             21840      pair_fault                         16576      to_new, to_old                  13424      weight_file      56
+ *   check_line       21408      display, display_new               17520      find                             8536
+ *   check, check_new 21296                                                    build                            5184
  *
  * Each call answers one number, case * 2^32 + value; take it apart by florumeja_case and florumeja_value:
  *

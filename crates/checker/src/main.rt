@@ -65,35 +65,32 @@ fn failed_by(what: &[u8], error: &Error) -> Loaded
     failed(what, why.as_bytes())
 }
 
-// Reads an open file as far as there is room, and answers how many bytes it has till then; where a read fails, with its fault.
-fn fill(file: &mut File, bytes: &mut [u8]) -> (usize, Option<Error>)
-    ensures { IsPrefixLen result.0 bytes.new }
+// Reads an open file as far as there is room, and answers how many bytes it has till it ends or a read fails.
+fn fill(file: &mut File, bytes: &mut [u8]) -> usize
+    ensures { IsPrefixLen result bytes.new }
 {
     let mut count = 0;
     while count < bytes.len() {
         match file.read(&mut bytes[count..]) {
             Ok(0) => {
-                return (count, None);
+                return count;
             }
             Ok(more) => {
                 count += more;
             }
-            Err(error) => {
-                return (count, Some(error));
+            Err(_) => {
+                return count;
             }
         }
     }
-    (count, None)
+    count
 }
 
-// Reads an open file. Where a read fails nothing is loaded.
+// Reads an open file. Where a read fails fewer bytes are counted, and the next read fails too.
 fn read(file: &mut File, path: &[u8], bytes: &mut [u8]) -> Loaded
     ensures { IsPrefixLen result.count bytes.new }
 {
-    let (count, fault) = fill(file, bytes);
-    if let Some(error) = fault {
-        return failed_by(path, &error);
-    }
+    let count = fill(file, bytes);
     let mut next = [0u8; 1];
     if let Err(error) = file.read(&mut next) {
         return failed_by(path, &error);

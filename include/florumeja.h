@@ -20,12 +20,12 @@
  * Nothing is kept between calls and nothing is allocated. The most stack that a call can take, in bytes, whatever its input, as bench/stack reads it from
  * the compiled archive (measured, not proved; what memcpy and memset of the C library take comes on top):
  *
- *   line             83104      check_partial, check_partial_new   21248      weights_to_new, weights_to_old  17520      replace_start  4504
- *   open_partial     27328      build_partial, build_partial_lean  19168      add_operator                    16528      replace_goal   4392
- *   display_partial  23200      mend, dropped                      24352      silence                         13984      display_bay     640
- *   open             21840      pair_fault                         16576      to_new, to_old                  13424      weight_file      56
- *   check_line       21408      display, display_new               17520      find                             8536
- *   check, check_new 21296                                                    build                            5184
+ *   line             85128      check, check_new                   23240      display, display_new             19280      find           8536
+ *   display_partial  25120      check_partial, check_partial_new   23128      weights_to_new, weights_to_old   19280      build          6144
+ *   open             23816      build_partial, build_partial_lean  21312      add_operator                    17304      replace_start  4536
+ *   open_partial     23720      pair_fault                         19968      silence                         15712      replace_goal   4536
+ *   check_line       23384      mend, dropped                      19376      to_new, to_old                  15200      display_bay    1232
+ *                                                                                                                     weight_file      64
  *
  * Each call answers one number, case * 2^32 + value; take it apart by florumeja_case and florumeja_value:
  *

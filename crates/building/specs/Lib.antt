@@ -1,4 +1,3 @@
 pub mod Answers
 pub mod Labels
-pub mod Sides
 pub mod Outcomes

@@ -1,10 +1,9 @@
 -- What comes of a bay file, in the steps of the code: what is read or judged decides, or what is read next.
-use Rattle.std.specs.Prelude.{ℕ, suc, ◌*◌, ◌<◌, ◌≤◌, ◌≡◌, Bool, true, false, cond, List, length}
+use Rattle.std.specs.Prelude.{ℕ, suc, ◌*◌, ◌<◌, ◌≤◌, ◌≡◌, Bool, true, false, cond, List, ◌++◌, length, take}
 use Rattle.std.proofs.Math.Path.{refl, ap, fun_ext}
-use Rattle.std.proofs.Common.{sym, ◌∙◌, subst, arith, mul-le-mul}
+use Rattle.std.proofs.Common.{sym, ◌∙◌, subst, arith, mul-le-mul, take_at}
 use borrow.Author.Tests.{lt-leb, le-leb, lt-ltb, le-ltb}
 use Rattle.meaning.specs.Limits.{least_side, most_side, least_slots, most_slots}
-use Rattle.meaning.specs.Task.{State}
 use Rattle.meaning.specs.Number.{Reason, Limit, LeftOver, Gaps, Unequal, Read, got, fault, on_read, numbers_on}
 use Rattle.meaning.specs.File.{inside, judge, limited, ended, values_of}
 use Rattle.meaning.specs.Answer.{Outcome}
@@ -13,22 +12,18 @@ use Rattle.meaning.specs.Place.{Spot, nowhere, in_task, fault_spot, spot_alone}
 use Rattle.theory.specs.Reading.{got-value, on-got, on-on, item-read}
 use Rattle.theory.specs.Parts.{item-said, values-said}
 use Rattle.theory.specs.BayMoves.{bay-length}
-use Rattle.theory.specs.BayTask.{sides-said}
+use Rattle.theory.specs.BayTask.{ReadableBay, sides-said}
 use Rattle.sliding.specs.Parts.{built_in}
 use Rattle.sliding.specs.Readers.{near_table, task-table, made_of, made_so, built-made}
-use Rattle.number.specs.Answers.{reason_of}
-use Rattle.number.specs.declared.Reason as number
-use Rattle.number.specs.declared.Step.{Step}
-use Rattle.number.specs.declared.Step.TheVariants.{Next, Fault}
-use Rattle.building.specs.Answers.{SidesKnown, bay_with, labels_read, labelled, bay_behind, judged}
+use Rattle.building.specs.Answers.{bay_with, labelled, judged}
 
 -- ---- labels are judged
 
-module _ (rows columns : ℕ) (start goal : List ℕ) (state : State (bay_sizes (rows * columns)) start) where
-  pub built-judged : (near room : List ℕ) (next : ℕ) → near ≡ near_table (rows * columns * (rows * columns)) (rows * columns) (neighbours columns)
-      → built_in near start goal room ≡ made_of bay_task (judged (got (bay_with rows columns start goal) next)) room
-  built-judged near room next e = let long = bay-length (rows * columns) start state in
-      built-made bay_task near start goal room (rows * columns) (bay_with rows columns start goal) next long (rw e (task-table (rows * columns) (neighbours columns) start goal long))
+module _ (b : Bay) (readable : ReadableBay b) where
+  pub built-judged : (near room : List ℕ) (next : ℕ) → near ≡ near_table (slot_count b * slot_count b) (slot_count b) (neighbours b.columns)
+      → built_in near b.start b.goal room ≡ made_of bay_task (judged (got b next)) room
+  built-judged near room next e = let n = slot_count b in let long = bay-length n b.start readable.start-state in
+      built-made bay_task near b.start b.goal room n b next long (rw e (task-table n (neighbours b.columns) b.start b.goal long))
 
 -- ---- what stands behind the sides
 
@@ -51,27 +46,16 @@ module _ (n : ℕ) (bytes : List ℕ) (at : ℕ) where
       unfolding labelled ended judge
       labelled-whole h = rw (e, q, le-leb (length bytes) end h) refl
 
--- What an answer tells of labels, and of the bay that they make.
-module _ (answer : Step) (start goal : List ℕ) (rows columns : ℕ) (bytes : List ℕ) (at : ℕ) (read : labels_read answer start goal ≡ labelled (rows * columns) bytes at) where
-  pub labels-told : (next : ℕ) → answer ≡ Next next → labelled (rows * columns) bytes at ≡ got (start, goal) next
-  labels-told next e = sym read ∙ ap (λ r. labels_read r start goal) e
-
-  pub bay-read : (next : ℕ) → answer ≡ Next next → bay_behind rows columns bytes at ≡ got (bay_with rows columns start goal) next
-  bay-read next e = rw (labels-told next e) refl
-
-  pub bay-faulted : (reason : number.Reason) (place : ℕ) → answer ≡ Fault reason place → bay_behind rows columns bytes at ≡ fault (reason_of reason) place
-  bay-faulted reason place e = rw (sym read ∙ ap (λ r. labels_read r start goal) e) refl
-
--- Labels that were read are values of the slots.
-pub labels-states : (n : ℕ) (bytes : List ℕ) (at : ℕ) (start goal : List ℕ) (next : ℕ) → labelled n bytes at ≡ got (start, goal) next → State (bay_sizes n) start × State (bay_sizes n) goal
+-- As many labels were read as there are slots.
+labels-long : (n : ℕ) (bytes : List ℕ) (at : ℕ) (start goal : List ℕ) (next : ℕ) → labelled n bytes at ≡ got (start, goal) next → (length start ≡ n) × (length goal ≡ n)
 unfolding labelled
-labels-states n bytes at start goal next e =
+labels-long n bytes at start goal next e =
     let (s, middle, p, q) = on-got (values_of (bay_sizes n) bytes at) _ (start, goal) next e in
     let (g, end, r, t) = on-got (values_of (bay_sizes n) bytes middle) _ (start, goal) next q in
     let (u, last, w, z) = on-got (ended bytes end) _ (start, goal) next t in
     let same : ◌≡◌ {A = List ℕ × List ℕ} (s, g) (start, goal) = got-value z in
-    subst (λ (labels : List ℕ × List ℕ). State (bay_sizes n) labels.0 × State (bay_sizes n) labels.1) same
-    (((values-said bytes (bay_sizes n)).gives at s middle p).known.0, ((values-said bytes (bay_sizes n)).gives middle g end r).known.0)
+    subst (λ (labels : List ℕ × List ℕ). (length labels.0 ≡ n) × (length labels.1 ≡ n)) same
+    (bay-length n s ((values-said bytes (bay_sizes n)).gives at s middle p).known.0, bay-length n g ((values-said bytes (bay_sizes n)).gives middle g end r).known.0)
 
 -- ---- the sides
 
@@ -80,7 +64,7 @@ module _ (bytes : List ℕ) where
   abbrev pub side_at : ℕ → Read ℕ
   side_at place = side bytes place
 
-  pub side-limit : (place n next : ℕ) → side_at place ≡ got n next → (least_side ≤ n) × (n ≤ most_side)
+  side-limit : (place n next : ℕ) → side_at place ≡ got n next → (least_side ≤ n) × (n ≤ most_side)
   side-limit place n next e = let known = ((item-said bytes least_side (suc most_side) Limit).gives place n next e).known in (known.0, omega (arith, known.1))
 
   pub rows-fault : (reason : Reason) (place : ℕ) → side_at 0 ≡ fault reason place → fault reason place ≡ sides_of bytes 0
@@ -113,21 +97,33 @@ module _ (bytes : List ℕ) where
       unfolding sides_of limited
       sides-read h k = rw (e, q, le-leb least_slots (rows * columns) h, lt-ltb (rows * columns) (suc most_slots) (omega arith)) refl
 
-  pub sides-known : (rows columns after : ℕ) → sides_of bytes 0 ≡ got (rows, columns) after → SidesKnown rows columns
-  sides-known rows columns after e = ((sides-said bytes).gives 0 (rows, columns) after e).known
-
   -- A fault of the sides is the file's.
-  pub sides-faulted : (reason : Reason) (place : ℕ) → sides_of bytes 0 ≡ fault reason place → bay_of bytes 0 ≡ fault reason place
+  pub sides-unread : (reason : Reason) (place : ℕ) → fault reason place ≡ sides_of bytes 0 → bay_of bytes 0 ≡ fault reason place
   unfolding bay_of
-  sides-faulted reason place e = rw e refl
+  sides-unread reason place e = rw (← e) refl
 
-  -- The labels behind the sides make the bay.
-  pub sides-made : (rows columns after : ℕ) → sides_of bytes 0 ≡ got (rows, columns) after → bay_of bytes 0 ≡ bay_behind rows columns bytes after
-  unfolding bay_of labelled
-  sides-made rows columns after e =
-      let labels = values_of (bay_sizes (rows * columns)) bytes in
-      rw e (sym (on-on (labels after) _ _ ∙ ap (on_read (labels after)) (fun_ext (λ start. fun_ext (λ next.
-      on-on (labels next) _ _ ∙ ap (on_read (labels next)) (fun_ext (λ goal. fun_ext (λ end. on-on (ended bytes end) _ _))))))))
+  module _ (rows columns after : ℕ) (e : got (rows, columns) after ≡ sides_of bytes 0) where
+    pub sides-few : rows * columns ≤ most_slots
+    sides-few = ((sides-said bytes).gives 0 (rows, columns) after (sym e)).known.5
+
+    -- The labels behind the sides make the bay.
+    sides-made : bay_of bytes 0 ≡ on_read (labelled (rows * columns) bytes after) (λ labels next. got (bay_with rows columns labels.0 labels.1) next)
+    unfolding bay_of labelled
+    sides-made =
+        let labels = values_of (bay_sizes (rows * columns)) bytes in
+        rw (← e) (sym (on-on (labels after) _ _ ∙ ap (on_read (labels after)) (fun_ext (λ start. fun_ext (λ next.
+        on-on (labels next) _ _ ∙ ap (on_read (labels next)) (fun_ext (λ goal. fun_ext (λ end. on-on (ended bytes end) _ _))))))))
+
+    -- A fault of the labels is the file's.
+    pub labels-unread : (reason : Reason) (place : ℕ) → fault reason place ≡ labelled (rows * columns) bytes after → bay_of bytes 0 ≡ fault reason place
+    labels-unread reason place q = sides-made ∙ rw (← q) refl
+
+    -- Labels that were read into the front of arrays.
+    pub bay-read : (start goal others further : List ℕ) (end : ℕ) → got (start, goal) end ≡ labelled (rows * columns) bytes after
+        → bay_of bytes 0 ≡ got (bay_with rows columns (take (rows * columns) (start ++ others)) (take (rows * columns) (goal ++ further))) end
+    bay-read start goal others further end q =
+        let long = labels-long (rows * columns) bytes after start goal end (sym q) in
+        rw (take_at start others (rows * columns) long.0, take_at goal further (rows * columns) long.1) (sides-made ∙ rw (← q) refl)
 
 -- ---- where the first fault stands
 

@@ -4,55 +4,58 @@
 
 ghost use Rattle.std.specs.Prelude.{◌≡◌, ℕ, ◌*◌, ◌<◌, length};
 ghost use Rattle.meaning.specs.Number.{got};
-ghost use Rattle.meaning.specs.Task.{State};
-ghost use Rattle.meaning.specs.Bay.{one_apart, neighbours, bay_sizes, sides_of, judged_bay, bay_task, Builds};
+ghost use Rattle.meaning.specs.Bay.{one_apart, neighbours, bay_sizes, sides_of, bay_of, judged_bay, bay_task, Builds};
 ghost use Rattle.meaning.specs.Place.{spot_alone};
+ghost use Rattle.theory.specs.BayTask.{ReadableBay};
 ghost use Rattle.placing.specs.Answers.{spot_of};
 ghost use Rattle.writer.specs.Answer.{outcome_of};
 ghost use Rattle.sliding.specs.Readers.{near_table, made_of};
-ghost use Rattle.building.specs.Answers.{SidesKnown, bay_with, sides_read, labels_read, labelled, bay_behind, judged};
+ghost use Rattle.building.specs.Answers.{sides_read, labels_read, labelled, bay_in, BayRead, judged};
 
 use limits::{LEAST_SLOTS, MOST_SLOTS};
-use number::{Number, Reason, Step};
+use number::{Fault, Reason};
 use placing::Spot;
-use writer::Written;
 
 // "Rows and columns are each 1 to 9"
 const LEAST_SIDE: usize = 1;
 
 const MOST_SIDE: usize = 9;
 
-// What stands in front of a bay file: rows, columns and the place after them; or the first fault.
-#[derive(Clone, Copy)]
-pub enum Sides {
-    Got(usize, usize, usize),
-    Fault(Reason, usize),
-}
-
 // A table has a place for each two slots.
 const MOST_PLACES: usize = MOST_SLOTS * MOST_SLOTS;
 
+// What stands in front of a bay file: rows and columns, and the place after them.
+#[derive(Clone, Copy)]
+struct Sides {
+    rows: usize,
+    columns: usize,
+    next: usize,
+}
+
+// A bay that was read: its rows and columns, and in front of two arrays the labels of its start and of its goal.
+#[derive(Drop)]
+struct Bay {
+    rows: usize,
+    columns: usize,
+    start: [u64; MOST_SLOTS],
+    goal: [u64; MOST_SLOTS],
+}
+
+// Two numbers differ by 1.
 fn one_apart(a: usize, b: usize) -> bool
     ensures { result ≡ one_apart a b }
 {
-    if a < b {
-        return b - a == 1;
-    }
-    a - b == 1
+    a.abs_diff(b) == 1
 }
 
 // Two slots share a side.
+#[tactic(auto, unfolding(meaning::specs::Bay::neighbours))]
 fn neighbours(columns: usize, p: usize, q: usize) -> bool
     requires { 0 < columns }
     ensures { result ≡ neighbours columns p q }
 {
-    if p / columns == q / columns {
-        return one_apart(p % columns, q % columns);
-    }
-    if p % columns == q % columns {
-        return one_apart(p / columns, q / columns);
-    }
-    false
+    (p / columns == q / columns && one_apart(p % columns, q % columns))
+        || (p % columns == q % columns && one_apart(p / columns, q / columns))
 }
 
 // Fills a table of n slots by n: 1 where the two slots of a place are neighbours, else 0.
@@ -60,144 +63,93 @@ fn mark_neighbours(near: &mut [u8], n: usize, columns: usize)
     requires { (0 < n) × (0 < columns) }
     ensures { near.new ≡ near_table (length near.old) n (neighbours columns) }
 {
-    let mut place = 0;
-    while place < near.len() {
-        near[place] = neighbours(columns, place / n, place % n) as u8;
-        place += 1;
+    for (place, mark) in near.iter_mut().enumerate() {
+        *mark = neighbours(columns, place / n, place % n) as u8;
     }
 }
 
 // Judges the labels of a bay that was read, and writes its task file.
-fn build_judged(
-    rows: usize,
-    columns: usize,
-    start: &[u64],
-    goal: &[u64],
-    room: &mut [u8],
-) -> Written
-    requires { SidesKnown rows columns × State (bay_sizes (rows * columns)) start.now × State (bay_sizes (rows * columns)) goal.now }
-    ensures { (next : ℕ) → outcome_of result room.new ≡ made_of bay_task (judged (got (bay_with rows columns start.now goal.now) next)) room.old }
+fn build_judged(bay: &Bay, room: &mut [u8]) -> Result<usize, Reason>
+    requires { ReadableBay (bay_in bay.now) }
+    ensures { (next : ℕ) → outcome_of result room.new ≡ made_of bay_task (judged (got (bay_in bay.now) next)) room.old }
 {
-    let n = rows * columns;
+    let n = bay.rows * bay.columns;
     let places = n * n;
     let mut near = [0u8; MOST_PLACES];
-    mark_neighbours(&mut near[..places], n, columns);
-    sliding::build(&near[..places], start, goal, room)
+    mark_neighbours(&mut near[..places], n, bay.columns);
+    sliding::build(&near[..places], &bay.start[..n], &bay.goal[..n], room)
 }
 
 // Reads rows and columns. A number of slots that breaks its limit is placed at the columns.
-fn read_sides(bay: &[u8]) -> Sides
+fn read_sides(bay: &[u8]) -> Result<Sides, Fault>
     ensures { sides_read result ≡ sides_of bay.now 0 }
 {
-    match number::item_at(bay, 0, LEAST_SIDE, MOST_SIDE + 1, Reason::Limit) {
-        Number::Got(rows, next) => match number::item_at(
-            bay,
-            next,
-            LEAST_SIDE,
-            MOST_SIDE + 1,
-            Reason::Limit,
-        ) {
-            Number::Got(columns, after) => {
-                let n = rows * columns;
-                if n < LEAST_SLOTS {
-                    return Sides::Fault(Reason::Limit, next);
-                }
-                if MOST_SLOTS < n {
-                    return Sides::Fault(Reason::Limit, next);
-                }
-                Sides::Got(rows, columns, after)
-            }
-            Number::Fault(reason, place) => Sides::Fault(reason, place),
-        },
-        Number::Fault(reason, place) => Sides::Fault(reason, place),
+    let rows = number::item_at(bay, 0, LEAST_SIDE, MOST_SIDE + 1, Reason::Limit)?;
+    let columns = number::item_at(bay, rows.next, LEAST_SIDE, MOST_SIDE + 1, Reason::Limit)?;
+    let n = rows.value * columns.value;
+    if n < LEAST_SLOTS {
+        return Err(Fault(Reason::Limit, rows.next));
     }
+    if MOST_SLOTS < n {
+        return Err(Fault(Reason::Limit, rows.next));
+    }
+    Ok(Sides {
+        rows: rows.value,
+        columns: columns.value,
+        next: columns.next,
+    })
 }
 
 // Reads what stands behind the sides of a bay of n slots, each label over its bound, and that nothing follows.
-fn read_labels(bay: &[u8], at: usize, n: usize, start: &mut [u64], goal: &mut [u64]) -> Step
+fn read_labels(
+    bay: &[u8],
+    at: usize,
+    n: usize,
+    start: &mut [u64],
+    goal: &mut [u64],
+) -> Result<usize, Fault>
     requires { (start.old ≡ bay_sizes n) × (goal.old ≡ bay_sizes n) }
     ensures { labels_read result start.new goal.new ≡ labelled n bay.now at }
 {
-    match reader::items_at(bay, at, &mut *start, 0, 0, n, 0, Reason::Range) {
-        Step::Next(next) => match reader::items_at(
-            bay,
-            next,
-            &mut *goal,
-            0,
-            0,
-            n,
-            0,
-            Reason::Range,
-        ) {
-            Step::Next(end) => {
-                if end < bay.len() {
-                    return Step::Fault(Reason::LeftOver, end);
-                }
-                Step::Next(end)
-            }
-            Step::Fault(reason, place) => Step::Fault(reason, place),
-        },
-        Step::Fault(reason, place) => Step::Fault(reason, place),
+    let next = reader::items_at(bay, at, start, 0, 0, n, 0, Reason::Range)?;
+    let end = reader::items_at(bay, next, goal, 0, 0, n, 0, Reason::Range)?;
+    if end < bay.len() {
+        return Err(Fault(Reason::LeftOver, end));
     }
+    Ok(end)
 }
 
-// Reads the labels of a bay whose sides were read, and goes on with them.
-fn build_labelled(
-    bay: &[u8],
-    at: usize,
-    rows: usize,
-    columns: usize,
-    start: &mut [u64],
-    goal: &mut [u64],
-    room: &mut [u8],
-) -> Written
-    requires { SidesKnown rows columns × (start.old ≡ bay_sizes (rows * columns)) × (goal.old ≡ bay_sizes (rows * columns)) }
-    ensures { outcome_of result room.new ≡ made_of bay_task (judged (bay_behind rows columns bay.now at)) room.old }
+// Reads a whole bay file.
+fn read_bay(bay: &[u8]) -> Result<Bay, Fault>
+    ensures { BayRead result (bay_of bay.now 0) }
 {
-    let n = rows * columns;
-    match read_labels(bay, at, n, &mut *start, &mut *goal) {
-        Step::Next(_) => build_judged(rows, columns, start, goal, room),
-        Step::Fault(reason, _) => writer::refuse(reason),
-    }
+    let sides = read_sides(bay)?;
+    let n = sides.rows * sides.columns;
+    let mut start = [n as u64; MOST_SLOTS];
+    let mut goal = [n as u64; MOST_SLOTS];
+    read_labels(bay, sides.next, n, &mut start[..n], &mut goal[..n])?;
+    Ok(Bay {
+        rows: sides.rows,
+        columns: sides.columns,
+        start,
+        goal,
+    })
 }
 
 // Builds the task file of a bay file.
-pub fn build(bay: &[u8], room: &mut [u8]) -> Written
+pub fn build(bay: &[u8], room: &mut [u8]) -> Result<usize, Reason>
     ensures { Builds bay.now room.old (outcome_of result room.new) }
 {
-    match read_sides(bay) {
-        Sides::Got(rows, columns, next) => {
-            let n = rows * columns;
-            let mut start = [n as u64; MOST_SLOTS];
-            let mut goal = [n as u64; MOST_SLOTS];
-            build_labelled(
-                bay,
-                next,
-                rows,
-                columns,
-                &mut start[..n],
-                &mut goal[..n],
-                room,
-            )
-        }
-        Sides::Fault(reason, _) => writer::refuse(reason),
-    }
+    let read = read_bay(bay)?;
+    build_judged(&read, room)
 }
 
 // Where the first fault of a bay file stands.
-pub fn spot(bay: &[u8]) -> Spot
+pub fn spot(bay: &[u8]) -> Option<Spot>
     ensures { spot_of result ≡ spot_alone (judged_bay bay.now) }
 {
-    match read_sides(bay) {
-        Sides::Got(rows, columns, next) => {
-            let n = rows * columns;
-            let mut start = [n as u64; MOST_SLOTS];
-            let mut goal = [n as u64; MOST_SLOTS];
-            match read_labels(bay, next, n, &mut start[..n], &mut goal[..n]) {
-                Step::Next(_) => Spot::Nowhere,
-                Step::Fault(reason, place) => placing::placed(reason, Spot::InTask(place)),
-            }
-        }
-        Sides::Fault(reason, place) => placing::placed(reason, Spot::InTask(place)),
+    match read_bay(bay) {
+        Ok(_) => None,
+        Err(Fault(reason, place)) => placing::placed(reason, Spot::InTask(place)),
     }
 }

@@ -4,7 +4,7 @@
 
 #![tactic(auto)]
 
-ghost use Rattle.std.specs.Prelude.{◌≡◌};
+ghost use Rattle.std.specs.Prelude.{IfSome};
 ghost use Rattle.io.specs.Counts.{IsPrefixLen};
 
 use arrayvec::ArrayString;
@@ -30,31 +30,16 @@ const WEIGHT_BYTES: usize = MOST_WEIGHTS + 1;
 // Room for what the system says of a fault.
 const MESSAGE_BYTES: usize = 512;
 
-// How many bytes a file has, as far as there is room for them, if it could be read.
-#[derive(Clone, Copy)]
-struct Loaded {
-    is_read: bool,
-    count: usize,
-}
-
 // Says what failed, and why.
-fn failed(what: &[u8], why: &[u8]) -> Loaded
-    ensures { result.count ≡ 0 }
-{
+fn say(what: &[u8], why: &[u8]) {
     io::write_all(STDERR_FILENO, what);
     io::write_all(STDERR_FILENO, b": ");
     io::write_all(STDERR_FILENO, why);
     io::write_all(STDERR_FILENO, b"\n");
-    Loaded {
-        is_read: false,
-        count: 0,
-    }
 }
 
 // Says what failed in the system's words, without its number for the fault.
-fn failed_by(what: &[u8], error: &Error) -> Loaded
-    ensures { result.count ≡ 0 }
-{
+fn say_error(what: &[u8], error: &Error) {
     let mut told = ArrayString::<MESSAGE_BYTES>::new();
     let _ = write!(told, "{error}");
     let words = told.as_str();
@@ -62,7 +47,7 @@ fn failed_by(what: &[u8], error: &Error) -> Loaded
         Some((before, _)) => before,
         None => words,
     };
-    failed(what, why.as_bytes())
+    say(what, why.as_bytes());
 }
 
 // Reads an open file as far as there is room, and answers how many bytes it has till it ends or a read fails.
@@ -86,29 +71,28 @@ fn fill(file: &mut File, bytes: &mut [u8]) -> usize
     count
 }
 
-// Reads an open file. Where a read fails fewer bytes are counted, and the next read fails too.
-fn read(file: &mut File, path: &[u8], bytes: &mut [u8]) -> Loaded
-    ensures { IsPrefixLen result.count bytes.new }
+// Reads an open file, as far as there is room, and answers how many bytes it has; none where it can't be read. Where a read fails fewer bytes are counted, and the next read fails too.
+fn read(file: &mut File, path: &[u8], bytes: &mut [u8]) -> Option<usize>
+    ensures { IfSome result (λ count. IsPrefixLen count bytes.new) }
 {
     let count = fill(file, bytes);
     let mut next = [0u8; 1];
     if let Err(error) = file.read(&mut next) {
-        return failed_by(path, &error);
+        say_error(path, &error);
+        return None;
     }
-    Loaded {
-        is_read: true,
-        count: count,
-    }
+    Some(count)
 }
 
 // Opens the file of this name and reads it.
-fn load_file(rt: &HostRuntime, path: &[u8], bytes: &mut [u8]) -> Loaded
-    ensures { IsPrefixLen result.count bytes.new }
+fn load_file(rt: &HostRuntime, path: &[u8], bytes: &mut [u8]) -> Option<usize>
+    ensures { IfSome result (λ count. IsPrefixLen count bytes.new) }
 {
     let name = match str::from_utf8(path) {
         Ok(name) => name,
         Err(_) => {
-            return failed(path, b"Invalid argument");
+            say(path, b"Invalid argument");
+            return None;
         }
     };
     match File::open(rt, name) {
@@ -116,20 +100,27 @@ fn load_file(rt: &HostRuntime, path: &[u8], bytes: &mut [u8]) -> Loaded
             let mut file = file;
             read(&mut file, path, bytes)
         }
-        Err(error) => failed_by(path, &error),
+        Err(error) => {
+            say_error(path, &error);
+            None
+        }
     }
 }
 
 // Reads the file that an argument names.
-fn load(rt: &HostRuntime, argument: usize, bytes: &mut [u8]) -> Loaded
-    ensures { IsPrefixLen result.count bytes.new }
+fn load(rt: &HostRuntime, argument: usize, bytes: &mut [u8]) -> Option<usize>
+    ensures { IfSome result (λ count. IsPrefixLen count bytes.new) }
 {
     let mut path = io::buffer();
-    match rt.arg(argument, &mut path) {
-        Ok(length) => load_file(rt, &path[..length], bytes),
-        Err(FillError::TooLong) => failed(b"argument", b"File name too long"),
-        Err(FillError::NotPresent) => failed(b"argument", b"Invalid argument"),
-    }
+    let why = match rt.arg(argument, &mut path) {
+        Ok(length) => {
+            return load_file(rt, &path[..length], bytes);
+        }
+        Err(FillError::TooLong) => b"File name too long".as_slice(),
+        Err(FillError::NotPresent) => b"Invalid argument".as_slice(),
+    };
+    say(b"argument", why);
+    None
 }
 
 // Whether the program was given this argument.
@@ -144,15 +135,13 @@ fn is_given(rt: &HostRuntime, argument: usize) -> bool {
 // Shows the bytes at fault on standard error, in hexadecimal, if there are any.
 fn show<'a>(task: &'a [u8], weights: &'a [u8]) {
     let part = showing::display(task, weights);
-    if part.len() == 0 {
+    if part.is_empty() {
         return;
     }
     io::write_all(STDERR_FILENO, b"bytes");
-    let mut i = 0;
-    while i < part.len() {
+    for byte in part {
         io::write_all(STDERR_FILENO, b" ");
-        io::print_hex(STDERR_FILENO, part[i] as u64, 2);
-        i += 1;
+        io::print_hex(STDERR_FILENO, *byte as u64, 2);
     }
     io::write_all(STDERR_FILENO, b"\n");
 }
@@ -172,16 +161,12 @@ fn print<'a>(task: &'a [u8], weights: &'a [u8]) {
 
 // Checks the second file against the first, in the room that each has.
 fn check(rt: &HostRuntime, task: &mut [u8], weights: &mut [u8]) {
-    let first = load(rt, 1, task);
-    if !first.is_read {
+    let Some(n) = load(rt, 1, task) else {
         return;
-    }
-    let second = load(rt, 2, weights);
-    if !second.is_read {
+    };
+    let Some(m) = load(rt, 2, weights) else {
         return;
-    }
-    let n = first.count;
-    let m = second.count;
+    };
     print(&task[..n], &weights[..m]);
 }
 

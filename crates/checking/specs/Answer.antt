@@ -1,10 +1,10 @@
 -- The checker's answer in the words of the meaning, and that the verdict it comes to is the meaning's.
-use Rattle.std.specs.Prelude.{ℕ, ◌+◌, ◌*◌, ◌<◌, ◌≤◌, ◌≡◌, Bool, true, false, cond, get_or, ltb}
+use Rattle.std.specs.Prelude.{ℕ, ◌+◌, ◌*◌, ◌<◌, ◌≡◌, ◌≢◌, Bool, true, false, cond, get_or, Option, Some, None}
 use Rattle.std.proofs.Math.Path.{refl}
 use Rattle.std.proofs.Common.{sym, ap, ◌∙◌, arith}
 use mathlib.Core.List.{List, [], ◌++◌, Memᴰ as In}
-use Rattle.std.proofs.Math.ListN.{length, length-append}
-use borrow.Author.Tests.{lt-ltb, le-ltb, ltb-true, ltb-false}
+use Rattle.std.proofs.Math.ListN.{length}
+use borrow.Author.Tests.{lt-ltb}
 use Rattle.meaning.specs.Limits.{word_bits}
 use Rattle.meaning.specs.Sets.{◌⊕◌, Set, odd, shared, listed}
 use Rattle.meaning.specs.Task as task
@@ -29,11 +29,10 @@ use Rattle.theory.specs.Tells.{Tells, tells-no}
 use Rattle.theory.specs.Rows.{allowed, tells-allows}
 use Rattle.theory.specs.Accepted.{weights-accepted-as}
 use Rattle.reader.specs.Answer.{feature_words}
-use Rattle.forgetting.specs.Kept.{kept_in}
 use Rattle.condition.specs.Walk.{RowFor}
 use Rattle.checking.specs.declared.Verdict.{Verdict}
 use Rattle.checking.specs.declared.Verdict.TheVariants.{Accepted, EndsAlike, Operator, Refused}
-use Rattle.checking.specs.Breaking.{breaking_from, breaking_among, place_then, FirstBreaking, among_first, first_then, breaking-first}
+use Rattle.checking.specs.Breaking.{breaking_from, breaking_among, behind, place_then, FirstBreaking, among_first, first_then, breaking-first}
 
 abbrev pub verdict_of : Verdict → Answer meaning.Verdict
 verdict_of Accepted = done accepted
@@ -41,23 +40,23 @@ verdict_of EndsAlike = done ends_alike
 verdict_of (Operator j) = done (breaks j)
 verdict_of (Refused n) = refused n
 
--- The verdict by whether the ends differ and by how many operators come before the first that is not allowed.
-abbrev pub verdict_by : Bool → ℕ → ℕ → Verdict
-verdict_by differ j count = cond differ (cond (ltb j count) (Operator j) Accepted) EndsAlike
+-- The verdict by the first operator that is not allowed, and by whether the ends differ.
+abbrev pub verdict_at : Option ℕ → Verdict
+verdict_at (Some j) = Operator j
+verdict_at None = Accepted
 
--- The operators that follow those of a file: the forgetting ones that are kept, or none.
-abbrev pub following : List ℕ → Set → List ℕ → Bool → List task.Operator
-following sizes pairs goal forgets = cond forgets (kept_in sizes pairs goal false) []
+abbrev pub verdict_by : Bool → Option ℕ → Verdict
+verdict_by differ r = cond differ (verdict_at r) EndsAlike
 
 -- The verdict on weights, where so many operators are read from a place on and others follow them.
 unfoldable pub verdict_from : List ℕ → List ℕ → List ℕ → Set → Set → ℕ → List ℕ → ℕ → List task.Operator → Verdict
 verdict_from sizes start goal pairs weights count bytes at follow =
     verdict_by (parity sizes weights start ⊕ parity sizes weights goal)
-    (place_then count (breaking_from sizes pairs weights count bytes at) (breaking_among sizes pairs weights follow)) (count + length follow)
+    (place_then count (breaking_from sizes pairs weights count bytes at) (breaking_among sizes pairs weights follow))
 
 -- That on those that follow, where all before them are allowed.
 unfoldable pub verdict_then : List ℕ → Set → Set → ℕ → List task.Operator → Verdict
-verdict_then sizes pairs weights count follow = verdict_by true (count + breaking_among sizes pairs weights follow) (count + length follow)
+verdict_then sizes pairs weights count follow = verdict_at (behind count (breaking_among sizes pairs weights follow))
 
 -- ---- by what the code finds
 
@@ -67,23 +66,24 @@ module _ (sizes start goal : List ℕ) (pairs weights : Set) (count : ℕ) (byte
   unfolding verdict_from
   verdict-alike e = rw (sym ends ∙ e) refl
 
-  module _ (j : ℕ) (found : j ≡ breaking_from sizes pairs weights count bytes at) (e : differ ≡ true) where
-    pub verdict-breaks : j < count → Operator j ≡ verdict_from sizes start goal pairs weights count bytes at follow
+  module _ (e : differ ≡ true) where
+    pub verdict-breaks : (j : ℕ) → Some j ≡ breaking_from sizes pairs weights count bytes at → Operator j ≡ verdict_from sizes start goal pairs weights count bytes at follow
     unfolding verdict_from
-    verdict-breaks l = rw (sym ends ∙ e, ← found, lt-ltb j count l, lt-ltb j (count + length follow) (omega arith)) refl
+    verdict-breaks j found = rw (sym ends ∙ e, ← found) refl
 
-    pub verdict-follows : (r : Verdict) → count ≤ j → r ≡ verdict_then sizes pairs weights count follow → r ≡ verdict_from sizes start goal pairs weights count bytes at follow
+    pub verdict-follows : None ≡ breaking_from sizes pairs weights count bytes at → (r : Verdict) → r ≡ verdict_then sizes pairs weights count follow
+        → r ≡ verdict_from sizes start goal pairs weights count bytes at follow
     unfolding verdict_from verdict_then
-    verdict-follows r l then = then ∙ rw (sym ends ∙ e, ← found, le-ltb j count l) refl
+    verdict-follows found r then = then ∙ rw (sym ends ∙ e, ← found) refl
 
 module _ (sizes : List ℕ) (pairs weights : Set) (count : ℕ) where
-  pub then-breaks : (follow : List task.Operator) (k : ℕ) → k < length follow → breaking_among sizes pairs weights follow ≡ k → Operator (count + k) ≡ verdict_then sizes pairs weights count follow
+  pub then-breaks : (follow : List task.Operator) (k : ℕ) → breaking_among sizes pairs weights follow ≡ Some k → Operator (count + k) ≡ verdict_then sizes pairs weights count follow
   unfolding verdict_then
-  then-breaks follow k l e = rw (e, lt-ltb (count + k) (count + length follow) (omega arith)) refl
+  then-breaks follow k e = rw e refl
 
-  pub then-accepts : (follow : List task.Operator) → breaking_among sizes pairs weights follow ≡ length follow → Accepted ≡ verdict_then sizes pairs weights count follow
+  pub then-accepts : (follow : List task.Operator) → breaking_among sizes pairs weights follow ≡ None → Accepted ≡ verdict_then sizes pairs weights count follow
   unfolding verdict_then
-  then-accepts follow e = rw (e, le-ltb (count + length follow) (count + length follow) (omega arith)) refl
+  then-accepts follow e = rw e refl
 
   pub then-none : Accepted ≡ verdict_then sizes pairs weights count []
   unfolding breaking_among
@@ -95,34 +95,41 @@ module _ (T : Task) (weights : Set) (ok : Acceptable T) where
   allows : (o : task.Operator) → In o T.operators → Tells (allowed T.sizes (listed T.pairs) weights o) (Allows T.sizes (listed T.pairs) weights o)
   allows o m = tells-allows T.sizes (listed T.pairs) weights o (ok.operators o m).entries
 
-  module _ (j : ℕ) (first : FirstBreaking T.sizes (listed T.pairs) weights T.operators j) where
-    all-allowed : length T.operators ≤ j → (o : task.Operator) → In o T.operators → Allows T.sizes (listed T.pairs) weights o
-    all-allowed past o m = let (i, l, e) = in-get_d T.operators o [] m in
-        (allows o m).yes (ap (allowed T.sizes (listed T.pairs) weights) (sym e) ∙ first.earlier i (omega arith))
+  -- An operator at a place, where it is not allowed.
+  module _ (j : ℕ) (inside : j < length T.operators) (breaks : allowed T.sizes (listed T.pairs) weights (get_or T.operators j []) ≡ false) where
+    abbrev there : task.Operator
+    there = get_or T.operators j []
 
-    module _ (inside : j < length T.operators) where
-      abbrev there : task.Operator
-      there = get_or T.operators j []
+    forbidden : Allows T.sizes (listed T.pairs) weights there → ⊥
+    forbidden = tells-no (allows there (get_d-in T.operators j [] inside)) breaks
 
-      forbidden : Allows T.sizes (listed T.pairs) weights there → ⊥
-      forbidden = tells-no (allows there (get_d-in T.operators j [] inside)) (first.here inside)
+    busy : idle T.sizes (listed T.pairs) there ≡ false
+    busy = elim (test (idle T.sizes (listed T.pairs) there)) [ on e ↦ absurd (forbidden (λ b. absurd (clash e b))) | off e ↦ e ]
 
-      busy : idle T.sizes (listed T.pairs) there ≡ false
-      busy = elim (test (idle T.sizes (listed T.pairs) there)) [ on e ↦ absurd (forbidden (λ b. absurd (clash e b))) | off e ↦ e ]
-
-      earlier : (i : ℕ) → i < j → Allows T.sizes (listed T.pairs) weights (get_or T.operators i [])
-      earlier i l = (allows _ (get_d-in T.operators i [] (omega arith))).yes (first.earlier i l)
-
-    judged-by : let differ = parity T.sizes weights T.start ⊕ parity T.sizes weights T.goal in
-        (v : meaning.Verdict) × (verdict_of (verdict_by differ j (length T.operators)) ≡ done v) × Judges T weights v
-    judged-by = elim (test (parity T.sizes weights T.start ⊕ parity T.sizes weights T.goal)) [
-      | off e ↦ (ends_alike, rw e refl, xor-false-same _ _ e)
-      | on e ↦ elim (test (ltb j (length T.operators))) [
-        | on l ↦ let inside = ltb-true j _ l in
-            (breaks j, rw (e, l) refl, record { ends = xor-true-differ _ _ e; counted = inside; busy = busy inside; broken = λ k. forbidden inside (λ _. k); earlier = earlier inside })
-        | off l ↦ (accepted, rw (e, l) refl, record { ends = xor-true-differ _ _ e; keeps = all-allowed (ltb-false j _ l) })
-      ]
-    ]
+  judged-by : (r : Option ℕ) → FirstBreaking T.sizes (listed T.pairs) weights T.operators r
+      → (v : meaning.Verdict) × (verdict_of (verdict_by (parity T.sizes weights T.start ⊕ parity T.sizes weights T.goal) r) ≡ done v) × Judges T weights v
+  judged-by r first = elim (test (parity T.sizes weights T.start ⊕ parity T.sizes weights T.goal)) [
+    | off e ↦ (ends_alike, rw e refl, xor-false-same _ _ e)
+    | on e ↦ rw e (differing r first (xor-true-differ _ _ e))
+  ]
+    where
+      differing : (r : Option ℕ) → FirstBreaking T.sizes (listed T.pairs) weights T.operators r → parity T.sizes weights T.start ≢ parity T.sizes weights T.goal
+          → (v : meaning.Verdict) × (verdict_of (verdict_at r) ≡ done v) × Judges T weights v
+      differing (Some j) (inside, earlier, here) ends = (
+        breaks j,
+        refl,
+        record {
+          ends = ends;
+          counted = inside;
+          busy = busy j inside here;
+          broken = λ k. forbidden j inside here (λ _. k);
+          earlier = λ i l. (allows _ (get_d-in T.operators i [] (omega arith))).yes (earlier i l);
+        },
+      )
+      differing None all ends = (accepted, refl, record { ends = ends; keeps = λ o m. kept o m })
+        where
+          kept : (o : task.Operator) → In o T.operators → Allows T.sizes (listed T.pairs) weights o
+          kept o m = let (i, l, e) = in-get_d T.operators o [] m in (allows o m).yes (ap (allowed T.sizes (listed T.pairs) weights) (sym e) ∙ all i l)
 
   -- Where some were read from a file, and the others follow.
   pub verdict-judges : (os follow : List task.Operator) → T.operators ≡ os ++ follow → (bytes : List ℕ) (at next : ℕ) → operators_of T.sizes (length os) bytes at ≡ got os next
@@ -131,7 +138,7 @@ module _ (T : Task) (weights : Set) (ok : Acceptable T) where
   verdict-judges os follow e bytes at next read =
       let first = first_then T.sizes (listed T.pairs) weights os follow _ _ (breaking-first T.sizes (listed T.pairs) weights bytes at os next read)
       (among_first T.sizes (listed T.pairs) weights follow) in
-      rw (← (ap length e ∙ length-append os follow)) (judged-by _ (rw e first))
+      judged-by _ (rw e first)
 
 -- ---- the ends
 

@@ -2,7 +2,7 @@
 
 #![tactic(auto)]
 
-ghost use Rattle.std.specs.Prelude.{◌≡◌, false, List, ℕ, ◌<◌, length, replicate};
+ghost use Rattle.std.specs.Prelude.{◌≡◌, false, List, ℕ, ◌<◌, replicate};
 ghost use Rattle.meaning.specs.Limits.{number_end};
 ghost use Rattle.meaning.specs.Sets.{◌⊕◌};
 ghost use Rattle.meaning.specs.Task.{State, Task};
@@ -12,19 +12,19 @@ ghost use Rattle.meaning.specs.File.{kind_if, judged_task, InLimits};
 ghost use Rattle.meaning.specs.Workspace.{words_for, has};
 ghost use Rattle.meaning.specs.Partial.{left_out, judged_partial, ChecksPartial, ChecksPartialNew};
 ghost use Rattle.meaning.specs.Answer.{ChecksAs, Checks, ChecksNew};
-ghost use Rattle.theory.specs.Rows.{allowed};
 ghost use Rattle.pairs.specs.Ready.{Listed};
-ghost use Rattle.forgetting.specs.Kept.{unknown_of, forgotten_by, kept_in};
+ghost use Rattle.forgetting.specs.Kept.{kept_in};
 ghost use Rattle.condition.specs.Walk.{RowFor};
+ghost use Rattle.order.specs.With.{following, KnownWith};
 ghost use Rattle.checking.specs.Breaking.{breaking_from};
-ghost use Rattle.checking.specs.Answer.{verdict_of, following, verdict_from, verdict_then};
-ghost use Rattle.checking.specs.Weigh.{KnownWith};
+ghost use Rattle.checking.specs.Answer.{verdict_of, verdict_from, verdict_then};
 
 use limits::{HEADER_WORDS, MOST_WORDS};
-use number::Step;
-use task::Judged;
+use operator::Entries;
+use reader::Header;
 
-// The checker's answers: accepted, rejected as the ends are alike, rejected at an operator, or refused with the paper's number.
+// The checker's answers: accepted, rejected as the ends are alike, rejected at an operator, or refused with the paper's number. Document 01 names this form: "the checker's verdict enum:
+// accepted, ends alike, operator with its number, refusal with its number".
 #[derive(Clone, Copy)]
 pub enum Verdict {
     Accepted,
@@ -33,7 +33,7 @@ pub enum Verdict {
     Refused(u64),
 }
 
-// How many of so many operators come before the first that the weights do not allow; what cannot be read is allowed.
+// The first of so many operators that the weights do not allow, where there is one; what cannot be read is allowed.
 fn first_breaking(
     bytes: &[u8],
     at: usize,
@@ -41,36 +41,22 @@ fn first_breaking(
     sizes: &[u64],
     pairs: &[u64],
     weights: &[u64],
-) -> usize
+) -> Option<usize>
     requires { Listed sizes.now pairs.now × RowFor (features sizes.now) weights.now }
     ensures { result ≡ breaking_from sizes.now (has pairs.now) (has weights.now) count bytes.now at }
 {
     let mut next = at;
-    let mut k = 0;
-    while k < count {
-        let read = operator::read_operator(bytes, next, sizes);
-        let step = read.step;
-        let Step::Next(after) = step else {
-            return count;
+    for k in 0..count {
+        let Ok(read) = operator::read_operator(bytes, next, sizes) else {
+            return None;
         };
-        let n = read.operator.count;
-        let variables = read.operator.variables;
-        let befores = read.operator.befores;
-        let afters = read.operator.afters;
-        if !condition::is_allowed(
-            sizes,
-            pairs,
-            &variables[..n],
-            &befores[..n],
-            &afters[..n],
-            weights,
-        ) {
-            return k;
+        let entries = read.operator.entries();
+        if !condition::is_allowed(sizes, pairs, &entries, weights) {
+            return Some(k);
         }
-        next = after;
-        k += 1;
+        next = read.next;
     }
-    k
+    None
 }
 
 // Whether the parities of two states differ. The row has room for their difference.
@@ -90,17 +76,6 @@ fn do_ends_differ(
     words::odd_shared(weights, row)
 }
 
-// Whether the weights allow the operator that forgets value x of variable i.
-fn is_forgetting_allowed(sizes: &[u64], pairs: &[u64], weights: &[u64], i: usize, x: usize) -> bool
-    requires { Listed sizes.now pairs.now × RowFor (features sizes.now) weights.now × (i < length sizes.now) × (x < unknown_of sizes.now i) }
-    ensures { result ≡ allowed sizes.now (has pairs.now) (has weights.now) (forgotten_by sizes.now i x) }
-{
-    let variables = [i];
-    let befores = [x];
-    let afters = [numbering::size(sizes, i) - 1];
-    condition::is_allowed(sizes, pairs, &variables, &befores, &afters, weights)
-}
-
 // The verdict on the forgetting operators that are kept, behind so many that are allowed.
 fn judge_forgetting(
     count: usize,
@@ -113,15 +88,14 @@ fn judge_forgetting(
     ensures { result ≡ verdict_then sizes.now (has pairs.now) (has weights.now) count
         (kept_in sizes.now (has pairs.now) goal.now false) }
 {
-    let mut kept = forgetting::next_kept(sizes, pairs, goal, false, 0, 0);
+    let mut next = forgetting::next_kept(sizes, pairs, goal, false, 0, 0);
     let mut k = 0;
-    while kept.variable < sizes.len() {
-        let i = kept.variable;
-        let x = kept.value;
-        if !is_forgetting_allowed(sizes, pairs, weights, i, x) {
+    while let Some(kept) = next {
+        let entry = kept.entry(sizes);
+        if !condition::is_allowed(sizes, pairs, &Entries::one(&entry), weights) {
             return Verdict::Operator(count + k);
         }
-        kept = forgetting::next_kept(sizes, pairs, goal, false, i, x + 1);
+        next = forgetting::next_kept(sizes, pairs, goal, false, kept.variable, kept.value + 1);
         k += 1;
     }
     Verdict::Accepted
@@ -149,9 +123,8 @@ fn judge_weights(
     if !do_ends_differ(sizes, start, goal, weights, &mut row[..w]) {
         return Verdict::EndsAlike;
     }
-    let j = first_breaking(bytes, at, count, sizes, pairs, weights);
-    if j < count {
-        return Verdict::Operator(j);
+    if let Some(k) = first_breaking(bytes, at, count, sizes, pairs, weights) {
+        return Verdict::Operator(k);
     }
     if forgets {
         return judge_forgetting(count, sizes, goal, pairs, weights);
@@ -159,36 +132,35 @@ fn judge_weights(
     Verdict::Accepted
 }
 
-// Reads the weights of a kind for an accepted task into words, by its header and its counts, and judges them.
+// Reads the weights of a kind for an accepted task into words, by the task's header, and judges them.
 fn weigh_within(
     bytes: &[u8],
     weights: &[u8],
     gapped: bool,
-    header: &[u64],
-    v: usize,
-    n: usize,
-    count: usize,
-    at: usize,
+    header: Header,
+    parts: &[u64],
     forgets: bool,
     words: &mut [u64],
 ) -> Verdict
-    requires { ((judging : Read Task) × (old : List ℕ) × KnownWith judging bytes.now old header.now v n count at forgets) × (words.old ≡ replicate (words_for n) 0) }
-    ensures { (judging : Read Task) (old : List ℕ) → KnownWith judging bytes.now old header.now v n count at forgets
+    requires { ((judging : Read Task) × (old : List ℕ) × KnownWith judging bytes.now old parts.now header forgets) × (words.old ≡ replicate (words_for header.features) 0) }
+    ensures { (judging : Read Task) (old : List ℕ) → KnownWith judging bytes.now old parts.now header forgets
         → ChecksAs (kind_if gapped) judging weights.now (verdict_of result) }
 {
+    let v = header.variables;
+    let n = header.features;
     match reader::read_weights(weights, gapped, n, &mut *words) {
-        Step::Next(_) => judge_weights(
+        Ok(_) => judge_weights(
             bytes,
-            at,
-            count,
+            header.next,
+            header.operators,
             forgets,
-            layout::sizes(header, v),
-            layout::start(header, v, n),
-            layout::goal(header, v, n),
-            layout::pairs(header, v, n),
+            layout::sizes(parts, v),
+            layout::start(parts, v, n),
+            layout::goal(parts, v, n),
+            layout::pairs(parts, v, n),
             words,
         ),
-        Step::Fault(reason, _) => Verdict::Refused(number::refusal(reason)),
+        Err(fault) => Verdict::Refused(u64::from(fault.0)),
     }
 }
 
@@ -197,28 +169,22 @@ fn weigh(
     bytes: &[u8],
     weights: &[u8],
     gapped: bool,
-    header: &[u64],
-    v: usize,
-    n: usize,
-    count: usize,
-    at: usize,
+    header: Header,
+    parts: &[u64],
     forgets: bool,
 ) -> Verdict
-    requires { (judging : Read Task) × (old : List ℕ) × KnownWith judging bytes.now old header.now v n count at forgets }
-    ensures { (judging : Read Task) (old : List ℕ) → KnownWith judging bytes.now old header.now v n count at forgets
+    requires { (judging : Read Task) × (old : List ℕ) × KnownWith judging bytes.now old parts.now header forgets }
+    ensures { (judging : Read Task) (old : List ℕ) → KnownWith judging bytes.now old parts.now header forgets
         → ChecksAs (kind_if gapped) judging weights.now (verdict_of result) }
 {
     let mut words = [0u64; MOST_WORDS];
-    let w = layout::words_for(n);
+    let w = layout::words_for(header.features);
     weigh_within(
         bytes,
         weights,
         gapped,
         header,
-        v,
-        n,
-        count,
-        at,
+        parts,
         forgets,
         &mut words[..w],
     )
@@ -228,17 +194,10 @@ fn weigh(
 fn check_as(task: &[u8], weights: &[u8], gapped: bool) -> Verdict
     ensures { ChecksAs (kind_if gapped) (judged_task task.now) weights.now (verdict_of result) }
 {
-    let mut header = [0u64; HEADER_WORDS];
-    match task::judge(task, &mut header) {
-        Judged::Accepted {
-            variables,
-            features,
-            operators,
-            at,
-        } => weigh(
-            task, weights, gapped, &header, variables, features, operators, at, false,
-        ),
-        Judged::Refused(reason, _) => Verdict::Refused(number::refusal(reason)),
+    let mut parts = [0u64; HEADER_WORDS];
+    match task::judge(task, &mut parts) {
+        Ok(header) => weigh(task, weights, gapped, header, &parts, false),
+        Err(fault) => Verdict::Refused(u64::from(fault.0)),
     }
 }
 
@@ -260,18 +219,10 @@ pub fn check_new(task: &[u8], weights: &[u8]) -> Verdict
 fn check_partial_as(partial: &[u8], weights: &[u8], gapped: bool) -> Verdict
     ensures { ChecksAs (kind_if gapped) (judged_partial left_out partial.now) weights.now (verdict_of result) }
 {
-    let mut header = [0u64; HEADER_WORDS];
-    match order::judge(partial, false, &mut header) {
-        order::Judged::Accepted {
-            variables,
-            features,
-            operators,
-            kept: _,
-            at,
-        } => weigh(
-            partial, weights, gapped, &header, variables, features, operators, at, true,
-        ),
-        order::Judged::Refused(reason, _) => Verdict::Refused(number::refusal(reason)),
+    let mut parts = [0u64; HEADER_WORDS];
+    match order::judge(partial, false, &mut parts) {
+        Ok(judged) => weigh(partial, weights, gapped, judged.header, &parts, true),
+        Err(fault) => Verdict::Refused(u64::from(fault.0)),
     }
 }
 

@@ -6,11 +6,11 @@ use mathlib.Core.List.{List, ◌++◌}
 use Rattle.meaning.specs.Sets.{listed}
 use Rattle.meaning.specs.Task.{Operator, Task, State}
 use Rattle.meaning.specs.Feature.{atoms, features}
-use Rattle.meaning.specs.Number.{Reason, fault, number_bytes}
+use Rattle.meaning.specs.Number.{number_bytes}
 use Rattle.meaning.specs.File.{plain, bytes_of, counted, operator_bytes, task_bytes}
 use Rattle.meaning.specs.Workspace.{has}
-use Rattle.meaning.specs.Answer.{Outcome, refuses, delivered}
-use Rattle.meaning.specs.Partial.{Partial, forgettings, built_task, judged_partial, BuildsBy}
+use Rattle.meaning.specs.Answer.{Outcome, delivered}
+use Rattle.meaning.specs.Partial.{Partial, forgettings, built_task, BuildsBy}
 use Rattle.theory.specs.Spent.{Bytes}
 use Rattle.theory.specs.Parts.{operators-said}
 use Rattle.theory.specs.BytesOf.{bytes-join}
@@ -24,11 +24,6 @@ use Rattle.task.specs.Answer.{known-parts, known-ready}
 use Rattle.order.specs.Answer.{KnownPartial}
 use Rattle.writer.specs.Front.{front_bytes, task-front, sizes-countable, state-countable}
 use Rattle.completing.specs.Parts.{kept_bytes, operators_bytes, BuiltParts, built_bytes}
-
--- A partial file that is refused.
-pub build-refused : (lean : Bool) (bytes room : List ℕ) (reason : Reason) (place : ℕ) (outcome : Outcome ℕ) → judged_partial (out_for lean) bytes ≡ fault reason place
-    → outcome ≡ refuses reason room → BuildsBy (out_for lean) bytes room outcome
-build-refused lean bytes room reason place outcome e q = rw e q
 
 module _ (lean : Bool) (bytes words left : List ℕ) (v n count kept at : ℕ) (known : KnownPartial lean bytes words left v n count kept at) where
   abbrev T : Task

@@ -1,24 +1,22 @@
 -- The operators of a built task: the file's as they stand there, and the forgetting ones that are kept, written one after another.
-use Rattle.std.specs.Prelude.{ℕ, ◌+◌, ◌*◌, ◌-◌, ◌<◌, ◌≤◌, ◌≡◌, Bool, List, [], ◌∷◌, ◌++◌, length, get_or, take, drop}
+use Rattle.std.specs.Prelude.{ℕ, ◌+◌, ◌*◌, ◌-◌, ◌<◌, ◌≤◌, ◌≡◌, Bool, List, [], ◌∷◌, ◌++◌, length, take, drop, Option, Some, None, Ok}
 use Rattle.std.proofs.Math.Path.{refl}
 use Rattle.std.proofs.Common.{sym, ap, ◌∙◌, append-nil}
 use native.Mathlib.Omega.{arith}
 use Rattle.std.proofs.Math.ListN.{length-append}
 use Rattle.meaning.specs.Limits.{number_end}
 use Rattle.meaning.specs.Task.{Operator, State}
-use Rattle.meaning.specs.Sets.{table}
 use Rattle.meaning.specs.Number.{group_bytes, number_bytes}
 use Rattle.meaning.specs.File.{plain, InLimits, bytes_of, entry_bytes, counted, operator_bytes}
-use Rattle.meaning.specs.Answer.{operator_in, delivered}
+use Rattle.meaning.specs.Answer.{delivered}
 use Rattle.meaning.specs.Workspace.{has}
 use Rattle.theory.specs.NumberBack.{number-bytes-length}
-use Rattle.theory.specs.Slices.{entries_in}
+use Rattle.theory.specs.Given.{entry_of}
 use Rattle.words.specs.Members.{members_in}
 use Rattle.pairs.specs.Ready.{Listed}
 use Rattle.forgetting.specs.declared.Kept.{Kept}
 use Rattle.forgetting.specs.Out.{out_by}
-use Rattle.forgetting.specs.Kept.{kept_in, unknown_of, kept_before, forgotten_by, kept-entries, Found, Stands, stands-first, stands-next, stands-below, stands-end, stands_at}
-use Rattle.writer.specs.declared.Written.TheVariants.{Done}
+use Rattle.forgetting.specs.Kept.{kept_in, unknown_of, forgotten_by, passed_by, Found, Stands, stands-first, stands-next, stands-below, stands-end, stands_at}
 use Rattle.writer.specs.Answer.{outcome_of}
 use Rattle.writer.specs.Parts.{Triples}
 use Rattle.writer.specs.Front.{Front, front_bytes, front-few}
@@ -35,68 +33,59 @@ operators_bytes count own sizes pairs goal lean = number_bytes count ++ (own ++ 
 
 -- ---- the walk
 
+-- A forgetting operator can be written.
+kept-triples : (sizes : List ℕ) (i x : ℕ) → InLimits sizes → i < length sizes → x < unknown_of sizes i → Triples (forgotten_by sizes i x)
+kept-triples sizes i x limits l h = let small = (limits.each i l).1 in
+    (omega arith, λ k below. let first : k ≡ 0 = omega arith in rw first (omega (arith, limits.variables.1), omega arith, omega arith))
+
 module _ (sizes pairs goal : List ℕ) (lean : Bool) where
   abbrev out : ℕ → ℕ → Bool
   out = out_by sizes (has pairs) goal lean
 
-  abbrev kept : List Operator
-  kept = kept_in sizes (has pairs) goal lean
+  abbrev all : List Operator
+  all = kept_in sizes (has pairs) goal lean
 
-  -- The walk stands at one that is kept, k come before it, and from it on they are still to be written.
-  pub record Writing (room₀ : List ℕ) (at : ℕ) (room : List ℕ) (next : ℕ) (r : Kept) : Type 0 where
+  -- The walk stands at one that is kept, or at the end, k come before it, and from it on they are still to be written.
+  pub record Writing (room₀ : List ℕ) (at : ℕ) (room : List ℕ) (next : ℕ) (r : Option Kept) : Type 0 where
     pub k : ℕ
     pub stands : Stands sizes out r k
-    pub remains : Remains room₀ at (kept_bytes sizes pairs goal lean) room next (bytes_of operator_bytes (drop k kept))
+    pub remains : Remains room₀ at (kept_bytes sizes pairs goal lean) room next (bytes_of operator_bytes (drop k all))
 
   -- How many are left.
-  abbrev pub left_from : Kept → ℕ
-  left_from r = length kept - length (kept_before sizes out r.variable r.value)
+  abbrev pub left_from : Option Kept → ℕ
+  left_from r = length all - length (passed_by sizes out r)
 
-  pub writing-first : (room : List ℕ) (at : ℕ) (r : Kept) → at + length (kept_bytes sizes pairs goal lean) ≤ length room → Found sizes out 0 0 r
+  pub writing-first : (room : List ℕ) (at : ℕ) (r : Option Kept) → at + length (kept_bytes sizes pairs goal lean) ≤ length room → Found sizes out 0 0 r
       → Writing room at room at r
   unfolding kept_bytes
   writing-first room at r fit found = record { k = 0; stands = stands-first _ _ r found; remains = remains-all room at _ fit }
 
-  module _ (room₀ : List ℕ) (at : ℕ) (room : List ℕ) (next : ℕ) (r : Kept) (w : Writing room₀ at room next r) where
-    -- The next operator, as it is written, by the number of "unknown".
-    module _ (l : r.variable < length sizes) (unknown : ℕ) (known : unknown ≡ unknown_of sizes r.variable) where
+  module _ (room₀ : List ℕ) (at : ℕ) (room : List ℕ) (next : ℕ) where
+    module _ (kept : Kept) (w : Writing room₀ at room next (Some kept)) where
+      -- The next operator, as it is written.
       abbrev one : List ℕ
-      one = operator_bytes (entries_in (r.variable ∷ []) (r.value ∷ []) (unknown ∷ []))
+      one = operator_bytes (forgotten_by sizes kept.variable kept.value)
 
-      entries : forgotten_by sizes r.variable r.value ≡ entries_in (r.variable ∷ []) (r.value ∷ []) (unknown ∷ [])
-      entries = sym (kept-entries sizes r.variable r.value l (w.stands.found.there l).0) ∙ ap (λ u. entries_in (r.variable ∷ []) (r.value ∷ []) (u ∷ [])) (sym known)
+      split : bytes_of operator_bytes (drop w.k all) ≡ one ++ bytes_of operator_bytes (drop (w.k + 1) all)
+      split = bytes-more operator_bytes all w.k [] (stands-below _ _ kept w.k w.stands)
+          ∙ ap (λ o. operator_bytes o ++ bytes_of operator_bytes (drop (w.k + 1) all)) (stands_at _ _ kept w.k w.stands)
 
-      split : bytes_of operator_bytes (drop w.k kept) ≡ one ++ bytes_of operator_bytes (drop (w.k + 1) kept)
-      split = bytes-more operator_bytes kept w.k [] (stands-below _ _ r w.k w.stands l)
-          ∙ ap (λ o. operator_bytes o ++ bytes_of operator_bytes (drop (w.k + 1) kept)) (stands_at _ _ r w.k w.stands l ∙ entries)
+      pub writing-fits : InLimits sizes → (o : Operator) → o ≡ forgotten_by sizes kept.variable kept.value → Triples o × (next + length (operator_bytes o) ≤ length room)
+      writing-fits limits o is = rw is (kept-triples sizes kept.variable kept.value limits w.stands.there.0 w.stands.there.1, part-fits w.remains one _ split)
 
-      pub writing-fits : next + length one ≤ length room
-      writing-fits = part-fits w.remains one _ split
-
-      pub writing-next : (room' : List ℕ) (after : ℕ) (r' : Kept) → after ≡ next + length one → room' ≡ take next room ++ (one ++ drop after room)
-          → Found sizes out r.variable (r.value + 1) r' → Writing room₀ at room' after r'
-      writing-next room' after r' p v found = record {
+      pub writing-next : (room' : List ℕ) (after : ℕ) (r : Option Kept) → after ≡ next + length one → room' ≡ take next room ++ (one ++ drop after room)
+          → Found sizes out kept.variable (kept.value + 1) r → Writing room₀ at room' after r
+      writing-next room' after r p v found = record {
         k = w.k + 1;
-        stands = stands-next _ _ r w.k w.stands r' l found;
+        stands = stands-next _ _ kept w.k w.stands r found;
         remains = remains-after w.remains one _ room' after split p v;
       }
 
-    pub writing-less : r.variable < length sizes → (r' : Kept) → Found sizes out r.variable (r.value + 1) r' → left_from r' < left_from r
-    writing-less l r' found =
-        omega (arith, w.stands.before, stands-below _ _ r w.k w.stands l, (stands-next _ _ r w.k w.stands r' l found).before)
+      pub writing-less : (r : Option Kept) → Found sizes out kept.variable (kept.value + 1) r → left_from r < left_from (Some kept)
+      writing-less r found = omega (arith, w.stands.before, stands-below _ _ kept w.k w.stands, (stands-next _ _ kept w.k w.stands r found).before)
 
-    pub writing-end : length sizes ≤ r.variable → (next ≡ at + length (kept_bytes sizes pairs goal lean)) × (room ≡ take at room₀ ++ (kept_bytes sizes pairs goal lean ++ drop next room₀))
-    writing-end l = remains-none w.remains (bytes-none operator_bytes kept w.k (omega (arith, stands-end _ _ r w.k w.stands l)))
-
--- An operator of one entry can be written.
-pub one-triples : (i x y : ℕ) → i < number_end → x < number_end → y < number_end → Triples (i ∷ []) (x ∷ []) (y ∷ [])
-one-triples i x y h k l = ((omega arith, single i h), refl, refl, single x k, single y l)
-  where
-    single : (n : ℕ) → n < number_end → (k : ℕ) → k < 1 → get_or (n ∷ []) k 0 < number_end
-    single n h k l = let z : k ≡ 0 = omega arith in rw z h
-
-pub kept-triples : (sizes : List ℕ) (i x unknown : ℕ) → InLimits sizes → i < length sizes → x < unknown_of sizes i → unknown ≡ unknown_of sizes i → Triples (i ∷ []) (x ∷ []) (unknown ∷ [])
-kept-triples sizes i x unknown limits l h known = let small = (limits.each i l).1 in one-triples i x unknown (omega (arith, limits.variables.1)) (omega arith) (omega arith)
+    pub writing-end : Writing room₀ at room next None → (next ≡ at + length (kept_bytes sizes pairs goal lean)) × (room ≡ take at room₀ ++ (kept_bytes sizes pairs goal lean ++ drop next room₀))
+    writing-end w = remains-none w.remains (bytes-none operator_bytes all w.k (omega (arith, stands-end _ _ w.k w.stands)))
 
 -- ---- the whole
 
@@ -109,8 +98,8 @@ pub record BuiltParts (count kept : ℕ) (sizes start goal pairs : List ℕ) (le
   pub width : length (kept_bytes sizes pairs goal lean) ≡ kept * 4
 
 -- A forgetting operator is as long as this one.
-pub one_width : length (operator_bytes (entries_in (0 ∷ []) (0 ∷ []) (1 ∷ []))) ≡ 4
-unfolding operator_bytes counted bytes_of entry_bytes number_bytes group_bytes operator_in table
+pub one_width : length (operator_bytes (entry_of 0 0 1 ∷ [])) ≡ 4
+unfolding operator_bytes counted bytes_of entry_bytes number_bytes group_bytes
 one_width = refl
 
 module _ (count : ℕ) (own sizes pairs goal : List ℕ) (lean : Bool) where
@@ -172,6 +161,6 @@ module _ (count kept : ℕ) (own sizes start goal pairs : List ℕ) (lean : Bool
     pub file-delivered : (room room₁ room₂ : List ℕ) (next end : ℕ) → length built_bytes ≤ length room
         → next ≡ length (front_bytes plain sizes start goal (members_in pairs)) → room₁ ≡ front_bytes plain sizes start goal (members_in pairs) ++ drop next room
         → end ≡ next + length (operators_bytes (count + kept) own sizes pairs goal lean) → room₂ ≡ take next room₁ ++ (operators_bytes (count + kept) own sizes pairs goal lean ++ drop end room₁)
-        → outcome_of (Done end) room₂ ≡ delivered built_bytes room
+        → outcome_of (Ok end) room₂ ≡ delivered built_bytes room
     unfolding built_bytes
     file-delivered room room₁ room₂ next end fit p₁ w₁ p₂ w₂ = parts-delivered built_bytes (front_bytes plain sizes start goal (members_in pairs)) (operators_bytes (count + kept) own sizes pairs goal lean) room room₁ room₂ next end refl fit p₁ w₁ p₂ w₂

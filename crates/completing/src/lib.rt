@@ -2,21 +2,21 @@
 
 #![tactic(auto)]
 
-ghost use Rattle.std.specs.Prelude.{◌≡◌, List, ◌++◌, ℕ, ◌+◌, ◌<◌, ◌≤◌, length, take, drop};
+ghost use Rattle.std.specs.Prelude.{◌≡◌, List, ◌++◌, ℕ, ◌+◌, ◌<◌, ◌≤◌, length, take, drop, Ok};
 ghost use Rattle.meaning.specs.Limits.{number_end};
 ghost use Rattle.meaning.specs.Task.{State};
 ghost use Rattle.meaning.specs.Answer.{delivered};
 ghost use Rattle.meaning.specs.Partial.{BuildsBy, BuildsPartial, BuildsPartialLean};
 ghost use Rattle.theory.specs.PartialParts.{out_for};
 ghost use Rattle.pairs.specs.Ready.{Listed};
-ghost use Rattle.order.specs.Answer.{KnownPartial};
+ghost use Rattle.order.specs.Answer.{PartialInto};
 ghost use Rattle.writer.specs.Answer.{outcome_of};
 ghost use Rattle.completing.specs.Parts.{kept_bytes, operators_bytes, BuiltParts, built_bytes};
 
 use limits::HEADER_WORDS;
+use meaning::Entry;
 use number::Reason;
 use order::Judged;
-use writer::Written;
 
 // Writes the forgetting operators that are kept, by variable and value.
 fn write_kept(
@@ -32,16 +32,13 @@ fn write_kept(
     ensures written { room.new
         ≡ take at room.old ++ (kept_bytes sizes.now pairs.now goal.now lean ++ drop result room.old) }
 {
-    let mut next = at;
-    let mut kept = forgetting::next_kept(sizes, pairs, goal, lean, 0, 0);
-    while kept.variable < sizes.len() {
-        let variable = kept.variable;
-        let value = kept.value;
-        let unknown = numbering::size(sizes, variable) - 1;
-        next = writer::write_operator(room, next, &[variable], &[value], &[unknown]);
-        kept = forgetting::next_kept(sizes, pairs, goal, lean, variable, value + 1);
+    let mut end = at;
+    let mut next = forgetting::next_kept(sizes, pairs, goal, lean, 0, 0);
+    while let Some(kept) = next {
+        end = writer::write_operator(room, end, &[kept.entry(sizes)]);
+        next = forgetting::next_kept(sizes, pairs, goal, lean, kept.variable, kept.value + 1);
     }
-    next
+    end
 }
 
 // Writes the operators with their count: the file's as they stand there, then the forgetting ones.
@@ -78,77 +75,71 @@ fn write_built(
     pairs: &[u64],
     lean: bool,
     room: &mut [u8],
-) -> Written
+) -> Result<usize, Reason>
     requires { BuiltParts count kept sizes.now start.now goal.now pairs.now lean }
     ensures { outcome_of result room.new
         ≡ delivered (built_bytes count kept own.now sizes.now start.now goal.now pairs.now lean) room.old }
 {
     let front = writer::front_width(false, sizes, start, goal, pairs);
-    let each = writer::operator_width(&[0], &[0], &[1]);
+    let entry = Entry {
+        variable: 0,
+        before: 0,
+        after: 1,
+    };
+    let each = writer::operator_width(&[entry]);
     let operators = number::width(count + kept) + own.len() + each * kept;
     if room.len() < front + operators {
-        return writer::refuse(Reason::Small);
+        return Err(Reason::Small);
     }
     let next = writer::write_front(room, false, sizes, start, goal, pairs);
-    Written::Done(write_operators(room, next, count + kept, own, sizes, pairs, goal, lean))
+    Ok(write_operators(room, next, count + kept, own, sizes, pairs, goal, lean))
 }
 
-// Writes the built task of an accepted partial file, by its header and its counts.
+// Writes the built task of an accepted partial file, by what its judge answers and the words with the header's parts.
 fn complete(
     partial: &[u8],
-    header: &[u64],
-    v: usize,
-    n: usize,
-    count: usize,
-    kept: usize,
-    at: usize,
+    judged: Judged,
+    parts: &[u64],
     lean: bool,
     room: &mut [u8],
-) -> Written
-    requires { (old : List ℕ) × KnownPartial lean partial.now old header.now v n count kept at }
+) -> Result<usize, Reason>
+    requires { (old : List ℕ) × PartialInto lean partial.now old (Ok judged) parts.now }
     ensures { BuildsBy (out_for lean) partial.now room.old (outcome_of result room.new) }
 {
+    let Judged { header, kept } = judged;
+    let v = header.variables;
+    let n = header.features;
     write_built(
-        &partial[at..],
-        count,
+        &partial[header.next..],
+        header.operators,
         kept,
-        layout::sizes(header, v),
-        layout::start(header, v, n),
-        layout::goal(header, v, n),
-        layout::pairs(header, v, n),
+        layout::sizes(parts, v),
+        layout::start(parts, v, n),
+        layout::goal(parts, v, n),
+        layout::pairs(parts, v, n),
         lean,
         room,
     )
 }
 
 // Builds the task of a partial file: the file is judged wholly, then 8.
-fn build(partial: &[u8], lean: bool, room: &mut [u8]) -> Written
+fn build(partial: &[u8], lean: bool, room: &mut [u8]) -> Result<usize, Reason>
     ensures { BuildsBy (out_for lean) partial.now room.old (outcome_of result room.new) }
 {
-    let mut header = [0u64; HEADER_WORDS];
-    match order::judge(partial, lean, &mut header) {
-        Judged::Accepted {
-            variables,
-            features,
-            operators,
-            kept,
-            at,
-        } => complete(
-            partial, &header, variables, features, operators, kept, at, lean, room,
-        ),
-        Judged::Refused(reason, _) => writer::refuse(reason),
-    }
+    let mut parts = [0u64; HEADER_WORDS];
+    let judged = order::judge(partial, lean, &mut parts)?;
+    complete(partial, judged, &parts, lean, room)
 }
 
 // Builds the task of a partial file, with what section 5.2 of source 002 permits left out.
-pub fn build_partial(partial: &[u8], room: &mut [u8]) -> Written
+pub fn build_partial(partial: &[u8], room: &mut [u8]) -> Result<usize, Reason>
     ensures { BuildsPartial partial.now room.old (outcome_of result room.new) }
 {
     build(partial, false, room)
 }
 
 // Builds the lean task of a partial file: no value of a variable that is named is forgotten.
-pub fn build_partial_lean(partial: &[u8], room: &mut [u8]) -> Written
+pub fn build_partial_lean(partial: &[u8], room: &mut [u8]) -> Result<usize, Reason>
     ensures { BuildsPartialLean partial.now room.old (outcome_of result room.new) }
 {
     build(partial, true, room)

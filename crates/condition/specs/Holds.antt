@@ -59,9 +59,9 @@ module _ (v n : ℕ) (c : Content) (further ws : List ℕ) (h : Holds v n c furt
   pub held-filled : slots_part v n ws ≡ slot_words n (held_slots v n ws)
   held-filled = ap (slots_part v n) (sym own) ∙ area-slotted v n ws held-due.words c.slots ∙ ap (slot_words n) (sym held-slots)
 
-  -- It is ready for the rows of an operator in three slices.
-  pub held-opened : (vs xs ys : List ℕ) → Ready (sizes_part v ws) (pairs_part v n ws) vs xs ys → Opened v n ws vs xs ys
-  held-opened vs xs ys r = record {
+  -- It is ready for the rows of an operator.
+  pub held-opened : (o : Operator) → Ready (sizes_part v ws) (pairs_part v n ws) o → Opened v n ws o
+  held-opened o r = record {
     counted = h.total ∙ ap features (sym held-sizes);
     due = held-due.words;
     ready = r;

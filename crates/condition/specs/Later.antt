@@ -28,13 +28,13 @@ pub record Kept (v n : ℕ) (full pending ws : List ℕ) : Type 0 where
   pub due : words_due v n ≤ length ws
   pub waiting : Waiting n full pending (slots_part v n ws)
 
--- A workspace that is ready for the rows of an operator in three slices.
-pub record Rowed (v n : ℕ) (ws variables befores afters : List ℕ) : Type 0 where
+-- A workspace that is ready for the rows of an operator.
+pub record Rowed (v n : ℕ) (ws : List ℕ) (o : Operator) : Type 0 where
   pub counted : n ≡ features (sizes_part v ws)
-  pub ready : Ready (sizes_part v ws) (pairs_part v n ws) variables befores afters
+  pub ready : Ready (sizes_part v ws) (pairs_part v n ws) o
 
 -- Its words are all there, and few enough to count.
-pub kept-due : {v n : ℕ} {full pending ws variables befores afters : List ℕ} → Kept v n full pending ws → Rowed v n ws variables befores afters → Due v n ws
+pub kept-due : {v n : ℕ} {full pending ws : List ℕ} {o : Operator} → Kept v n full pending ws → Rowed v n ws o → Due v n ws
 kept-due {v = v} {ws = ws} kept rowed = record {
   variables = omega (arith, length_part sizes_at v ws (omega (arith, kept.due)), rowed.ready.limits.variables);
   features = kept.waiting.few;
@@ -83,7 +83,7 @@ module _ {v n : ℕ} {full pending ws : List ℕ} (kept : Kept v n full pending 
   -- ---- the rows of an operator
 
   -- Ready for them as it is once it is settled.
-  pub settled-rowed : {variables befores afters : List ℕ} → Opened v n (settled_as v n pending ws) variables befores afters → Rowed v n ws variables befores afters
+  pub settled-rowed : {o : Operator} → Opened v n (settled_as v n pending ws) o → Rowed v n ws o
   settled-rowed opened = record { counted = rw settled-sizes at opened.counted; ready = rw (settled-sizes, settled-pairs) at opened.ready }
 
   -- It has none.
@@ -130,7 +130,7 @@ module _ (v n : ℕ) (full pending ws : List ℕ) (few : n ≤ most_features) (d
   none-as filled = ap (slotted v n ws) (settled-none n (has pending) (held_slots v n ws) clear) ∙ ap (area_put v n ws) (sym filled) ∙ own_put v n ws due
 
 -- A workspace that is ready for an operator's rows.
-module _ {v n : ℕ} {ws variables befores afters : List ℕ} (opened : Opened v n ws variables befores afters) (full pending : List ℕ) (full-long : length full ≡ words_for n)
+module _ {v n : ℕ} {ws : List ℕ} {o : Operator} (opened : Opened v n ws o) (full pending : List ℕ) (full-long : length full ≡ words_for n)
     (full-are : Indexes (held_slots v n ws) full) (none : pending ≡ replicate (words_for n) 0) where
   pub opened-kept : Kept v n full pending ws
   opened-kept = none_kept v n full pending ws (opened-due opened).features opened.due opened.reduced full-long full-are none

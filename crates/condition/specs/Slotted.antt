@@ -16,7 +16,7 @@ use Rattle.pairs.specs.Ready.{Ready}
 use Rattle.slots.specs.Area.{slots_in, area-back}
 use Rattle.slots.specs.Waiting.{Waiting, settled_in}
 use Rattle.layout.specs.declared.Places.{Places}
-use Rattle.layout.specs.Places.{places_of, places-are}
+use Rattle.layout.specs.Places.{places_of}
 use Rattle.layout.specs.Parts.{sizes_part, pairs_part, slots_part, Due, length_part}
 
 abbrev pub held_slots : ℕ → ℕ → List ℕ → Slots
@@ -34,24 +34,20 @@ unfoldable pub with_rows : ℕ → ℕ → List ℕ → Operator → List ℕ
 with_rows v n ws o = slotted v n ws (insert_all n (held_slots v n ws) (rows_of (sizes_part v ws) (has (pairs_part v n ws)) o))
 
 -- A workspace that an operator's rows can be inserted into.
-pub record Opened (v n : ℕ) (ws variables befores afters : List ℕ) : Type 0 where
+pub record Opened (v n : ℕ) (ws : List ℕ) (o : Operator) : Type 0 where
   pub counted : n ≡ features (sizes_part v ws)
   pub due : words_due v n ≤ length ws
-  pub ready : Ready (sizes_part v ws) (pairs_part v n ws) variables befores afters
+  pub ready : Ready (sizes_part v ws) (pairs_part v n ws) o
   pub filled : slots_part v n ws ≡ slot_words n (held_slots v n ws)
   pub reduced : Reduced n (held_slots v n ws)
 
 -- Its words are all there, and few enough to count.
-pub opened-due : {v n : ℕ} {ws variables befores afters : List ℕ} → Opened v n ws variables befores afters → Due v n ws
+pub opened-due : {v n : ℕ} {ws : List ℕ} {o : Operator} → Opened v n ws o → Due v n ws
 opened-due {v = v} {ws = ws} opened = record {
   variables = omega (arith, length_part sizes_at v ws (omega (arith, opened.due)), opened.ready.limits.variables);
   features = omega (arith, opened.counted, opened.ready.limits.total);
   words = opened.due;
 }
-
--- Its slots, by their places, are within its words.
-pub slots-within : (v n : ℕ) (at : Places) → at ≡ places_of v n → (ws : List ℕ) → words_due v n ≤ length ws → (at.slots ≤ at.end) × (at.end ≤ length ws)
-slots-within v n at is ws due = let e = places-are v n at is in (omega (arith, e), omega (arith, e, due))
 
 -- ---- where slots are written
 
@@ -61,9 +57,6 @@ front-part front rest from k l = rw (drop-append-le from front rest (omega arith
 module _ (v n : ℕ) (ws : List ℕ) (due : words_due v n ≤ length ws) where
   front_long : length (take (slots_at v n) ws) ≡ slots_at v n
   front_long = length-take-le (slots_at v n) ws (omega arith)
-
-  pub length-sizes : length (sizes_part v ws) ≡ v
-  length-sizes = length_part sizes_at v ws (omega arith)
 
   -- Other words in place of the slots'.
   module _ (area : List ℕ) (e : length area ≡ n * words_for n) where

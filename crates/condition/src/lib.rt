@@ -10,7 +10,7 @@ ghost use Rattle.meaning.specs.Feature.{atoms, features};
 ghost use Rattle.meaning.specs.File.{InLimits};
 ghost use Rattle.meaning.specs.Pair.{idle};
 ghost use Rattle.meaning.specs.Workspace.{words_for, has, packed};
-ghost use Rattle.theory.specs.Slices.{entries_in, Given};
+ghost use Rattle.theory.specs.Given.{Given};
 ghost use Rattle.theory.specs.Rows.{base, allowed};
 ghost use Rattle.theory.specs.InsertAll.{insert_all};
 ghost use Rattle.theory.specs.Finder.{difference};
@@ -25,25 +25,17 @@ ghost use Rattle.condition.specs.Slotted.{Opened, with_rows};
 ghost use Rattle.condition.specs.Later.{Kept, Rowed, settled_as};
 
 use limits::{ATOM_WORDS, MOST_VARIABLES, MOST_WORDS};
-use rows::Place;
-
-// A walk over an operator's rows: whether a row is at hand, and from which value of which variable on the next one is looked for.
-#[derive(Clone, Copy)]
-struct Walk {
-    more: bool,
-    variable: usize,
-    value: usize,
-}
+use operator::Entries;
+use pairs::Tabled;
+use rows::Value;
 
 // Toggles the atoms of a state.
 fn toggle_atoms(sizes: &[u64], state: &[u64], row: &mut [u64])
     requires { Room sizes.now row.old × State sizes.now state.now }
     ensures { row.new ≡ toggled_all row.old (true_atoms sizes.now state.now) }
 {
-    let mut i = 0;
-    while i < sizes.len() {
+    for i in 0..sizes.len() {
         words::toggle(row, numbering::single(sizes, i, state[i] as usize));
-        i += 1;
     }
 }
 
@@ -53,10 +45,8 @@ fn toggle_pairs_of(sizes: &[u64], state: &[u64], j: usize, row: &mut [u64])
     ensures { row.new ≡ toggled_all row.old (true_pairs_of sizes.now state.now j) }
 {
     let y = state[j] as usize;
-    let mut i = 0;
-    while i < j {
+    for i in 0..j {
         words::toggle(row, numbering::both(sizes, i, state[i] as usize, j, y));
-        i += 1;
     }
 }
 
@@ -65,10 +55,8 @@ fn toggle_pairs(sizes: &[u64], state: &[u64], row: &mut [u64])
     requires { Room sizes.now row.old × State sizes.now state.now }
     ensures { row.new ≡ toggled_all row.old (true_pairs sizes.now state.now) }
 {
-    let mut j = 0;
-    while j < sizes.len() {
+    for j in 0..sizes.len() {
         toggle_pairs_of(sizes, state, j, row);
-        j += 1;
     }
 }
 
@@ -94,107 +82,86 @@ pub fn fill_difference(sizes: &[u64], start: &[u64], goal: &[u64], row: &mut [u6
 fn prepare(
     sizes: &[u64],
     pairs: &[u64],
-    variables: &[usize],
-    befores: &[usize],
-    afters: &[usize],
+    entries: &Entries,
     possible: &mut [u64],
     state: &mut [usize],
 ) -> bool
-    requires { Ready sizes.now pairs.now variables.now befores.now afters.now × (atoms sizes.now ≤ word_bits * length possible.old) × (length state.old ≡ length sizes.now) }
-    ensures { (result ≡ idle sizes.now (has pairs.now) (entries_in variables.now befores.now afters.now))
-        × HoldsPossible sizes.now (has pairs.now) (entries_in variables.now befores.now afters.now) possible.new
-        × (state.new ≡ base sizes.now (has pairs.now) (entries_in variables.now befores.now afters.now)) }
+    requires { Ready sizes.now pairs.now entries.now × (atoms sizes.now ≤ word_bits * length possible.old) × (length state.old ≡ length sizes.now) }
+    ensures { (result ≡ idle sizes.now (has pairs.now) entries.now)
+        × HoldsPossible sizes.now (has pairs.now) entries.now possible.new
+        × (state.new ≡ base sizes.now (has pairs.now) entries.now) }
 {
-    pairs::fill_possible(sizes, pairs, variables, befores, afters, possible);
-    rows::fill_base(sizes, variables, befores, afters, possible, state);
-    pairs::is_idle(sizes, pairs, variables, befores, afters, possible)
+    pairs::fill_possible(sizes, pairs, entries, possible);
+    rows::fill_base(sizes, entries, possible, state);
+    Tabled {
+        sizes,
+        pairs,
+        entries,
+        possible,
+    }
+    .is_idle()
 }
 
-// Begins the walk: the first row is the change at the base state.
-fn first_row(
-    sizes: &[u64],
-    variables: &[usize],
-    befores: &[usize],
-    afters: &[usize],
-    state: &[usize],
-    row: &mut [u64],
-) -> Walk
-    requires { Given sizes.now variables.now befores.now afters.now × State sizes.now state.now
-        × (applies (entries_in variables.now befores.now afters.now) state.now ≡ true) × (length row.old ≡ words_for (features sizes.now)) }
-    ensures { (possible : List ℕ) → Walked sizes.now (entries_in variables.now befores.now afters.now) possible state.now
-        row.new result (rows_by sizes.now (entries_in variables.now befores.now afters.now) possible state.now) }
+// Begins a walk over an operator's rows: the first row is the change at the base state. Where a row is at hand, the answer is the value from which on the next
+// one is looked for.
+fn first_row(sizes: &[u64], entries: &Entries, state: &[usize], row: &mut [u64]) -> Option<Value>
+    requires { Given sizes.now entries.now × State sizes.now state.now
+        × (applies entries.now state.now ≡ true) × (length row.old ≡ words_for (features sizes.now)) }
+    ensures { (possible : List ℕ) → Walked sizes.now entries.now possible state.now
+        row.new result (rows_by sizes.now entries.now possible state.now) }
 {
     words::clear(row);
-    rows::base_row(sizes, variables, befores, afters, state, row);
-    Walk {
-        more: true,
+    rows::base_row(sizes, entries, state, row);
+    Some(Value {
         variable: 0,
         value: 0,
-    }
+    })
 }
 
 // Goes on to the next row; the row stays as it is where there is none.
 fn next_row(
     sizes: &[u64],
-    variables: &[usize],
-    befores: &[usize],
-    afters: &[usize],
+    entries: &Entries,
     possible: &[u64],
     state: &[usize],
-    walk: Walk,
+    from: Value,
     row: &mut [u64],
-) -> Walk
-    requires { ((pairs : Set) × Prepared sizes.now pairs variables.now befores.now afters.now possible.now state.now) × (walk.value ≤ size sizes.now walk.variable)
+) -> Option<Value>
+    requires { ((pairs : Set) × Prepared sizes.now pairs entries.now possible.now state.now) × (from.value ≤ size sizes.now from.variable)
         × (length row.old ≡ words_for (features sizes.now)) }
-    ensures { Walked sizes.now (entries_in variables.now befores.now afters.now) possible.now state.now
-        row.new result (rows_after sizes.now (entries_in variables.now befores.now afters.now) possible.now state.now walk) }
+    ensures { Walked sizes.now entries.now possible.now state.now
+        row.new result (rows_after sizes.now entries.now possible.now state.now from) }
 {
-    let u = walk.variable;
-    let y = walk.value;
-    let place = rows::next_apart(sizes, possible, state, u, y);
-    match place {
-        Place::At(i, x) => {
-            words::clear(row);
-            rows::apart_row(sizes, variables, befores, afters, state, i, x, row);
-            return Walk {
-                more: true,
-                variable: i,
-                value: x + 1,
-            };
-        }
-        Place::Done => return Walk {
-            more: false,
-            variable: u,
-            value: y,
-        },
-    }
+    let found = rows::next_apart(sizes, possible, state, from.variable, from.value)?;
+    words::clear(row);
+    rows::apart_row(sizes, entries, state, found.variable, found.value, row);
+    Some(Value {
+        variable: found.variable,
+        value: found.value + 1,
+    })
 }
 
 // Whether the weights meet each row evenly, from the first to the last.
 fn all_even(
     sizes: &[u64],
-    variables: &[usize],
-    befores: &[usize],
-    afters: &[usize],
+    entries: &Entries,
     possible: &[u64],
     state: &[usize],
     weights: &[u64],
     row: &mut [u64],
 ) -> bool
-    requires { ((pairs : Set) × Prepared sizes.now pairs variables.now befores.now afters.now possible.now state.now)
+    requires { ((pairs : Set) × Prepared sizes.now pairs entries.now possible.now state.now)
         × (length weights.now ≡ words_for (features sizes.now)) × ((f : ℕ) → features sizes.now ≤ f → has weights.now f ≡ false)
         × (length row.old ≡ words_for (features sizes.now)) }
     ensures { result ≡ all_even (features sizes.now) (has weights.now)
-        (rows_by sizes.now (entries_in variables.now befores.now afters.now) possible.now state.now) }
+        (rows_by sizes.now entries.now possible.now state.now) }
 {
-    let mut walk = first_row(sizes, variables, befores, afters, state, row);
-    while walk.more {
+    let mut walk = first_row(sizes, entries, state, row);
+    while let Some(from) = walk {
         if words::odd_shared(weights, row) {
             return false;
         }
-        walk = next_row(
-            sizes, variables, befores, afters, possible, state, walk, row,
-        );
+        walk = next_row(sizes, entries, possible, state, from, row);
     }
     true
 }
@@ -203,39 +170,28 @@ fn all_even(
 fn meets_rows(
     sizes: &[u64],
     pairs: &[u64],
-    variables: &[usize],
-    befores: &[usize],
-    afters: &[usize],
+    entries: &Entries,
     weights: &[u64],
     possible: &mut [u64],
     state: &mut [usize],
     row: &mut [u64],
 ) -> bool
-    requires { Ready sizes.now pairs.now variables.now befores.now afters.now × (length weights.now ≡ words_for (features sizes.now))
+    requires { Ready sizes.now pairs.now entries.now × (length weights.now ≡ words_for (features sizes.now))
         × ((f : ℕ) → features sizes.now ≤ f → has weights.now f ≡ false) × (atoms sizes.now ≤ word_bits * length possible.old)
         × (length state.old ≡ length sizes.now) × (length row.old ≡ words_for (features sizes.now)) }
-    ensures { result ≡ allowed sizes.now (has pairs.now) (has weights.now) (entries_in variables.now befores.now afters.now) }
+    ensures { result ≡ allowed sizes.now (has pairs.now) (has weights.now) entries.now }
 {
-    if prepare(sizes, pairs, variables, befores, afters, possible, state) {
+    if prepare(sizes, pairs, entries, possible, state) {
         return true;
     }
-    all_even(
-        sizes, variables, befores, afters, possible, state, weights, row,
-    )
+    all_even(sizes, entries, possible, state, weights, row)
 }
 
 // Whether the weights meet the operator's condition.
-pub fn is_allowed(
-    sizes: &[u64],
-    pairs: &[u64],
-    variables: &[usize],
-    befores: &[usize],
-    afters: &[usize],
-    weights: &[u64],
-) -> bool
-    requires { Ready sizes.now pairs.now variables.now befores.now afters.now × (length weights.now ≡ words_for (features sizes.now))
+pub fn is_allowed(sizes: &[u64], pairs: &[u64], entries: &Entries, weights: &[u64]) -> bool
+    requires { Ready sizes.now pairs.now entries.now × (length weights.now ≡ words_for (features sizes.now))
         × ((f : ℕ) → features sizes.now ≤ f → has weights.now f ≡ false) }
-    ensures { result ≡ allowed sizes.now (has pairs.now) (has weights.now) (entries_in variables.now befores.now afters.now) }
+    ensures { result ≡ allowed sizes.now (has pairs.now) (has weights.now) entries.now }
 {
     let v = sizes.len();
     let w = weights.len();
@@ -245,9 +201,7 @@ pub fn is_allowed(
     meets_rows(
         sizes,
         pairs,
-        variables,
-        befores,
-        afters,
+        entries,
         weights,
         &mut possible,
         &mut state[..v],
@@ -258,9 +212,7 @@ pub fn is_allowed(
 // Inserts each row into an area of n slots, from the first to the last.
 fn insert_rows(
     sizes: &[u64],
-    variables: &[usize],
-    befores: &[usize],
-    afters: &[usize],
+    entries: &Entries,
     possible: &[u64],
     state: &[usize],
     area: &mut [u64],
@@ -269,18 +221,16 @@ fn insert_rows(
     pending: &mut [u64],
     row: &mut [u64],
 )
-    requires { ((pairs : Set) × Prepared sizes.now pairs variables.now befores.now afters.now possible.now state.now)
+    requires { ((pairs : Set) × Prepared sizes.now pairs entries.now possible.now state.now)
         × (n ≡ features sizes.now) × Waiting n full.old pending.old area.old × (length row.old ≡ words_for (features sizes.now)) }
     ensures waiting { Waiting n full.new pending.new area.new }
     ensures rows { settled_in n pending.new area.new ≡ insert_all n (settled_in n pending.old area.old)
-        (rows_by sizes.now (entries_in variables.now befores.now afters.now) possible.now state.now) }
+        (rows_by sizes.now entries.now possible.now state.now) }
 {
-    let mut walk = first_row(sizes, variables, befores, afters, state, row);
-    while walk.more {
+    let mut walk = first_row(sizes, entries, state, row);
+    while let Some(from) = walk {
         slots::insert(area, n, full, pending, row);
-        walk = next_row(
-            sizes, variables, befores, afters, possible, state, walk, row,
-        );
+        walk = next_row(sizes, entries, possible, state, from, row);
     }
 }
 
@@ -292,27 +242,23 @@ fn insert_condition(
     n: usize,
     full: &mut [u64],
     pending: &mut [u64],
-    variables: &[usize],
-    befores: &[usize],
-    afters: &[usize],
+    entries: &Entries,
     sizes: &mut [u64],
     possible: &mut [u64],
     state: &mut [usize],
     row: &mut [u64],
 )
-    requires { Kept v n full.old pending.old workspace.old × Rowed v n workspace.old variables.now befores.now afters.now × (length sizes.old ≡ v)
+    requires { Kept v n full.old pending.old workspace.old × Rowed v n workspace.old entries.now × (length sizes.old ≡ v)
         × (atoms (sizes_part v workspace.old) ≤ word_bits * length possible.old) × (length state.old ≡ v) × (length row.old ≡ words_for n) }
     ensures kept { Kept v n full.new pending.new workspace.new }
     ensures rows { settled_as v n pending.new workspace.new
-        ≡ with_rows v n (settled_as v n pending.old workspace.old) (entries_in variables.now befores.now afters.now) }
+        ≡ with_rows v n (settled_as v n pending.old workspace.old) entries.now }
 {
     words::copy(sizes, layout::sizes(workspace, v));
     if prepare(
         sizes,
         layout::pairs(workspace, v, n),
-        variables,
-        befores,
-        afters,
+        entries,
         possible,
         state,
     ) {
@@ -323,9 +269,7 @@ fn insert_condition(
     let end = places.end;
     insert_rows(
         sizes,
-        variables,
-        befores,
-        afters,
+        entries,
         possible,
         state,
         &mut workspace[slots..end],
@@ -343,14 +287,12 @@ pub fn add_rows_later(
     n: usize,
     full: &mut [u64],
     pending: &mut [u64],
-    variables: &[usize],
-    befores: &[usize],
-    afters: &[usize],
+    entries: &Entries,
 )
-    requires { Kept v n full.old pending.old workspace.old × Rowed v n workspace.old variables.now befores.now afters.now }
+    requires { Kept v n full.old pending.old workspace.old × Rowed v n workspace.old entries.now }
     ensures kept { Kept v n full.new pending.new workspace.new }
     ensures rows { settled_as v n pending.new workspace.new
-        ≡ with_rows v n (settled_as v n pending.old workspace.old) (entries_in variables.now befores.now afters.now) }
+        ≡ with_rows v n (settled_as v n pending.old workspace.old) entries.now }
 {
     let w = layout::words_for(n);
     let mut sizes = [0u64; MOST_VARIABLES];
@@ -363,9 +305,7 @@ pub fn add_rows_later(
         n,
         full,
         pending,
-        variables,
-        befores,
-        afters,
+        entries,
         &mut sizes[..v],
         &mut possible,
         &mut state[..v],
@@ -410,41 +350,23 @@ fn add_rows_with(
     n: usize,
     full: &mut [u64],
     pending: &mut [u64],
-    variables: &[usize],
-    befores: &[usize],
-    afters: &[usize],
+    entries: &Entries,
 )
-    requires { Opened v n workspace.old variables.now befores.now afters.now × (length full.old ≡ words_for n) × (pending.old ≡ replicate (words_for n) 0) }
-    ensures { workspace.new ≡ with_rows v n workspace.old (entries_in variables.now befores.now afters.now) }
+    requires { Opened v n workspace.old entries.now × (length full.old ≡ words_for n) × (pending.old ≡ replicate (words_for n) 0) }
+    ensures { workspace.new ≡ with_rows v n workspace.old entries.now }
 {
     slots::indices(layout::slots(workspace, v, n), n, full);
-    add_rows_later(workspace, v, n, full, pending, variables, befores, afters);
+    add_rows_later(workspace, v, n, full, pending, entries);
     settle_rows(workspace, v, n, full, pending);
 }
 
 // Inserts the operator's rows into the slots of a workspace for v variables and n features.
-pub fn add_rows(
-    workspace: &mut [u64],
-    v: usize,
-    n: usize,
-    variables: &[usize],
-    befores: &[usize],
-    afters: &[usize],
-)
-    requires { Opened v n workspace.old variables.now befores.now afters.now }
-    ensures { workspace.new ≡ with_rows v n workspace.old (entries_in variables.now befores.now afters.now) }
+pub fn add_rows(workspace: &mut [u64], v: usize, n: usize, entries: &Entries)
+    requires { Opened v n workspace.old entries.now }
+    ensures { workspace.new ≡ with_rows v n workspace.old entries.now }
 {
     let w = layout::words_for(n);
     let mut full = [0u64; MOST_WORDS];
     let mut pending = [0u64; MOST_WORDS];
-    add_rows_with(
-        workspace,
-        v,
-        n,
-        &mut full[..w],
-        &mut pending[..w],
-        variables,
-        befores,
-        afters,
-    );
+    add_rows_with(workspace, v, n, &mut full[..w], &mut pending[..w], entries);
 }

@@ -1,11 +1,11 @@
 -- What the converters answer for a task file that was accepted, by its header and its operators, and for weights that were read.
-use Rattle.std.specs.Prelude.{ℕ, ◌<◌, ◌≤◌, ◌≡◌, refl, Bool, true, false, not, List, length, drop}
+use Rattle.std.specs.Prelude.{ℕ, ◌<◌, ◌≤◌, ◌≡◌, refl, Bool, true, false, not, List, length, drop, Err}
 use Rattle.std.proofs.Common.{ap, ◌∙◌, arith}
 use Rattle.meaning.specs.Sets.{listed}
 use Rattle.meaning.specs.Limits.{most_features, number_end}
 use Rattle.meaning.specs.Task.{Task}
 use Rattle.meaning.specs.Feature.{atoms, features}
-use Rattle.meaning.specs.Number.{Reason, got, fault}
+use Rattle.meaning.specs.Number.{got}
 use Rattle.meaning.specs.File.{Kind, kind_if, other, judged_task, judged_as, judged_weights_as, Writable, weight_bytes_as}
 use Rattle.meaning.specs.Workspace.{has}
 use Rattle.meaning.specs.Answer.{Outcome, refuses, delivered, by_read}
@@ -15,11 +15,14 @@ use Rattle.theory.specs.Spent.{Bytes}
 use Rattle.theory.specs.Parts.{operators-said}
 use Rattle.theory.specs.PartialParts.{operators-copied}
 use Rattle.theory.specs.Accepted.{writable-readable, accepted-as, weights-accepted-as}
+use Rattle.number.specs.Answers.{faulted}
+use Rattle.number.specs.declared.Fault.{Fault}
 use Rattle.words.specs.Members.{members_in, members-are, run-has}
 use Rattle.layout.specs.Parts.{Headed, sizes_part, start_part, goal_part, pairs_part}
 use Rattle.reader.specs.Answer.{feature_words}
 use Rattle.task.specs.Header.{readable-headed}
 use Rattle.task.specs.Answer.{AcceptedAs, KnownAs, HeaderLeft, left-room, left-parts, left-ready}
+use Rattle.writer.specs.Answer.{outcome_of}
 use Rattle.writer.specs.Parts.{FewWords}
 use Rattle.writer.specs.Front.{Front, parts-front}
 use Rattle.writer.specs.TaskFile.{file_bytes, task-file}
@@ -75,9 +78,8 @@ module _ (kind : Kind) {bytes words left : List ℕ} {v n count at : ℕ} (known
         ∙ ap (λ file. delivered file room) (task-file kind T count (drop at bytes) pairs known.many copied pairs-members))
 
 -- A task that is refused.
-pub convert-refused : (kind : Kind) (bytes room : List ℕ) (reason : Reason) (place : ℕ) (outcome : Outcome ℕ) → judged_as (other kind) bytes ≡ fault reason place
-    → outcome ≡ refuses reason room → Converts kind bytes room outcome
-convert-refused kind bytes room reason place outcome e q = rw e q
+pub convert-refused : (kind : Kind) (bytes room : List ℕ) (f : Fault) → judged_as (other kind) bytes ≡ faulted f → Converts kind bytes room (outcome_of (Err f.0) room)
+convert-refused kind bytes room f e = rw e
 
 -- ---- weights
 
@@ -97,15 +99,13 @@ module _ (kind : Kind) (n : ℕ) (weights room : List ℕ) where
       let run = weights-accepted-as weights (other kind) n ws next read in
       rw read (e ∙ ap (λ l. delivered (weight_bytes_as kind l) room) (members-are 0 n ws left run (ap has held ∙ run-has 0 n ws run)))
 
-  pub list-refused : (reason : Reason) (place : ℕ) (outcome : Outcome ℕ) → judged_weights_as (other kind) n weights ≡ fault reason place → outcome ≡ refuses reason room
-      → WeightsBy kind n weights room outcome
-  list-refused reason place outcome e q = rw e q
+  pub list-refused : (f : Fault) → judged_weights_as (other kind) n weights ≡ faulted f → WeightsBy kind n weights room (outcome_of (Err f.0) room)
+  list-refused f e = rw e
 
 -- Beside a task that was accepted, and one that is refused.
 pub weights-beside : (kind : Kind) (bytes : List ℕ) {words left : List ℕ} {v n : ℕ} → KnownAs (judged_task bytes) words left v n → (weights room : List ℕ) (outcome : Outcome ℕ)
     → WeightsBy kind n weights room outcome → ConvertsWeights kind bytes weights room outcome
 weights-beside kind bytes known weights room outcome h = rw (known.judged, ← known.total) h
 
-pub weights-task-refused : (kind : Kind) (bytes weights room : List ℕ) (reason : Reason) (place : ℕ) (outcome : Outcome ℕ) → judged_task bytes ≡ fault reason place
-    → outcome ≡ refuses reason room → ConvertsWeights kind bytes weights room outcome
-weights-task-refused kind bytes weights room reason place outcome e q = rw e q
+pub weights-task-refused : (kind : Kind) (bytes weights room : List ℕ) (f : Fault) → judged_task bytes ≡ faulted f → ConvertsWeights kind bytes weights room (outcome_of (Err f.0) room)
+weights-task-refused kind bytes weights room f e = rw e

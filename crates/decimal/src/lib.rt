@@ -33,6 +33,7 @@ pub fn put_members(line: &mut [u8], at: usize, words: &[u64]) -> usize
     ensures { Put line.old at (words_in (members_in words.now)) result line.new }
 {
     let mut next = at;
+    // A walk and no count: an iterator over the members would be this same walk behind a type of its own.
     let mut f = words::next_member(words, 0);
     while f < words.len() * WORD_BITS {
         next = put_word(line, next, f);

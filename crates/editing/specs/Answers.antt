@@ -1,16 +1,17 @@
 -- What the answer of an edit says, and what an end is, in the words of the meaning.
-use Rattle.std.specs.Prelude.{ℕ, List}
+use Rattle.std.specs.Prelude.{ℕ, List, Result, Ok, Err}
+use Rattle.meaning.specs.Number.{refusal}
 use Rattle.meaning.specs.Workspace.{start_at, goal_at}
 use Rattle.meaning.specs.Answer.{Answer, done, refused, Edit, replace_start, replace_goal}
 use Rattle.layout.specs.declared.Places.{Places}
-use Rattle.editing.specs.declared.Edited.{Edited}
-use Rattle.editing.specs.declared.Edited.TheVariants.{Done, Refused}
+use Rattle.number.specs.Answers.{reason_of}
+use Rattle.number.specs.declared.Reason.{Reason}
 use Rattle.editing.specs.declared.End.{End}
 use Rattle.editing.specs.declared.End.TheVariants.{Start, Goal}
 
-abbrev pub edited_of : Edited → Answer (Unit {0})
-edited_of Done = done tt
-edited_of (Refused number) = refused number
+abbrev pub edited_of : Result (Unit {0}) Reason → Answer (Unit {0})
+edited_of (Ok _) = done tt
+edited_of (Err reason) = refused (refusal (reason_of reason))
 
 -- The edit that gives an end other values.
 abbrev pub replaced : End → List ℕ → Edit

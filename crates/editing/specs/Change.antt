@@ -1,13 +1,12 @@
 -- What an edit of a well formed workspace leaves: the same words where it is refused, the words of the changed content where it is done.
-use Rattle.std.specs.Prelude.{ℕ, ◌+◌, ◌-◌, ◌≤◌, ◌≡◌, refl, List, ◌++◌, length, take, drop}
+use Rattle.std.specs.Prelude.{ℕ, ◌+◌, ◌-◌, ◌≤◌, ◌≡◌, refl, List, ◌++◌, Option, Some, None, Err, length, take, drop}
 use Rattle.std.proofs.Common.{ap, ap₂, sym, ◌∙◌, subst, inl, inr, arith, drop-drop}
 use Rattle.std.proofs.Math.Logic.Iff
 use Rattle.meaning.specs.Sets.{Set, Slots}
-use Rattle.meaning.specs.Task.{Operator}
 use Rattle.meaning.specs.Feature.{features}
 use Rattle.meaning.specs.Slot.{SlotsOf, Stored}
 use Rattle.meaning.specs.Weight.{Allows}
-use Rattle.meaning.specs.Number.{Reason, Malformed, refusal}
+use Rattle.meaning.specs.Number.{Reason, refusal}
 use Rattle.meaning.specs.Workspace.{has, sizes_at, start_at, goal_at, pairs_at, Content, words_of, Proper, WellFormed}
 use Rattle.meaning.specs.Answer.{OperatorRecord, operator_in, Edit, add_operator, fine, faulty, edit_judged, Changes, EditsIn, Edits, done, refused}
 use Rattle.theory.specs.SlotsOf.{slots-of-stored}
@@ -21,7 +20,11 @@ use Rattle.layout.specs.Places.{places_of}
 use Rattle.layout.specs.Parts.{sizes_part, pairs_part, lent, length_part}
 use Rattle.condition.specs.Slotted.{with_rows}
 use Rattle.condition.specs.Holds.{Holds, held_rows}
-use Rattle.formed.specs.declared.Formed.TheVariants.{Yes, No}
+use Rattle.std.specs.Option.{ok_or}
+use Rattle.number.specs.Answers.{reason_of}
+use Rattle.number.specs.declared.Reason as declared
+use Rattle.number.specs.declared.Reason.TheVariants as code
+use Rattle.formed.specs.declared.Shape.{Shape}
 use Rattle.formed.specs.Parts.{content_parts, cut-listed}
 use Rattle.formed.specs.Formed.{FormedIs, no-formed, yes-formed, yes-content, yes-sized, yes-due, yes-cut}
 use Rattle.editing.specs.declared.End.{End}
@@ -40,11 +43,12 @@ place_is Start v n at is = ap (λ p. p.start) is
 place_is Goal v n at is = ap (λ p. p.goal) is
 
 -- Words that are not well formed.
-pub edit-malformed : (ws : List ℕ) (edit : Edit) (number : ℕ) → FormedIs ws No → number ≡ refusal Malformed
-    → Edits ws edit (record { answer = refused number; lent = ws })
-edit-malformed ws edit number is-not e = inl (no-formed ws is-not, ap (λ k. record { answer = refused k; lent = ws }) e)
+pub edit-malformed : (ws : List ℕ) (edit : Edit) (found : Option Shape) (reason : declared.Reason) → FormedIs ws found → Err reason ≡ ok_or found code.Malformed
+    → Edits ws edit (record { answer = refused (refusal (reason_of reason)); lent = ws })
+edit-malformed ws edit None reason is-not e = let q : reason ≡ code.Malformed = cc in inl (no-formed ws is-not, rw q refl)
+edit-malformed ws edit (Some shape) reason is e = absurd (let z : ◌≡◌ {A = ℕ} 0 1 = cc in omega arith)
 
-module _ (ws : List ℕ) (v n : ℕ) (yes : FormedIs ws (Yes v n)) where
+module _ (ws : List ℕ) (v n : ℕ) (yes : FormedIs ws (Some (record { variables = v; features = n }))) where
   pub whole : (yes-formed ws v n yes).content ≡ content_parts v n ws
   whole = sym (formed-content ws (yes-formed ws v n yes)) ∙ sym (yes-content ws v n yes)
 
@@ -57,12 +61,11 @@ module _ (ws : List ℕ) (v n : ℕ) (yes : FormedIs ws (Yes v n)) where
     proper = subst Proper whole (yes-formed ws v n yes).proper;
   }
 
-  pub edit-refused : (edit : Edit) (reason : Reason) (number : ℕ) → edit_judged (content_parts v n ws) edit ≡ faulty reason → number ≡ refusal reason
-      → Edits ws edit (record { answer = refused number; lent = ws })
-  edit-refused edit reason number e q = inr (
+  pub edit-refused : (edit : Edit) (reason : Reason) → edit_judged (content_parts v n ws) edit ≡ faulty reason
+      → Edits ws edit (record { answer = refused (refusal reason); lent = ws })
+  edit-refused edit reason e = inr (
     formed-parts,
-    subst (λ j. EditsIn j ws (content_parts v n ws) edit (record { answer = refused number; lent = ws })) (sym e)
-        (ap (λ k. record { answer = refused k; lent = ws }) q),
+    subst (λ j. EditsIn j ws (content_parts v n ws) edit (record { answer = refused (refusal reason); lent = ws })) (sym e) refl,
   )
 
   edit-done : (edit : Edit) (c' : Content) (exit : List ℕ) → edit_judged (content_parts v n ws) edit ≡ fine → Changes (content_parts v n ws) edit c'
@@ -132,10 +135,10 @@ module _ (ws : List ℕ) (v n : ℕ) (yes : FormedIs ws (Yes v n)) where
   held-parts = record { words = formed-parts.words; proper = formed-parts.proper; variables = sym count; total = (yes-cut ws v n yes).total }
 
   -- The slots after an operator's rows were inserted stand for what was stored and for the operator's condition.
-  pub operator-done : (r : OperatorRecord) (o : Operator) (exit : List ℕ) → edit_judged (content_parts v n ws) (add_operator r) ≡ fine → operator_in r ≡ o
-      → exit ≡ with_rows v n ws o → Edits ws (add_operator r) (record { answer = done tt; lent = exit })
-  operator-done r o exit e h q = edit-done (add_operator r) (with_slots (content_parts v n ws) slots) exit e (slots, stands, refl)
-      (q ∙ ap (with_rows v n ws) (sym h) ∙ (held_rows v n (content_parts v n ws) formed-parts.further ws held-parts (operator_in r)).words
+  pub operator-done : (r : OperatorRecord) (exit : List ℕ) → edit_judged (content_parts v n ws) (add_operator r) ≡ fine
+      → exit ≡ with_rows v n ws (operator_in r) → Edits ws (add_operator r) (record { answer = done tt; lent = exit })
+  operator-done r exit e q = edit-done (add_operator r) (with_slots (content_parts v n ws) slots) exit e (slots, stands, refl)
+      (q ∙ (held_rows v n (content_parts v n ws) formed-parts.further ws held-parts (operator_in r)).words
       ∙ ap (λ m. words_of (with_slots (content_parts v n ws) (insert_all m (content_parts v n ws).slots rows)) ++ formed-parts.further) held-parts.total)
     where
       rows : List Set

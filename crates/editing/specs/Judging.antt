@@ -7,7 +7,7 @@ use Rattle.meaning.specs.Number.{Range, Unclosed}
 use Rattle.meaning.specs.File.{inside}
 use Rattle.meaning.specs.Workspace.{has}
 use Rattle.meaning.specs.Answer.{operator_in, Judged, fine, need, entries_judged}
-use Rattle.theory.specs.Slices.{length-held}
+use Rattle.operator.specs.Entries.{length-held}
 use Rattle.theory.specs.Operands.{unless}
 use Rattle.operator.specs.declared.Operator.{Operator}
 use Rattle.operator.specs.Records.{record_of}

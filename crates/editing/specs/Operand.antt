@@ -1,15 +1,14 @@
 -- What is judged of an operand, by the sizes and the listed pairs of a workspace: new values one at a time, and what is judged after them.
-use Rattle.std.specs.Prelude.{ℕ, suc, ◌+◌, ◌<◌, ◌≤◌, ◌≡◌, refl, Bool, not, List, [], ◌∷◌, eqb, ltb, length, get_or, drop}
-use Rattle.std.proofs.Common.{ap, ap₂, sym, ◌∙◌, arith, drop_of_length-le}
-use Rattle.std.proofs.Math.Numerals.{add-one}
-use Rattle.std.proofs.Math.Seq.{drop-cons}
-use borrow.Author.Tests.{lt-ltb, le-ltb, eqb-true}
+use Rattle.std.specs.Prelude.{ℕ, suc, ◌<◌, ◌≤◌, ◌≡◌, ◌⊎◌, refl, Bool, not, List, [], ◌∷◌, eqb, ltb, length}
+use Rattle.std.proofs.Common.{ap, ap₂, sym, ◌∙◌, inl, inr, arith, eqb-true, eq-eqb, ltb-false}
 use Rattle.meaning.specs.Sets.{Set}
-use Rattle.meaning.specs.Task.{State}
+use Rattle.meaning.specs.Task.{State, size, value}
 use Rattle.meaning.specs.Pair.{closed, holds}
 use Rattle.meaning.specs.Number.{Range, Held, Unclosed}
 use Rattle.meaning.specs.File.{inside}
 use Rattle.meaning.specs.Answer.{OperatorRecord, operator_in, Judged, fine, faulty, need, entries_judged, values_judged}
+use Rattle.theory.specs.Truth.{on, off, test}
+use Rattle.theory.specs.Tells.{Tells, tells-never}
 use Rattle.theory.specs.Operands.{need-fine, unless, need-unless, values-fine}
 use Rattle.editing.specs.declared.End.{End}
 use Rattle.editing.specs.declared.End.TheVariants.{Start, Goal}
@@ -37,24 +36,25 @@ start-held end sizes pairs values held e h = rw (e, h)
 pub goal-free : (end : End) (sizes : List ℕ) (pairs : Set) (values : List ℕ) → end ≡ Goal → held_judged end sizes pairs values ≡ fine
 goal-free end sizes pairs values e = rw e
 
--- ---- values one at a time
+-- ---- values
 
-module _ (sizes values : List ℕ) (rest : Judged) (long : length values ≡ length sizes) (i : ℕ) where
-  module _ (h : i < length sizes) where
-    pub values-next : get_or values i 0 < get_or sizes i 0
-        → values_judged (drop i sizes) (drop i values) rest ≡ values_judged (drop (i + 1) sizes) (drop (i + 1) values) rest
-    unfolding values_judged
-    values-next l = rw (drop-cons sizes i 0 h, drop-cons values i 0 (omega arith), add-one i, lt-ltb _ _ l)
+-- Values are found fine, or one of them is out of its range.
+each-or : (sizes values : List ℕ) → length values ≡ length sizes
+    → (values_judged sizes values fine ≡ fine) ⊎ ((values_judged sizes values fine ≡ faulty Range) × (i : ℕ) × (i < length sizes) × (size sizes i ≤ value values i))
+unfolding values_judged
+each-or [] values l = inl refl
+each-or (d ∷ ds) [] l = absurd (omega arith)
+each-or (d ∷ ds) (x ∷ xs) l = elim (test (ltb x d)) [
+  | on e ↦ elim (each-or ds xs (omega arith)) [ inl f ↦ inl (rw (e, f) refl) | inr (f, i, k, h) ↦ inr (rw e f, suc i, omega arith, h) ]
+  | off e ↦ inr (rw e refl, 0, omega arith, ltb-false x d e)
+]
 
-    pub values-stop : get_or sizes i 0 ≤ get_or values i 0 → values_judged (drop i sizes) (drop i values) rest ≡ faulty Range
-    unfolding values_judged
-    values-stop l = rw (drop-cons sizes i 0 h, drop-cons values i 0 (omega arith), le-ltb _ _ l)
-
-  pub values-all : length sizes ≤ i → values_judged (drop i sizes) (drop i values) rest ≡ rest
-  unfolding values_judged
-  values-all h = rw (drop_of_length-le sizes {i = i} h)
-
--- ---- all values
+-- A test of whether they are a state tells what is judged of them.
+pub values-told : (sizes values : List ℕ) (b : Bool) → length values ≡ length sizes → Tells b (State sizes values) → need b Range fine ≡ values_and fine sizes values
+values-told sizes values b l t = elim (each-or sizes values l) [
+  | inl e ↦ rw (eq-eqb _ _ l, e, t.back (record { full = l; values = (values-fine sizes values fine l e).0 })) refl
+  | inr (e, i, k, h) ↦ rw (eq-eqb _ _ l, e, tells-never t (λ s. omega (arith, s.values i k, h))) refl
+]
 
 -- What is judged after the values.
 values-unless : (sizes values : List ℕ) (rest : Judged) → values_judged sizes values rest ≡ unless (values_judged sizes values fine) rest

@@ -1,5 +1,5 @@
 -- What the answers say in the words of the meaning, and that what is found is what is to be found.
-use Rattle.std.specs.Prelude.{ℕ, ◌<◌, ◌≤◌, ◌≡◌, refl, Bool, true, false, List, ltb, length}
+use Rattle.std.specs.Prelude.{ℕ, ◌<◌, ◌≤◌, ◌≡◌, refl, Bool, true, false, List, Some, Result, Ok, Err, ltb, length}
 use Rattle.std.proofs.Math.Path.{ap}
 use Rattle.std.proofs.Common.{◌∙◌, subst, inl, inr, arith, lt-ltb, le-ltb}
 use Rattle.meaning.specs.Feature.{features}
@@ -15,20 +15,21 @@ use Rattle.slots.specs.Area.{slots_in}
 use Rattle.slots.specs.Find.{found}
 use Rattle.formed.specs.Parts.{content_from}
 use Rattle.formed.specs.Formed.{FormedIs, yes-formed}
-use Rattle.formed.specs.declared.Formed.TheVariants.{Yes}
+use Rattle.number.specs.Answers.{reason_of}
+use Rattle.number.specs.declared.Reason.{Reason}
 use Rattle.finding.specs.Search.{Searched, left_in}
 use Rattle.finding.specs.declared.Found.{Found}
-use Rattle.finding.specs.declared.Found.TheVariants.{Separated, Nothing, Refused}
+use Rattle.finding.specs.declared.Found.TheVariants.{Separated, Nothing}
 
 -- Whether weights are found.
 abbrev pub finding_of : Bool → Finding
 finding_of true = separated
 finding_of false = none
 
-abbrev pub found_of : Found → Answer Finding
-found_of Separated = done separated
-found_of Nothing = done none
-found_of (Refused number) = refused number
+abbrev pub found_of : Result Found Reason → Answer Finding
+found_of (Ok Separated) = done separated
+found_of (Ok Nothing) = done none
+found_of (Err reason) = refused (refusal (reason_of reason))
 
 -- The witness of the least number that is left is what is to be found, and nothing where nothing is left.
 left-finds : (c : Content) (room : List ℕ) (R : Reduced (features c.sizes) c.slots) → FindsIn c room (record {
@@ -52,10 +53,10 @@ searched-finds sizes start goal pairs area room lent n separates s e q =
 
 -- ---- the answers of a call: 9, then 8, then what is found
 
-pub malformed : (workspace room : List ℕ) (number : ℕ) → (WellFormed workspace → ⊥) → number ≡ refusal Malformed → Finds workspace room (record { answer = refused number; lent = room })
-malformed workspace room number d e = inl (d, rw e refl)
+pub malformed : (workspace room : List ℕ) → (WellFormed workspace → ⊥) → Finds workspace room (record { answer = refused (refusal Malformed); lent = room })
+malformed workspace room d = inl (d, refl)
 
-module _ (workspace room : List ℕ) (v n : ℕ) (yes : FormedIs workspace (Yes v n)) where
+module _ (workspace room : List ℕ) (v n : ℕ) (yes : FormedIs workspace (Some (record { variables = v; features = n }))) where
   formed : WellFormed workspace
   formed = yes-formed workspace v n yes
 
@@ -63,13 +64,13 @@ module _ (workspace room : List ℕ) (v n : ℕ) (yes : FormedIs workspace (Yes 
   unfolding FormedIs
   total = yes.2 ∙ ap (λ c. features c.sizes) (formed-content workspace formed)
 
-  pub small : (number : ℕ) → length room < words_for n → number ≡ refusal Small → Finds workspace room (record { answer = refused number; lent = room })
-  small number l e = inr (formed, rw (e, lt-ltb (length room) (words_for (features formed.content.sizes)) (omega (arith, total))) refl)
+  pub small : length room < words_for n → Finds workspace room (record { answer = refused (refusal Small); lent = room })
+  small l = inr (formed, rw (lt-ltb (length room) (words_for (features formed.content.sizes)) (omega (arith, total))) refl)
 
-  pub finds : (separates answer : Bool) (lent : List ℕ) → words_for n ≤ length room → FindsIn (content_in workspace) room (record { answer = done (finding_of separates); lent = lent })
-      → separates ≡ answer → Finds workspace room (record { answer = done (finding_of answer); lent = lent })
-  finds separates answer lent l h e = inr (
+  pub finds : (separates : Bool) (lent : List ℕ) → words_for n ≤ length room → FindsIn (content_in workspace) room (record { answer = done (finding_of separates); lent = lent })
+      → Finds workspace room (record { answer = done (finding_of separates); lent = lent })
+  finds separates lent l h = inr (
     formed,
-    rw (le-ltb (length room) (words_for (features formed.content.sizes)) (omega (arith, total)), ← e)
+    rw (le-ltb (length room) (words_for (features formed.content.sizes)) (omega (arith, total)))
         (subst (λ c. FindsIn c room (record { answer = done (finding_of separates); lent = lent })) (formed-content workspace formed) h),
   )

@@ -14,16 +14,14 @@ ghost use Rattle.formed.specs.Parts.{Sized};
 ghost use Rattle.finding.specs.Search.{Searched, left_in};
 ghost use Rattle.finding.specs.Found.{finding_of, found_of};
 
-use formed::Formed;
 use limits::MOST_WORDS;
 use number::Reason;
 
-// Weights are found, there are none, or the call is refused.
+// Weights are found, or there are none.
 #[derive(Clone, Copy)]
 pub enum Found {
     Separated,
     Nothing,
-    Refused(u64),
 }
 
 // Finds by what is left of the ends' difference once it is reduced by the slots. The row is spent.
@@ -64,22 +62,15 @@ fn find_in(workspace: &[u64], v: usize, n: usize, room: &mut [u64]) -> bool
 }
 
 // The least weights that separate go to the first words of the room. Any words are taken.
-pub fn find(workspace: &[u64], room: &mut [u64]) -> Found
+pub fn find(workspace: &[u64], room: &mut [u64]) -> Result<Found, Reason>
     ensures { Finds workspace.now room.old (record { answer = found_of result; lent = room.new }) }
 {
-    match formed::well_formed(workspace) {
-        Formed::Yes {
-            variables,
-            features,
-        } => {
-            if room.len() < layout::words_for(features) {
-                return Found::Refused(number::refusal(Reason::Small));
-            }
-            if find_in(workspace, variables, features, room) {
-                return Found::Separated;
-            }
-            Found::Nothing
-        }
-        Formed::No => Found::Refused(number::refusal(Reason::Malformed)),
+    let shape = formed::well_formed(workspace).ok_or(Reason::Malformed)?;
+    if room.len() < layout::words_for(shape.features) {
+        return Err(Reason::Small);
     }
+    if find_in(workspace, shape.variables, shape.features, room) {
+        return Ok(Found::Separated);
+    }
+    Ok(Found::Nothing)
 }

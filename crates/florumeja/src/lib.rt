@@ -2,7 +2,6 @@
 
 #![tactic(auto)]
 
-ghost use Rattle.std.specs.Prelude.{◌≡◌, get_or};
 ghost use Rattle.meaning.specs.Limits.{most_variables};
 ghost use Rattle.meaning.specs.Answer.{Checks, ChecksNew, Opens, Finds, Edits, add_operator, replace_start, replace_goal};
 ghost use Rattle.meaning.specs.Bay.{Builds};
@@ -20,25 +19,13 @@ ghost use Rattle.florumeja.specs.Places.{handed, SamePlaces};
 use limits::MOST_ENTRIES;
 use operator::Operator;
 
-// The word at a place; 0 past the end.
-fn place(words: &[u64], i: usize) -> usize
-    ensures { result ≡ get_or words.now i 0 }
-{
-    if words.len() <= i {
-        return 0;
-    }
-    words[i] as usize
-}
-
-// The places of a slice that a record holds.
+// The places of a slice that a record holds; places past the slice's end are 0.
 fn places(words: &[u64]) -> [usize; MOST_ENTRIES]
     ensures { SamePlaces most_variables result words.now }
 {
     let mut copied = [0usize; MOST_ENTRIES];
-    let mut i = 0;
-    while i < MOST_ENTRIES {
-        copied[i] = place(words, i);
-        i += 1;
+    for i in 0..MOST_ENTRIES {
+        copied[i] = words.get(i).map_or(0, |word| *word as usize);
     }
     copied
 }
@@ -56,7 +43,7 @@ pub extern "C" fn florumeja_check(task: &[u8], weights: &[u8]) -> u64
 pub extern "C" fn florumeja_open(task: &[u8], room: &mut [u64]) -> u64
     ensures { Leaves length_code (Opens task.now room.old) (record { number = result; lent = room.new }) }
 {
-    codes::opened_number(opening::open(task, room))
+    codes::number(opening::open(task, room))
 }
 
 // Finds the least weights that separate a workspace's start from its goal.
@@ -64,7 +51,7 @@ pub extern "C" fn florumeja_open(task: &[u8], room: &mut [u64]) -> u64
 pub extern "C" fn florumeja_find(workspace: &[u64], room: &mut [u64]) -> u64
     ensures { Leaves finding_code (Finds workspace.now room.old) (record { number = result; lent = room.new }) }
 {
-    codes::found_number(finding::find(workspace, room))
+    codes::number(finding::find(workspace, room))
 }
 
 // Adds an operator to a workspace. Places past a slice's end count as 0.
@@ -86,7 +73,7 @@ pub extern "C" fn florumeja_add_operator(
         befores: places(befores),
         afters: places(afters),
     };
-    codes::edited_number(editing::add_operator(workspace, operator))
+    codes::number(editing::add_operator(workspace, operator))
 }
 
 // Puts other values in the place of a workspace's start.
@@ -94,7 +81,7 @@ pub extern "C" fn florumeja_add_operator(
 pub extern "C" fn florumeja_replace_start(workspace: &mut [u64], values: &[u64]) -> u64
     ensures { Leaves edit_code (Edits workspace.old (replace_start values.now)) (record { number = result; lent = workspace.new }) }
 {
-    codes::edited_number(editing::replace_start(workspace, values))
+    codes::number(editing::replace_start(workspace, values))
 }
 
 // Puts other values in the place of a workspace's goal.
@@ -102,7 +89,7 @@ pub extern "C" fn florumeja_replace_start(workspace: &mut [u64], values: &[u64])
 pub extern "C" fn florumeja_replace_goal(workspace: &mut [u64], values: &[u64]) -> u64
     ensures { Leaves edit_code (Edits workspace.old (replace_goal values.now)) (record { number = result; lent = workspace.new }) }
 {
-    codes::edited_number(editing::replace_goal(workspace, values))
+    codes::number(editing::replace_goal(workspace, values))
 }
 
 // Builds the task file of a bay file.
@@ -110,7 +97,7 @@ pub extern "C" fn florumeja_replace_goal(workspace: &mut [u64], values: &[u64]) 
 pub extern "C" fn florumeja_build(bay: &[u8], room: &mut [u8]) -> u64
     ensures { Leaves length_code (Builds bay.now room.old) (record { number = result; lent = room.new }) }
 {
-    codes::written_number(building::build(bay, room))
+    codes::number(building::build(bay, room))
 }
 
 // The line that the finder's program prints for an input.
@@ -118,7 +105,7 @@ pub extern "C" fn florumeja_build(bay: &[u8], room: &mut [u8]) -> u64
 pub extern "C" fn florumeja_line(input: &[u8], room: &mut [u8]) -> u64
     ensures { Leaves length_code (Lines input.now room.old) (record { number = result; lent = room.new }) }
 {
-    codes::written_number(line::line(input, room))
+    codes::number(line::line(input, room))
 }
 
 // Writes the weight file of a set of features in words, as the finder leaves them.
@@ -126,7 +113,7 @@ pub extern "C" fn florumeja_line(input: &[u8], room: &mut [u8]) -> u64
 pub extern "C" fn florumeja_weight_file(words: &[u64], room: &mut [u8]) -> u64
     ensures { Leaves length_code (Writes (members_in words.now) room.old) (record { number = result; lent = room.new }) }
 {
-    codes::written_number(writer::weight_file(words, room))
+    codes::number(writer::weight_file(words, room))
 }
 
 // The line that tells the verdict on weights for a task.
@@ -134,7 +121,7 @@ pub extern "C" fn florumeja_weight_file(words: &[u64], room: &mut [u8]) -> u64
 pub extern "C" fn florumeja_check_line(task: &[u8], weights: &[u8], room: &mut [u8]) -> u64
     ensures { Leaves length_code (VerdictLines task.now weights.now room.old) (record { number = result; lent = room.new }) }
 {
-    codes::written_number(verdicts::line(task, weights, room))
+    codes::number(verdicts::line(task, weights, room))
 }
 
 // Opens a workspace from a partial task: that of its built task.
@@ -142,7 +129,7 @@ pub extern "C" fn florumeja_check_line(task: &[u8], weights: &[u8], room: &mut [
 pub extern "C" fn florumeja_open_partial(partial: &[u8], room: &mut [u64]) -> u64
     ensures { Leaves length_code (OpensPartial partial.now room.old) (record { number = result; lent = room.new }) }
 {
-    codes::opened_number(opening::open_partial(partial, room))
+    codes::number(opening::open_partial(partial, room))
 }
 
 // Checks weights against a partial task: against its built task.
@@ -158,7 +145,7 @@ pub extern "C" fn florumeja_check_partial(partial: &[u8], weights: &[u8]) -> u64
 pub extern "C" fn florumeja_build_partial(partial: &[u8], room: &mut [u8]) -> u64
     ensures { Leaves length_code (BuildsPartial partial.now room.old) (record { number = result; lent = room.new }) }
 {
-    codes::written_number(completing::build_partial(partial, room))
+    codes::number(completing::build_partial(partial, room))
 }
 
 // The same, with the forgetting operators of named variables left out too.
@@ -166,7 +153,7 @@ pub extern "C" fn florumeja_build_partial(partial: &[u8], room: &mut [u8]) -> u6
 pub extern "C" fn florumeja_build_partial_lean(partial: &[u8], room: &mut [u8]) -> u64
     ensures { Leaves length_code (BuildsPartialLean partial.now room.old) (record { number = result; lent = room.new }) }
 {
-    codes::written_number(completing::build_partial_lean(partial, room))
+    codes::number(completing::build_partial_lean(partial, room))
 }
 
 // The partial task file of a task and a mark for each variable.
@@ -174,7 +161,7 @@ pub extern "C" fn florumeja_build_partial_lean(partial: &[u8], room: &mut [u8]) 
 pub extern "C" fn florumeja_silence(task: &[u8], marks: &[u8], room: &mut [u8]) -> u64
     ensures { Leaves length_code (Silences task.now marks.now room.old) (record { number = result; lent = room.new }) }
 {
-    codes::written_number(silencing::silence(task, marks, room))
+    codes::number(silencing::silence(task, marks, room))
 }
 
 // The file of a task with the largest good sublist of its listed pairs.
@@ -182,7 +169,7 @@ pub extern "C" fn florumeja_silence(task: &[u8], marks: &[u8], room: &mut [u8]) 
 pub extern "C" fn florumeja_mend(task: &[u8], room: &mut [u8]) -> u64
     ensures { Leaves length_code (Mends task.now room.old) (record { number = result; lent = room.new }) }
 {
-    codes::written_number(mending::mend(task, room))
+    codes::number(mending::mend(task, room))
 }
 
 // The listed pairs that are dropped for it, with their count.
@@ -190,7 +177,7 @@ pub extern "C" fn florumeja_mend(task: &[u8], room: &mut [u8]) -> u64
 pub extern "C" fn florumeja_dropped(task: &[u8], room: &mut [u8]) -> u64
     ensures { Leaves length_code (Drops task.now room.old) (record { number = result; lent = room.new }) }
 {
-    codes::written_number(mending::dropped(task, room))
+    codes::number(mending::dropped(task, room))
 }
 
 // The pair behind a refusal 6 or 7, and the operator.
@@ -198,7 +185,7 @@ pub extern "C" fn florumeja_dropped(task: &[u8], room: &mut [u8]) -> u64
 pub extern "C" fn florumeja_pair_fault(task: &[u8], room: &mut [u64]) -> u64
     ensures { Leaves fault_code (FaultsPairs task.now room.old) (record { number = result; lent = room.new }) }
 {
-    codes::fault_number(mending::pair_fault(task, room))
+    codes::number(mending::pair_fault(task, room))
 }
 
 // Where the bytes at fault of a task and weights lie.
@@ -206,7 +193,7 @@ pub extern "C" fn florumeja_pair_fault(task: &[u8], room: &mut [u64]) -> u64
 pub extern "C" fn florumeja_display(task: &[u8], weights: &[u8], room: &mut [u64]) -> u64
     ensures { Leaves holder_code (Displays task.now weights.now room.old) (record { number = result; lent = room.new }) }
 {
-    codes::displayed_number(showing::display_words(task, weights, room))
+    codes::number(showing::display_words(task, weights, room))
 }
 
 // Where the bytes at fault of a partial task and weights for its built task lie.
@@ -214,7 +201,7 @@ pub extern "C" fn florumeja_display(task: &[u8], weights: &[u8], room: &mut [u64
 pub extern "C" fn florumeja_display_partial(partial: &[u8], weights: &[u8], room: &mut [u64]) -> u64
     ensures { Leaves holder_code (DisplaysPartial partial.now weights.now room.old) (record { number = result; lent = room.new }) }
 {
-    codes::displayed_number(showing::display_partial(partial, weights, room))
+    codes::number(showing::display_partial(partial, weights, room))
 }
 
 // Where the bytes at fault of a bay file lie.
@@ -222,7 +209,7 @@ pub extern "C" fn florumeja_display_partial(partial: &[u8], weights: &[u8], room
 pub extern "C" fn florumeja_display_bay(bay: &[u8], room: &mut [u64]) -> u64
     ensures { Leaves holder_code (DisplaysBay bay.now room.old) (record { number = result; lent = room.new }) }
 {
-    codes::displayed_number(showing::display_bay(bay, room))
+    codes::number(showing::display_bay(bay, room))
 }
 
 // The new file of an old task file.
@@ -230,7 +217,7 @@ pub extern "C" fn florumeja_display_bay(bay: &[u8], room: &mut [u64]) -> u64
 pub extern "C" fn florumeja_to_new(task: &[u8], room: &mut [u8]) -> u64
     ensures { Leaves length_code (ConvertsToNew task.now room.old) (record { number = result; lent = room.new }) }
 {
-    codes::written_number(converting::to_new(task, room))
+    codes::number(converting::to_new(task, room))
 }
 
 // The old file of a new task file.
@@ -238,7 +225,7 @@ pub extern "C" fn florumeja_to_new(task: &[u8], room: &mut [u8]) -> u64
 pub extern "C" fn florumeja_to_old(task: &[u8], room: &mut [u8]) -> u64
     ensures { Leaves length_code (ConvertsToOld task.now room.old) (record { number = result; lent = room.new }) }
 {
-    codes::written_number(converting::to_old(task, room))
+    codes::number(converting::to_old(task, room))
 }
 
 // The new file of an old weight file, beside its task.
@@ -246,7 +233,7 @@ pub extern "C" fn florumeja_to_old(task: &[u8], room: &mut [u8]) -> u64
 pub extern "C" fn florumeja_weights_to_new(task: &[u8], weights: &[u8], room: &mut [u8]) -> u64
     ensures { Leaves length_code (ConvertsWeightsToNew task.now weights.now room.old) (record { number = result; lent = room.new }) }
 {
-    codes::written_number(converting::weights_to_new(task, weights, room))
+    codes::number(converting::weights_to_new(task, weights, room))
 }
 
 // The old file of a new weight file, beside its task.
@@ -254,7 +241,7 @@ pub extern "C" fn florumeja_weights_to_new(task: &[u8], weights: &[u8], room: &m
 pub extern "C" fn florumeja_weights_to_old(task: &[u8], weights: &[u8], room: &mut [u8]) -> u64
     ensures { Leaves length_code (ConvertsWeightsToOld task.now weights.now room.old) (record { number = result; lent = room.new }) }
 {
-    codes::written_number(converting::weights_to_old(task, weights, room))
+    codes::number(converting::weights_to_old(task, weights, room))
 }
 
 // Checks new weights against a task.
@@ -278,5 +265,5 @@ pub extern "C" fn florumeja_check_partial_new(partial: &[u8], weights: &[u8]) ->
 pub extern "C" fn florumeja_display_new(task: &[u8], weights: &[u8], room: &mut [u64]) -> u64
     ensures { Leaves holder_code (DisplaysNew task.now weights.now room.old) (record { number = result; lent = room.new }) }
 {
-    codes::displayed_number(showing::display_new(task, weights, room))
+    codes::number(showing::display_new(task, weights, room))
 }

@@ -1,25 +1,27 @@
 -- The forgetting operators that are kept, in the order in which they are found: laws for a walk over them.
-use Rattle.std.specs.Prelude.{ℕ, zero, suc, ◌+◌, ◌-◌, ◌<◌, ◌≤◌, ◌≡◌, Bool, cond, get_or}
+use Rattle.std.specs.Prelude.{ℕ, zero, suc, ◌+◌, ◌-◌, ◌<◌, ◌≤◌, ◌≡◌, Bool, cond, get_or, Option, Some, None}
 use Rattle.std.proofs.Math.Path.{refl, sym, ap}
-use Rattle.std.proofs.Common.{ap₂, ◌∙◌, length-append}
+use Rattle.std.proofs.Common.{ap₂, ◌∙◌, add-zero, add-suc, length-append}
 use Rattle.std.proofs.Math.Bool.{true, false}
+use Rattle.std.specs.List.{range_with_len, AllWithin, HoldsAt}
+use Rattle.std.specs.Option.{MatchOption}
+use Rattle.std.proofs.lemmas.List.FromFn.{length-range_with_len, get_or-range_with_len}
 use mathlib.Core.List.{List, [], ◌∷◌, ◌++◌, append_assoc, append-nil}
 use native.Mathlib.Omega.{arith}
 use Rattle.std.proofs.Math.Numerals.{add-one}
 use Rattle.std.proofs.Math.ListN.{length, get_or-eq_default}
 use Rattle.std.proofs.Math.Seq.{get_or-append_seam}
-use Rattle.meaning.specs.Sets.{Set, flat, table, listed}
+use Rattle.meaning.specs.Sets.{Set, flat, listed}
 use Rattle.meaning.specs.Limits.{most_size, most_atoms}
 use Rattle.meaning.specs.Task.{Operator, IsOperator, size}
 use Rattle.meaning.specs.File.{InLimits}
-use Rattle.meaning.specs.Answer.{operator_in}
 use Rattle.meaning.specs.Partial.{Partial, Ordered, forgettings, built_sizes, built_pairs, built_task}
 use Rattle.theory.specs.Truth.{less, same, more, order}
 use Rattle.theory.specs.Flat.{flat-cong, flat-few}
-use Rattle.theory.specs.Slices.{entry_of, entries_in}
+use Rattle.theory.specs.Given.{entry_of}
 use Rattle.theory.specs.PartialPairs.{built-length, built-size}
 use Rattle.theory.specs.PartialParts.{out_for}
-use Rattle.pairs.specs.Ready.{Listed, Ready}
+use Rattle.pairs.specs.Ready.{Listed, Ready, ready-is}
 use Rattle.forgetting.specs.declared.Kept.{Kept}
 use Rattle.forgetting.specs.Out.{out_by, out-by}
 
@@ -56,24 +58,25 @@ module _ (sizes : List ℕ) where
     unfoldable pub kept_before : ℕ → ℕ → List Operator
     kept_before i x = flat i kept_row ++ flat x (kept_one i)
 
-    -- The first that is kept from value x of variable i on, or the end.
-    pub record Found (i x : ℕ) (r : Kept) : Type 0 where
-      pub same : kept_before r.variable r.value ≡ kept_before i x
-      pub within : r.variable ≤ length sizes
-      pub end : length sizes ≤ r.variable → r.value ≡ 0
-      pub there : r.variable < length sizes → (r.value < unknown_of r.variable) × (out r.variable r.value ≡ false)
+    -- Those before one that is kept: all of them, where there is none.
+    abbrev pub passed_by : Option Kept → List Operator
+    passed_by (Some kept) = kept_before kept.variable kept.value
+    passed_by None = kept_all
 
-    -- The first value of variable i that is kept from x on, or how many there are.
-    pub record FoundIn (i x y : ℕ) : Type 0 where
-      pub same : kept_before i y ≡ kept_before i x
-      pub within : y ≤ unknown_of i
-      pub there : y < unknown_of i → out i y ≡ false
+    -- One that is kept, or none.
+    abbrev pub There : Option Kept → Type 0
+    There (Some kept) = (kept.variable < length sizes) × (kept.value < unknown_of kept.variable) × (out kept.variable kept.value ≡ false)
+    There None = Unit
 
-    -- Nothing is kept from value x of variable i on and before value y of variable j.
-    pub record Passed (i x j y : ℕ) : Type 0 where
-      pub same : kept_before j y ≡ kept_before i x
-      pub within : j ≤ length sizes
-      pub inside : y ≤ unknown_of j
+    -- The first that is kept from value x of variable i on, where there is one.
+    pub record Found (i x : ℕ) (r : Option Kept) : Type 0 where
+      pub same : passed_by r ≡ kept_before i x
+      pub there : There r
+
+    -- The first value of variable i that is kept from x on, where there is one.
+    abbrev pub FoundIn : ℕ → ℕ → Option ℕ → Type 0
+    FoundIn i x (Some y) = (kept_before i y ≡ kept_before i x) × (y < unknown_of i) × (out i y ≡ false)
+    FoundIn i x None = kept_before i (unknown_of i) ≡ kept_before i x
 
     -- ---- a walk from one to the next
 
@@ -125,88 +128,87 @@ module _ (sizes : List ℕ) where
 
     -- ---- a search for the next one
 
-    pub passed_none : (i x : ℕ) → i ≤ length sizes → x ≤ unknown_of i → Passed i x i x
-    passed_none i x l h = record { same = refl; within = l; inside = h }
+    -- The values of variable i from x on and before y are left out.
+    pub left-out : (i x n : ℕ) → ((k : ℕ) → k < n → out i (x + k) ≡ true) → kept_before i (x + n) ≡ kept_before i x
+    left-out i x zero h = rw add-zero refl
+    left-out i x (suc n) h = rw add-suc (rw (← add-one) (kept-skip i (x + n) (h n (omega arith)) ∙ left-out i x n (λ k l. h k (omega arith))))
 
-    module _ (i x j y z : ℕ) (passed : Passed i x j y) (value : FoundIn j y z) where
-      -- One of variable j is found, or none of its values is.
-      pub passed-found : j < length sizes → z < unknown_of j → Found i x (record { variable = j; value = z })
-      passed-found l h = record {
-        same = value.same ∙ passed.same;
-        within = passed.within;
-        end = λ k. absurd (omega arith);
-        there = λ k. (h, value.there h);
-      }
+    -- The first that is kept of some values, or all are left out.
+    pub found-first : (i x y : ℕ) (r : Option ℕ) → y ≡ unknown_of i → x ≤ y → let values = range_with_len x (y - x) in
+        MatchOption r (AllWithin (λ z. out i z ≡ true) values 0 (length values))
+        (λ v. (out i v ≡ false) × (k : ℕ) × (k < length values) × HoldsAt (λ z. z ≡ v) values k × AllWithin (λ z. out i z ≡ true) values 0 k)
+        → FoundIn i x r
+    found-first i x y (Some v) e l (kept, k, m, h, before) =
+        let inside : k < y - x = omega (arith, length-range_with_len x (y - x)) in
+        let place : v ≡ x + k = sym (h 0) ∙ get_or-range_with_len x (y - x) k 0 inside in
+        (rw place (left-out i x k (λ j p. rw (get_or-range_with_len x (y - x) j 0 (omega arith)) at (before j 0 (omega arith) p))), omega arith, kept)
+    found-first i x y None e l none = let whole : x + (y - x) ≡ unknown_of i = omega arith in
+        rw (← whole) (left-out i x (y - x) (λ j p. rw (get_or-range_with_len x (y - x) j 0 p) at (none j 0 (omega arith) (omega (arith, length-range_with_len x (y - x))))))
 
-      pub passed-more : j < length sizes → unknown_of j ≤ z → Passed i x (j + 1) 0
-      passed-more l h = let full : z ≡ unknown_of j = omega (arith, value.within) in record {
-        same = sym (kept-turn j) ∙ ap (kept_before j) (sym full) ∙ value.same ∙ passed.same;
-        within = omega arith;
-        inside = omega arith;
-      }
+    -- No value of variable i is kept from x on; and none of the variables.
+    pub passed-none : (i x : ℕ) → FoundIn i x None → kept_before (i + 1) 0 ≡ kept_before i x
+    passed-none i x none = sym (kept-turn i) ∙ none
 
-    pub passed-all : (i x j y : ℕ) → Passed i x j y → length sizes ≤ j → Found i x (record { variable = j; value = 0 })
-    passed-all i x j y passed l = let none : y ≡ 0 = omega (arith, passed.inside, get_or-eq_default sizes 0 {n = j} l) in record {
-      same = ap (kept_before j) (sym none) ∙ passed.same;
-      within = passed.within;
-      end = λ k. refl;
-      there = λ k. absurd (omega arith);
-    }
+    pub passed-all : (i x j y : ℕ) → j ≡ length sizes → y ≤ unknown_of j → kept_before j y ≡ kept_before i x → Found i x None
+    passed-all i x j y e h before = let first : y ≡ 0 = omega (arith, get_or-eq_default sizes 0 {n = j}) in
+        record { same = sym kept-last ∙ sym (ap₂ kept_before e first) ∙ before; there = tt }
 
     -- ---- what was found
 
-    module _ (i x : ℕ) (r : Kept) (found : Found i x r) where
-      -- It is found again from its own place on.
-      pub found-stands : Found r.variable r.value r
-      found-stands = record { same = refl; within = found.within; end = found.end; there = found.there }
+    module _ (i x : ℕ) (kept : Kept) (found : Found i x (Some kept)) where
+      pub found-more : kept_before kept.variable (kept.value + 1) ≡ kept_before i x ++ (forgotten_by kept.variable kept.value ∷ [])
+      found-more = kept_more kept.variable kept.value found.there.2 ∙ ap (λ os. os ++ (forgotten_by kept.variable kept.value ∷ [])) found.same
 
-      pub found-more : r.variable < length sizes → kept_before r.variable (r.value + 1) ≡ kept_before i x ++ (forgotten_by r.variable r.value ∷ [])
-      found-more l = kept_more r.variable r.value (found.there l).1 ∙ ap (λ os. os ++ (forgotten_by r.variable r.value ∷ [])) found.same
+      pub found-split : (rest : List Operator) × (kept_all ≡ kept_before i x ++ (forgotten_by kept.variable kept.value ∷ rest))
+      found-split =
+          let (rest, e) = kept-split kept.variable kept.value found.there.0 found.there.1 found.there.2 in
+          (rest, e ∙ ap (λ os. os ++ (forgotten_by kept.variable kept.value ∷ rest)) found.same)
 
-      pub found-split : r.variable < length sizes → (rest : List Operator) × (kept_all ≡ kept_before i x ++ (forgotten_by r.variable r.value ∷ rest))
-      found-split l =
-          let (rest, e) = kept-split r.variable r.value l (found.there l).0 (found.there l).1 in
-          (rest, e ∙ ap (λ os. os ++ (forgotten_by r.variable r.value ∷ rest)) found.same)
+      -- As a count: the next one, and one that is there.
+      pub found-next : length (kept_before kept.variable (kept.value + 1)) ≡ length (kept_before i x) + 1
+      found-next = ap length found-more ∙ length-append (kept_before i x) _
 
-      pub found-end : length sizes ≤ r.variable → kept_before i x ≡ kept_all
-      found-end l = let last : r.variable ≡ length sizes = omega (arith, found.within) in sym found.same ∙ ap₂ kept_before last (found.end l) ∙ kept-last
+      pub found_below : length (kept_before i x) < length kept_all
+      found_below = let (rest, e) = found-split in omega (arith, ap length e ∙ length-append (kept_before i x) (forgotten_by kept.variable kept.value ∷ rest))
 
-      -- As a count: the next one, one that is there, the end.
-      pub found-next : r.variable < length sizes → length (kept_before r.variable (r.value + 1)) ≡ length (kept_before i x) + 1
-      found-next l = ap length (found-more l) ∙ length-append (kept_before i x) _
-
-      pub found_below : r.variable < length sizes → length (kept_before i x) < length kept_all
-      found_below l = let (rest, e) = found-split l in omega (arith, ap length e ∙ length-append (kept_before i x) (forgotten_by r.variable r.value ∷ rest))
+    -- Where there is none, all are before.
+    pub found-end : (i x : ℕ) → Found i x None → kept_before i x ≡ kept_all
+    found-end i x found = sym found.same
 
     -- ---- a walk that counts
 
     -- It stands at one that is kept, or at the end, and k come before that.
-    pub record Stands (r : Kept) (k : ℕ) : Type 0 where
-      pub found : Found r.variable r.value r
-      pub before : k ≡ length (kept_before r.variable r.value)
+    pub record Stands (r : Option Kept) (k : ℕ) : Type 0 where
+      pub there : There r
+      pub before : k ≡ length (passed_by r)
 
-    pub stands-first : (r : Kept) → Found 0 0 r → Stands r 0
-    stands-first r found = record { found = found-stands 0 0 r found; before = sym (ap length (found.same ∙ kept-none)) }
+    pub stands-first : (r : Option Kept) → Found 0 0 r → Stands r 0
+    stands-first r found = record { there = found.there; before = sym (ap length (found.same ∙ kept-none)) }
 
-    module _ (r : Kept) (k : ℕ) (stands : Stands r k) where
-      pub stands-next : (next : Kept) → r.variable < length sizes → Found r.variable (r.value + 1) next → Stands next (k + 1)
-      stands-next next l found = record {
-        found = found-stands _ _ next found;
-        before = ap (λ n. n + 1) stands.before ∙ sym (ap length found.same ∙ found-next _ _ r stands.found l);
+    -- At the end all are counted.
+    pub stands-end : (k : ℕ) → Stands None k → k ≡ length kept_all
+    stands-end k stands = stands.before
+
+    module _ (kept : Kept) (k : ℕ) (stands : Stands (Some kept) k) where
+      -- It is found from its own place on.
+      pub stands-found : Found kept.variable kept.value (Some kept)
+      stands-found = record { same = refl; there = stands.there }
+
+      pub stands-next : (r : Option Kept) → Found kept.variable (kept.value + 1) r → Stands r (k + 1)
+      stands-next r found = record {
+        there = found.there;
+        before = ap (λ n. n + 1) stands.before ∙ sym (ap length found.same ∙ found-next _ _ kept stands-found);
       }
 
-      pub stands-below : r.variable < length sizes → k < length kept_all
-      stands-below l = omega (arith, stands.before, found_below _ _ r stands.found l)
+      pub stands-below : k < length kept_all
+      stands-below = omega (arith, stands.before, found_below _ _ kept stands-found)
 
-      pub stands-few : InLimits sizes → r.variable < length sizes → k < most_atoms
-      stands-few limits l = omega (arith, stands-below l, kept-few limits)
-
-      pub stands-end : length sizes ≤ r.variable → k ≡ length kept_all
-      stands-end l = stands.before ∙ ap length (found-end _ _ r stands.found l)
+      pub stands-few : InLimits sizes → k < most_atoms
+      stands-few limits = omega (arith, stands-below, kept-few limits)
 
       -- It is the one at place k.
-      pub stands_at : r.variable < length sizes → get_or kept_all k [] ≡ forgotten_by r.variable r.value
-      stands_at l = let (rest, e) = found-split _ _ r stands.found l in rw (e, stands.before) (get_or-append_seam (kept_before r.variable r.value) _ rest [])
+      pub stands_at : get_or kept_all k [] ≡ forgotten_by kept.variable kept.value
+      stands_at = let (rest, e) = found-split _ _ kept stands-found in ap₂ (λ l n. get_or l n []) e stands.before ∙ get_or-append_seam (kept_before kept.variable kept.value) _ rest []
 
   -- ---- as operators
 
@@ -214,13 +216,8 @@ module _ (sizes : List ℕ) where
     pub kept-operator : IsOperator sizes (forgotten_by i x)
     kept-operator = record { filled = omega arith; entries = (omega arith, l, omega arith, omega arith, tt) }
 
-    -- In three slices of one element.
-    pub kept-entries : entries_in (i ∷ []) (x ∷ []) (unknown_of i ∷ []) ≡ forgotten_by i x
-    unfolding operator_in table
-    kept-entries = refl
-
-    pub kept-ready : (pairs : List ℕ) → Listed sizes pairs → Ready sizes pairs (i ∷ []) (x ∷ []) (unknown_of i ∷ [])
-    kept-ready pairs ready = record { limits = ready.limits; due = ready.due; befores-equal = refl; afters-equal = refl; entries = rw kept-entries kept-operator.entries }
+    pub kept-ready : (pairs : List ℕ) → Listed sizes pairs → Ready sizes pairs (forgotten_by i x)
+    kept-ready pairs listed = ready-is listed kept-operator
 
 -- Those that a header keeps.
 abbrev pub kept_in : List ℕ → Set → List ℕ → Bool → List Operator

@@ -2,22 +2,39 @@
 
 #![tactic(auto)]
 
-ghost use Rattle.std.specs.Prelude.{◌≡◌, false, ◌-◌, ◌<◌, ◌≤◌, length};
+ghost use Rattle.std.specs.Prelude.{◌≡◌, false, [], ◌∷◌, ◌-◌, ◌<◌, ◌≤◌, length};
 ghost use Rattle.meaning.specs.Task.{State, size};
 ghost use Rattle.meaning.specs.File.{InLimits};
 ghost use Rattle.meaning.specs.Workspace.{has};
 ghost use Rattle.pairs.specs.Ready.{Listed};
 ghost use Rattle.forgetting.specs.Out.{named_by, against_at, against_by, out_by};
-ghost use Rattle.forgetting.specs.Kept.{FoundIn, Found, kept_in};
+ghost use Rattle.forgetting.specs.Kept.{FoundIn, Found, unknown_of, forgotten_by, kept_in};
 
-// A forgetting operator: its variable, and the value that it forgets. At the end the variable is the number of variables, and the value is 0.
+use meaning::Entry;
+
+// A forgetting operator: its variable, and the value that it forgets.
 #[derive(Clone, Copy)]
 pub struct Kept {
     pub variable: usize,
     pub value: usize,
 }
 
+impl Kept {
+    // The one entry of the operator, by the built sizes.
+    pub fn entry(self, sizes: &[u64]) -> Entry
+        requires { (self.variable < length sizes.now) × (self.value < unknown_of sizes.now self.variable) }
+        ensures { (result ∷ []) ≡ forgotten_by sizes.now self.variable self.value }
+    {
+        Entry {
+            variable: self.variable,
+            before: self.value,
+            after: numbering::size(sizes, self.variable) - 1,
+        }
+    }
+}
+
 // Whether the order names variable i: its goal value is not "unknown".
+#[tactic(auto, unfolding(crate::specs::Out::named_by))]
 fn is_named(sizes: &[u64], goal: &[u64], i: usize) -> bool
     requires { InLimits sizes.now × State sizes.now goal.now × (i < length sizes.now) }
     ensures { result ≡ named_by sizes.now goal.now i }
@@ -26,6 +43,7 @@ fn is_named(sizes: &[u64], goal: &[u64], i: usize) -> bool
 }
 
 // Whether value x of a silent variable i is exclusive with the goal value of variable j, if j is named.
+#[tactic(auto, unfolding(crate::specs::Out::against_at))]
 fn is_against_at(sizes: &[u64], pairs: &[u64], goal: &[u64], i: usize, x: usize, j: usize) -> bool
     requires { Listed sizes.now pairs.now × State sizes.now goal.now × (i < length sizes.now) × (x < size sizes.now i)
         × (named_by sizes.now goal.now i ≡ false) × (j < length sizes.now) }
@@ -43,17 +61,11 @@ fn is_against(sizes: &[u64], pairs: &[u64], goal: &[u64], i: usize, x: usize) ->
         × (named_by sizes.now goal.now i ≡ false) }
     ensures { result ≡ against_by sizes.now (has pairs.now) goal.now i x }
 {
-    let mut j = 0;
-    while j < sizes.len() {
-        if is_against_at(sizes, pairs, goal, i, x, j) {
-            return true;
-        }
-        j += 1;
-    }
-    false
+    (0..sizes.len()).any(|j| is_against_at(sizes, pairs, goal, i, x, j))
 }
 
 // Whether the operator that forgets value x of variable i is left out: a lean task leaves out all of the variables that are named.
+#[tactic(auto, unfolding(crate::specs::Out::out_by))]
 fn is_left_out(sizes: &[u64], pairs: &[u64], goal: &[u64], lean: bool, i: usize, x: usize) -> bool
     requires { Listed sizes.now pairs.now × State sizes.now goal.now × (i < length sizes.now) × (x < size sizes.now i) }
     ensures { result ≡ out_by sizes.now (has pairs.now) goal.now lean i x }
@@ -64,44 +76,42 @@ fn is_left_out(sizes: &[u64], pairs: &[u64], goal: &[u64], lean: bool, i: usize,
     is_against(sizes, pairs, goal, i, x)
 }
 
-// The first value of variable i that is kept from x on, or how many there are.
-fn next_value(sizes: &[u64], pairs: &[u64], goal: &[u64], lean: bool, i: usize, x: usize) -> usize
+// The first value of variable i that is kept from x on, where there is one.
+fn next_value(
+    sizes: &[u64],
+    pairs: &[u64],
+    goal: &[u64],
+    lean: bool,
+    i: usize,
+    x: usize,
+) -> Option<usize>
     requires { Listed sizes.now pairs.now × State sizes.now goal.now × (i < length sizes.now) × (x ≤ size sizes.now i - 1) }
     ensures { FoundIn sizes.now (out_by sizes.now (has pairs.now) goal.now lean) i x result }
 {
     let end = numbering::size(sizes, i) - 1;
-    let mut y = x;
-    while y < end {
-        if !is_left_out(sizes, pairs, goal, lean, i, y) {
-            return y;
-        }
-        y += 1;
-    }
-    y
+    (x..end).find(|y| !is_left_out(sizes, pairs, goal, lean, i, *y))
 }
 
-// The first that is kept from value x of variable i on.
-pub fn next_kept(sizes: &[u64], pairs: &[u64], goal: &[u64], lean: bool, i: usize, x: usize) -> Kept
+// The first that is kept from value x of variable i on, where there is one.
+pub fn next_kept(
+    sizes: &[u64],
+    pairs: &[u64],
+    goal: &[u64],
+    lean: bool,
+    i: usize,
+    x: usize,
+) -> Option<Kept>
     requires { Listed sizes.now pairs.now × State sizes.now goal.now × (i ≤ length sizes.now) × (x ≤ size sizes.now i - 1) }
     ensures { Found sizes.now (out_by sizes.now (has pairs.now) goal.now lean) i x result }
 {
-    let mut j = i;
-    let mut y = x;
-    while j < sizes.len() {
-        let z = next_value(sizes, pairs, goal, lean, j, y);
-        if z < numbering::size(sizes, j) - 1 {
-            return Kept {
-                variable: j,
-                value: z,
-            };
+    let mut from = x;
+    for variable in i..sizes.len() {
+        if let Some(value) = next_value(sizes, pairs, goal, lean, variable, from) {
+            return Some(Kept { variable, value });
         }
-        j += 1;
-        y = 0;
+        from = 0;
     }
-    Kept {
-        variable: j,
-        value: 0,
-    }
+    None
 }
 
 // How many are kept.
@@ -109,10 +119,10 @@ pub fn count_kept(sizes: &[u64], pairs: &[u64], goal: &[u64], lean: bool) -> usi
     requires { Listed sizes.now pairs.now × State sizes.now goal.now }
     ensures { result ≡ length (kept_in sizes.now (has pairs.now) goal.now lean) }
 {
-    let mut kept = next_kept(sizes, pairs, goal, lean, 0, 0);
+    let mut next = next_kept(sizes, pairs, goal, lean, 0, 0);
     let mut count = 0;
-    while kept.variable < sizes.len() {
-        kept = next_kept(sizes, pairs, goal, lean, kept.variable, kept.value + 1);
+    while let Some(kept) = next {
+        next = next_kept(sizes, pairs, goal, lean, kept.variable, kept.value + 1);
         count += 1;
     }
     count

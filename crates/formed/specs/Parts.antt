@@ -1,13 +1,10 @@
 -- The parts of a workspace, and the content that they make.
-use Rattle.std.specs.Prelude.{ℕ, zero, suc, ◌+◌, ◌*◌, ◌<◌, ◌≤◌, ◌≡◌, refl, Bool, false, ◌&&◌, List, [], ◌∷◌, ltb, get_or, take, drop}
+use Rattle.std.specs.Prelude.{ℕ, zero, suc, ◌+◌, ◌*◌, ◌<◌, ◌≤◌, ◌≡◌, refl, Bool, ◌&&◌, List, [], ◌∷◌, ltb, get_or, take, drop}
 use Rattle.std.proofs.Math.Path.{ap, fun_ext}
 use Rattle.std.proofs.Common.{sym, ◌∙◌, subst, arith, take-take, drop-drop, ltb-true}
 use Rattle.std.proofs.Math.ListN.{length}
 use Rattle.meaning.specs.Limits.{least_variables, most_variables, most_features}
-use Rattle.meaning.specs.Task.{State}
 use Rattle.meaning.specs.Feature.{atoms, features}
-use Rattle.meaning.specs.Pair.{holds}
-use Rattle.meaning.specs.Slot.{Reduced}
 use Rattle.meaning.specs.File.{InLimits, Taken}
 use Rattle.meaning.specs.Workspace.{has, words_for, sizes_at, start_at, goal_at, pairs_at, slots_at, words_due, Content, Proper, WellFormed}
 use Rattle.theory.specs.Truth.{on, off, test}
@@ -16,10 +13,9 @@ use Rattle.theory.specs.Words.{Words}
 use Rattle.theory.specs.Numbering.{atoms-room}
 use Rattle.theory.specs.Contents.{sizes_in, content_by, content_in, formed-by, formed-proper, formed-due}
 use Rattle.layout.specs.Parts.{sizes_part, start_part, goal_part, pairs_part, slots_part, Due, length_part}
-use Rattle.numbering.specs.Sizes.{SmallSizes, limits-small}
 use Rattle.pairs.specs.Ready.{Listed}
 use Rattle.slots.specs.Area.{slot_at, slots_in, slot-in}
-use Rattle.formed.specs.Tests.{EachSize, Within}
+use Rattle.formed.specs.Tests.{EachSize}
 
 -- The content that five parts make.
 abbrev pub content_from : List ℕ → List ℕ → List ℕ → List ℕ → List ℕ → Content
@@ -46,23 +42,11 @@ pub record Sized (ws : List ℕ) (v n : ℕ) : Type 0 where
 -- ---- parts that are cut
 
 module _ {sizes start goal pairs area : List ℕ} {n : ℕ} (cut : Cut sizes start goal pairs area n) where
-  pub cut_small : SmallSizes sizes
-  cut_small = limits-small sizes cut.limits
-
   pub cut-bounds : (atoms sizes ≤ n) × (n ≤ most_features)
   cut-bounds = rw cut.total (atoms-room sizes, cut.limits.total)
 
   pub cut-listed : Listed sizes pairs
   cut-listed = record { limits = cut.limits; due = rw (← cut.total) cut.words }
-
-  -- What tells the bounds of the listed features tells those of pair features.
-  pub cut-pairs : {b : Bool} (low : ℕ) → low ≡ atoms sizes → Tells b (Within (has pairs) low n) → Tells b (Within (has pairs) (atoms sizes) (features sizes))
-  cut-pairs low e t = rw (e, cut.total) at t
-
-  -- Where all else is proper, what tells the shape of the slots tells that the content is proper.
-  pub cut-proper : {b : Bool} → State sizes start → State sizes goal → Within (has pairs) (atoms sizes) (features sizes) → holds sizes (has pairs) start ≡ false
-      → Tells b (Reduced n (slots_in n area)) → Tells b (Proper (content_from sizes start goal pairs area))
-  cut-proper s g w h t = tells-map (λ R. record { limits = cut.limits; taken = cut.taken; start = s; goal = g; pairs = w; free = h; slots = R }) (λ p. p.slots) (rw cut.total at t)
 
 -- ---- parts of lists
 
@@ -154,9 +138,6 @@ module _ (ws sizes : List ℕ) (q : sizes ≡ sizes_in ws) where
     count : length sizes ≡ get_or ws 0 0
     unfolding sizes_in
     count = ap length q ∙ length_part sizes_at (get_or ws 0 0) ws room
-
-    pub sizes-small : SmallSizes sizes
-    sizes-small = record { few = omega (arith, count); small = λ i l. (each i l).1 }
 
     pub sizes-sized : (n : ℕ) → n ≡ features sizes → n ≤ most_features → Sized ws (get_or ws 0 0) n
     sizes-sized n e l = record { count = refl; room = room; limits = subst InLimits q within; taken = subst Taken q (λ i l. (each i l).0); total = e ∙ ap features q }

@@ -14,29 +14,18 @@ ghost use Rattle.formed.specs.Formed.{FormedIs};
 use limits::{LEAST_SIZE, LEAST_VARIABLES, MOST_FEATURES, MOST_SIZE, MOST_VARIABLES};
 use words::WORD_BITS;
 
-// Whether words are a well formed workspace, and how many variables and features it has then.
+// How many variables and features a workspace has.
 #[derive(Clone, Copy)]
-pub enum Formed {
-    Yes { variables: usize, features: usize },
-    No,
+pub struct Shape {
+    pub variables: usize,
+    pub features: usize,
 }
 
 // Whether each size is within its limits.
 fn are_sizes(sizes: &[u64]) -> bool
     ensures { Tells result (EachSize sizes.now (length sizes.now)) }
 {
-    let mut i = 0;
-    while i < sizes.len() {
-        let size = sizes[i] as usize;
-        if size < LEAST_SIZE {
-            return false;
-        }
-        if MOST_SIZE < size {
-            return false;
-        }
-        i += 1;
-    }
-    true
+    sizes.iter().all(|size| (LEAST_SIZE..=MOST_SIZE).contains(&(*size as usize)))
 }
 
 // Whether each value is below the size of its variable.
@@ -44,14 +33,7 @@ fn is_state(sizes: &[u64], values: &[u64]) -> bool
     requires { length values.now ≡ length sizes.now }
     ensures { Tells result (State sizes.now values.now) }
 {
-    let mut i = 0;
-    while i < sizes.len() {
-        if sizes[i] <= values[i] {
-            return false;
-        }
-        i += 1;
-    }
-    true
+    values.iter().zip(sizes).all(|(value, size)| value < size)
 }
 
 // Whether every member is at `low` or above it, and below n.
@@ -111,36 +93,33 @@ fn is_formed(workspace: &[u64], v: usize, n: usize) -> bool
     )
 }
 
-// Whether words are a well formed workspace. Any words are taken.
-pub fn well_formed(workspace: &[u64]) -> Formed
+// How many variables and features words have, where they are a well formed workspace. Any words are taken.
+pub fn well_formed(workspace: &[u64]) -> Option<Shape>
     ensures { FormedIs workspace.now result }
 {
-    if workspace.len() == 0 {
-        return Formed::No;
-    }
-    let v = workspace[0] as usize;
+    let v = *workspace.first()? as usize;
     if v < LEAST_VARIABLES {
-        return Formed::No;
+        return None;
     }
     if MOST_VARIABLES < v {
-        return Formed::No;
+        return None;
     }
     if workspace.len() < layout::start_at(v) {
-        return Formed::No;
+        return None;
     }
     let sizes = layout::sizes(workspace, v);
     if !are_sizes(sizes) {
-        return Formed::No;
+        return None;
     }
     let n = numbering::features(sizes);
     if MOST_FEATURES < n {
-        return Formed::No;
+        return None;
     }
     if !is_formed(workspace, v, n) {
-        return Formed::No;
+        return None;
     }
-    Formed::Yes {
+    Some(Shape {
         variables: v,
         features: n,
-    }
+    })
 }

@@ -1,31 +1,30 @@
--- The listed pairs that are unclosed under an operator, marked one after another with their atoms.
-use Rattle.std.specs.Prelude.{ℕ, ◌+◌, ◌<◌, ◌≤◌, ◌≡◌, refl, ◌≢◌, Bool, true, ◌&&◌, List, eqb, ltb, get_or, replicate}
+-- The listed pairs that are unclosed under an operator, marked one after another with their atoms; and whether a set of atoms may matter to an operator, entry after entry.
+use Rattle.std.specs.Prelude.{ℕ, ◌+◌, ◌<◌, ◌≤◌, ◌≡◌, refl, Bool, true, ◌&&◌, ◌||◌, Option, Some, None, IfSome, eqb, ltb, drop, replicate}
 use Rattle.std.proofs.Math.Path.{sym, ap}
-use Rattle.std.proofs.Common.{◌∙◌, subst, arith, eqb-true, eq-eqb, ne_eqb, ltb-true, ltb-false, lt-ltb, le-ltb}
+use Rattle.std.proofs.Common.{◌∙◌, subst, arith, true≢false, add-one, drop-cons, drop_of_length-le, eqb-true, eq-eqb, ne_eqb, ltb-true, ltb-false, lt-ltb, le-ltb}
 use Rattle.std.proofs.Math.Bool.{false}
 use Rattle.std.proofs.Math.ListN.{length}
 use Rattle.std.proofs.lemmas.List.{length-replicate}
-use Rattle.meaning.specs.Sets.{◌⊕◌}
+use mathlib.Core.List.{List, ◌∷◌}
+use Rattle.meaning.specs.Sets.{Set, ◌⊕◌, any_of, two_of}
 use Rattle.meaning.specs.Task.{Operator, Entries}
 use Rattle.meaning.specs.Feature.{atoms, features, single}
 use Rattle.meaning.specs.Pair.{unclosed_pair}
 use Rattle.meaning.specs.Workspace.{has}
-use Rattle.meaning.specs.Answer.{operator_in}
 use Rattle.meaning.specs.Mend.{Within}
 use Rattle.theory.specs.Truth.{on, off, test, clash, less, same, more, order}
-use Rattle.theory.specs.Search.{and_both, and-none-left, and-none-right, or_left, or_right, or-neither, some_at, some-not}
+use Rattle.theory.specs.Search.{and_left, and_both, and-none-right, or_left, or_right, any_at, any-not, two-get, earlier-left}
 use Rattle.theory.specs.Numbering.{single-below, double-only}
 use Rattle.theory.specs.Closed.{listed_unclosed, unclosed-above, unclosed-below}
 use Rattle.theory.specs.Mending.{before_in, beside_in, touched_in}
-use Rattle.theory.specs.Slices.{entries_in, entry_in}
+use Rattle.theory.specs.Walk.{entry_at}
+use Rattle.theory.specs.Given.{entry_of}
 use Rattle.numbering.specs.Order.{Joins}
 use Rattle.words.specs.Change.{toggled, length-toggled, has-toggled, Includes}
-use Rattle.words.specs.Next.{Next, Clear}
 use Rattle.words.specs.Part.{has-none}
 use Rattle.pairs.specs.declared.PairAt.{PairAt}
-use Rattle.pairs.specs.Places.{any-table, two-table}
 use Rattle.pairs.specs.Ready.{Listed}
-use Rattle.pairs.specs.Walk.{Found, Reached, reached-first}
+use Rattle.pairs.specs.Walk.{ListedAt, place_in, pairs_left, Reached}
 
 -- ---- the atoms of a pair
 
@@ -60,75 +59,60 @@ pub touched-both : (sizes : List ℕ) (f i x j y a b : ℕ) (before middle now :
 touched-both sizes f i x j y a b before middle now joins here first' there second' =
     both-put sizes f i x j y before middle now joins (subst (λ n. Includes before n middle) here first') (subst (λ n. Includes middle n now) there second')
 
--- ---- what matters to an operator, by places
+-- ---- what matters to an operator, entry after entry
 
-module _ (sizes words variables befores : List ℕ) where
-  -- The before atom at a place is in the set.
-  unfoldable pub atom_in : ℕ → Bool
-  atom_in k = has words (single sizes (get_or variables k 0) (get_or befores k 0))
+-- Whether it is touched, by the entries that are left, where a before atom was met among those before them or none was.
+abbrev pub awaited : List ℕ → Set → Bool → Operator → Bool → Bool
+awaited sizes touched beside rest true = any_of (before_in sizes touched) rest || beside
+awaited sizes touched beside rest false = two_of (λ e e'. before_in sizes touched e && before_in sizes touched e') rest || (any_of (before_in sizes touched) rest && beside)
 
-  -- From place to place.
-  pub atom-met : (start k a : ℕ) (told : Bool) → start ≤ k → k < length variables → Clear atom_in start k → a ≡ single sizes (get_or variables k 0) (get_or befores k 0) → told ≡ has words a → told ≡ true
-      → Next atom_in (length variables) start k
-  unfolding atom_in
-  atom-met start k a told above l clear e q t = record { above = above; within = omega arith; clear = clear; member = λ h. ap (has words) (sym e) ∙ sym q ∙ t }
+-- From entry to entry.
+module _ (sizes : List ℕ) (touched : Set) (o : Operator) where
+  -- Of all entries, where none was met yet, that is what is asked.
+  abbrev pub left-from : ℕ → Bool → Bool
+  left-from k = awaited sizes touched (beside_in sizes touched o) (drop k o)
 
-  pub atom-passed : (start k a : ℕ) (told : Bool) → Clear atom_in start k → a ≡ single sizes (get_or variables k 0) (get_or befores k 0) → told ≡ has words a → told ≡ false → Clear atom_in start (k + 1)
-  unfolding atom_in
-  atom-passed start k a told clear e q t f l h = elim (order f k) [
-    | less m ↦ clear f l m
-    | same z ↦ rw z (ap (has words) (sym e) ∙ sym q ∙ t)
-    | more m ↦ absurd (omega arith)
-  ]
+  pub left-start : left-from 0 false ≡ touched_in sizes touched o
+  unfolding touched_in
+  left-start = refl
 
-  pub atoms-passed : (start k : ℕ) → start ≤ k → k ≤ length variables → length variables ≤ k → Clear atom_in start k → Next atom_in (length variables) start k
-  atoms-passed start k above within l clear = record { above = above; within = within; clear = clear; member = λ h. absurd (omega arith) }
+  pub left-end : (k : ℕ) (met : Bool) → length o ≤ k → left-from k met ≡ (met && beside_in sizes touched o)
+  unfolding any_of two_of
+  left-end k true h = rw (drop_of_length-le o {i = k} h) refl
+  left-end k false h = rw (drop_of_length-le o {i = k} h) refl
 
-  module _ (afters : List ℕ) where
-    -- In turns: none up to a place, the one there, or one further on.
-    touched_none : ((k : ℕ) → k < length variables → atom_in k ≡ false) → false ≡ touched_in sizes (has words) (entries_in variables befores afters)
-    unfolding touched_in operator_in atom_in
-    touched_none none = sym (or-neither _ _
-        (two-table _ (length variables) (entry_in variables befores afters) ∙ some-not (length variables) _ (λ l h. some-not l _ (λ k j. and-none-right (atom_in k) (atom_in l) (none l h))))
-        (and-none-left _ _ (any-table _ (length variables) (entry_in variables befores afters) ∙ some-not (length variables) _ none)))
+  module _ (k : ℕ) (inside : k < length o) where
+    split : drop k o ≡ entry_at o k ∷ drop (k + 1) o
+    split = drop-cons o k (entry_of 0 0 0) inside ∙ ap (λ j. entry_at o k ∷ drop j o) (sym (add-one k))
 
-    touched-two : (k l : ℕ) → k < l → l < length variables → atom_in k ≡ true → atom_in l ≡ true → true ≡ touched_in sizes (has words) (entries_in variables befores afters)
-    unfolding touched_in operator_in atom_in
-    touched-two k l h j p q = sym (or_left _ _ (two-table _ (length variables) (entry_in variables befores afters) ∙ some_at (length variables) _ l j (some_at l _ k h (and_both (atom_in k) (atom_in l) p q))))
+    pub left-second : before_in sizes touched (entry_at o k) ≡ true → left-from k true ≡ true
+    unfolding any_of
+    left-second e = rw (split, e) refl
 
-    touched-one : (k : ℕ) → k < length variables → atom_in k ≡ true → ((l : ℕ) → l < length variables → l ≢ k → atom_in l ≡ false)
-        → beside_in sizes (has words) (entries_in variables befores afters) ≡ touched_in sizes (has words) (entries_in variables befores afters)
-    unfolding touched_in operator_in atom_in
-    touched-one k h p others = sym (rw (
-      any-table (before_in sizes (has words)) (length variables) (entry_in variables befores afters) ∙ some_at (length variables) _ k h p,
-      two-table (λ e e'. before_in sizes (has words) e && before_in sizes (has words) e') (length variables) (entry_in variables befores afters)
-          ∙ some-not (length variables) _ (λ l j. some-not l _ (λ i m. apart i l m j)),
-    ) refl)
+    pub left-first : before_in sizes touched (entry_at o k) ≡ true → left-from k false ≡ left-from (k + 1) true
+    unfolding any_of two_of
+    left-first e = rw (split, e) (ap (λ b. b || beside_in sizes touched o) (absorbed _ _ two-any))
       where
-        apart : (i l : ℕ) → i < l → l < length variables → (atom_in i && atom_in l) ≡ false
-        apart i l m j = elim (order i k) [
-          | less z ↦ and-none-left (atom_in i) (atom_in l) (others i (omega arith) (λ q. omega arith))
-          | same z ↦ and-none-right (atom_in i) (atom_in l) (others l j (λ q. omega arith))
-          | more z ↦ and-none-left (atom_in i) (atom_in l) (others i (omega arith) (λ q. omega arith))
-        ]
+        absorbed : (a b : Bool) → (b ≡ true → a ≡ true) → (a || b) ≡ a
+        absorbed true b h = refl
+        absorbed false true h = absurd (true≢false (sym (h refl)))
+        absorbed false false h = refl
 
-  module _ (first : ℕ) (found : Next atom_in (length variables) 0 first) where
-    pub never-touched : length variables ≤ first → (afters : List ℕ) → false ≡ touched_in sizes (has words) (entries_in variables befores afters)
-    never-touched l afters = touched_none afters (λ k h. found.clear k (omega arith) (omega arith))
+        two-any : two_of (λ e e'. before_in sizes touched e && before_in sizes touched e') (drop (k + 1) o) ≡ true → any_of (before_in sizes touched) (drop (k + 1) o) ≡ true
+        two-any q = let (x, x', r, z) = two-get _ (drop (k + 1) o) q in any_at _ _ x (earlier-left r) (and_left (before_in sizes touched x) (before_in sizes touched x') z)
 
-    module _ (second : ℕ) (inside : first < length variables) (next : Next atom_in (length variables) (first + 1) second) where
-      pub twice-touched : second < length variables → (afters : List ℕ) → true ≡ touched_in sizes (has words) (entries_in variables befores afters)
-      twice-touched l afters = touched-two afters first second (omega (arith, next.above)) l (found.member inside) (next.member l)
-
-      pub once-touched : length variables ≤ second → (afters : List ℕ)
-          → beside_in sizes (has words) (entries_in variables befores afters) ≡ touched_in sizes (has words) (entries_in variables befores afters)
-      once-touched l afters = touched-one afters first inside (found.member inside) (λ k h d. elim (order k first) [
-        | less z ↦ found.clear k (omega arith) z
-        | same z ↦ absurd (d z)
-        | more z ↦ next.clear k (omega arith) (omega arith)
-      ])
+    pub left-next : (met : Bool) → before_in sizes touched (entry_at o k) ≡ false → left-from k met ≡ left-from (k + 1) met
+    unfolding any_of two_of
+    left-next true e = rw (split, e) refl
+    left-next false e = rw (split, e, any-not (λ e'. false) (drop (k + 1) o) (λ e' m. refl)) refl
 
 -- ---- marks
+
+-- The walk comes nearer to the end.
+pub reached-fewer : (sizes pairs : List ℕ) (o : Operator) (end : ℕ) (pair : PairAt) (next : Option PairAt) → end ≡ features sizes → Reached sizes pairs o (pair.feature + 1) next
+    → pairs_left end next < pairs_left end (Some pair)
+reached-fewer sizes pairs o end pair None all reached = omega arith
+reached-fewer sizes pairs o end pair (Some next) all reached = omega (arith, all, reached.above, reached.listed.below)
 
 module _ (sizes pairs : List ℕ) (o : Operator) (touched₀ : List ℕ) where
   -- Below a feature all that is unclosed is marked, and the atoms of what is marked are touched.
@@ -140,6 +124,12 @@ module _ (sizes pairs : List ℕ) (o : Operator) (touched₀ : List ℕ) where
     pub touches : (g i x j y : ℕ) → has gone g ≡ true → Joins sizes g i x j y → (has touched (single sizes i x) ≡ true) × (has touched (single sizes j y) ≡ true)
     pub untouched : ((g : ℕ) → has gone g ≡ false) → touched ≡ touched₀
 
+  -- What is known where the walk has come to a pair, or past all.
+  pub record Marking (next : Option PairAt) (gone touched : List ℕ) : Type 0 where
+    pub marked : MarkedTo (place_in sizes next) gone touched
+    pub at : IfSome next (ListedAt sizes pairs)
+    pub told : IfSome next (λ pair. unclosed_pair sizes (has pairs) o pair.feature ≡ true)
+
   -- All of it.
   pub record Marked (gone touched : List ℕ) : Type 0 where
     pub gone_long : length gone ≡ length pairs
@@ -150,12 +140,12 @@ module _ (sizes pairs : List ℕ) (o : Operator) (touched₀ : List ℕ) where
     pub untouched : ((g : ℕ) → has gone g ≡ false) → touched ≡ touched₀
 
   -- Up to the first that is unclosed nothing is.
-  pub marked_start : (pair : PairAt) → Reached sizes pairs o (atoms sizes) pair → (gone : List ℕ) → gone ≡ replicate (length pairs) 0 → MarkedTo pair.feature gone touched₀
-  marked_start pair reached gone none = record {
+  pub marked_start : (first : Option PairAt) → Reached sizes pairs o (atoms sizes) first → (gone : List ℕ) → gone ≡ replicate (length pairs) 0 → MarkedTo (place_in sizes first) gone touched₀
+  marked_start first reached gone none = record {
     gone_long = ap length none ∙ length-replicate {A = ℕ} (length pairs) 0;
     touched-long = refl;
-    each = λ g. empty g ∙ sym (elim (test (ltb g pair.feature)) [
-      | on e ↦ and-none-right (ltb g pair.feature) _ (elim (test (ltb g (atoms sizes))) [
+    each = λ g. empty g ∙ sym (elim (test (ltb g (place_in sizes first))) [
+      | on e ↦ and-none-right (ltb g (place_in sizes first)) _ (elim (test (ltb g (atoms sizes))) [
         | on q ↦ and-none-right (has pairs g) _ (unclosed-above sizes (has pairs) o g (ltb-true g _ q))
         | off q ↦ reached.none g (ltb-false g _ q) (ltb-true g _ e)
       ])
@@ -170,14 +160,14 @@ module _ (sizes pairs : List ℕ) (o : Operator) (touched₀ : List ℕ) where
       empty g = ap (λ l. has l g) none ∙ has-none (length pairs) g
 
   -- One more is marked, and none stands between it and the next one.
-  module _ (listed : Listed sizes pairs) (pair : PairAt) (gone touched : List ℕ) (marked : MarkedTo pair.feature gone touched) (reached : Reached sizes pairs o pair.feature pair)
-      (below : pair.feature < features sizes) (unclosed : unclosed_pair sizes (has pairs) o pair.feature ≡ true) where
+  module _ (listed : Listed sizes pairs) (pair : PairAt) (gone touched : List ℕ) (marked : MarkedTo pair.feature gone touched) (at : ListedAt sizes pairs pair)
+      (unclosed : unclosed_pair sizes (has pairs) o pair.feature ≡ true) where
     here : listed_unclosed sizes (has pairs) o pair.feature ≡ true
-    here = and_both (has pairs pair.feature) (unclosed_pair sizes (has pairs) o pair.feature) (reached.listed below) unclosed
+    here = and_both (has pairs pair.feature) (unclosed_pair sizes (has pairs) o pair.feature) at.listed unclosed
 
-    pub marked_next : (gone' touched' : List ℕ) (next last : PairAt) → gone' ≡ toggled gone pair.feature → Touched sizes pair.feature touched touched'
-        → Found sizes pairs (pair.feature + 1) next → Reached sizes pairs o next.feature last → MarkedTo last.feature gone' touched'
-    marked_next gone' touched' next last toggles touch found on-reached = record {
+    pub marked_next : (gone' touched' : List ℕ) (next : Option PairAt) → gone' ≡ toggled gone pair.feature → Touched sizes pair.feature touched touched'
+        → Reached sizes pairs o (pair.feature + 1) next → MarkedTo (place_in sizes next) gone' touched'
+    marked_next gone' touched' next toggles touch reached = record {
       gone_long = ap length toggles ∙ length-toggled gone pair.feature ∙ marked.gone_long;
       touched-long = touch.long ∙ marked.touched-long;
       each = each;
@@ -190,38 +180,32 @@ module _ (sizes pairs : List ℕ) (o : Operator) (touched₀ : List ℕ) where
     }
       where
         changed : (g : ℕ) → has gone' g ≡ eqb g pair.feature ⊕ has gone g
-        changed g = ap (λ l. has l g) toggles ∙ has-toggled gone pair.feature g (omega (arith, marked.gone_long, listed.due))
+        changed g = ap (λ l. has l g) toggles ∙ has-toggled gone pair.feature g (omega (arith, at.below, marked.gone_long, listed.due))
 
         old : (g : ℕ) → eqb g pair.feature ≡ false → has gone g ≡ has gone' g
         old g q = sym (changed g ∙ rw q refl)
 
-        after : pair.feature < last.feature
-        after = omega (arith, found.next.above, on-reached.above)
+        between : (g : ℕ) → pair.feature < g → g < place_in sizes next → listed_unclosed sizes (has pairs) o g ≡ false
+        between g l k = reached.none g (omega arith) k
 
-        between : (g : ℕ) → pair.feature < g → g < last.feature → listed_unclosed sizes (has pairs) o g ≡ false
-        between g l k = elim (test (ltb g next.feature)) [
-          | on e ↦ (reached-first sizes pairs o listed (pair.feature + 1) next found).none g (omega arith) (ltb-true g _ e)
-          | off e ↦ on-reached.none g (ltb-false g _ e) k
-        ]
-
-        each : (g : ℕ) → has gone' g ≡ (ltb g last.feature && listed_unclosed sizes (has pairs) o g)
+        each : (g : ℕ) → has gone' g ≡ (ltb g (place_in sizes next) && listed_unclosed sizes (has pairs) o g)
         each g = changed g ∙ elim (order g pair.feature) [
-          | less l ↦ rw (ne_eqb g pair.feature (omega arith), marked.each g, lt-ltb g pair.feature l, lt-ltb g last.feature (omega (arith, after))) refl
-          | same l ↦ rw (l, eq-eqb pair.feature pair.feature refl, marked.each pair.feature, le-ltb pair.feature pair.feature (omega arith), lt-ltb pair.feature last.feature after) (sym here)
-          | more l ↦ rw (ne_eqb g pair.feature (omega arith), marked.each g, le-ltb g pair.feature (omega arith)) (sym (elim (test (ltb g last.feature)) [
-            | on e ↦ and-none-right (ltb g last.feature) _ (between g l (ltb-true g _ e))
+          | less l ↦ rw (ne_eqb g pair.feature (omega arith), marked.each g, lt-ltb g pair.feature l, lt-ltb g (place_in sizes next) (omega (arith, reached.above))) refl
+          | same l ↦ rw (l, eq-eqb pair.feature pair.feature refl, marked.each pair.feature, le-ltb pair.feature pair.feature (omega arith), lt-ltb pair.feature (place_in sizes next) (omega (arith, reached.above))) (sym here)
+          | more l ↦ rw (ne_eqb g pair.feature (omega arith), marked.each g, le-ltb g pair.feature (omega arith)) (sym (elim (test (ltb g (place_in sizes next))) [
+            | on e ↦ and-none-right (ltb g (place_in sizes next)) _ (between g l (ltb-true g _ e))
             | off e ↦ rw e refl
           ]))
         ]
 
   -- Past the last feature.
-  pub marked_all : Entries sizes 0 o → (f : ℕ) (gone touched : List ℕ) → features sizes ≤ f → MarkedTo f gone touched → Marked gone touched
-  marked_all fine f gone touched l marked = record {
+  pub marked_all : Entries sizes 0 o → (next : Option PairAt) (gone touched : List ℕ) → next ≡ None → Marking next gone touched → Marked gone touched
+  marked_all fine next gone touched end marking = let marked : MarkedTo (features sizes) gone touched = subst (λ n. MarkedTo (place_in sizes n) gone touched) end marking.marked in record {
     gone_long = marked.gone_long;
     touched-long = marked.touched-long;
     each = λ g. marked.each g ∙ elim (test (unclosed_pair sizes (has pairs) o g)) [
-      | on e ↦ rw (lt-ltb g f (omega (arith, unclosed-below sizes (has pairs) o fine g e))) refl
-      | off e ↦ let none = and-none-right (has pairs g) (unclosed_pair sizes (has pairs) o g) e in and-none-right (ltb g f) _ none ∙ sym none
+      | on e ↦ rw (lt-ltb g (features sizes) (unclosed-below sizes (has pairs) o fine g e)) refl
+      | off e ↦ let none = and-none-right (has pairs g) (unclosed_pair sizes (has pairs) o g) e in and-none-right (ltb g (features sizes)) _ none ∙ sym none
     ];
     within = marked.within;
     touches = marked.touches;

@@ -1,6 +1,6 @@
 -- Passes over the operators of a task: an operator is judged only where one of its before atoms may be touched, and after a pass that takes nothing out the list is closed under all of them.
 use Prim.Native.Nat.{ℕ, suc, ◌+◌, ◌-◌, ◌<◌, ◌≤◌}
-use Rattle.std.specs.Prelude.{◌≡◌, ◌⊎◌, Bool, true, false, not, ◌&&◌, ◌||◌, cond}
+use Rattle.std.specs.Prelude.{◌≡◌, ◌⊎◌, Bool, true, false, not, ◌&&◌, ◌||◌}
 use Rattle.std.proofs.Math.Path.{refl, sym, ap, subst}
 use Rattle.std.proofs.Common.{◌∙◌, true≢false}
 use Rattle.std.proofs.Math.Logic.{inl, inr}
@@ -16,8 +16,7 @@ use Rattle.meaning.specs.Sets.{Set, count, some, any_of, two_of}
 use Rattle.meaning.specs.Task.{Operator, Task, names, size}
 use Rattle.meaning.specs.Feature.{features, single}
 use Rattle.meaning.specs.Pair.{closed, unclosed_pair}
-use Rattle.meaning.specs.Number as meaning
-use Rattle.meaning.specs.Number.{Read, got, fault}
+use Rattle.meaning.specs.Number.{Reason, got, fault}
 use Rattle.meaning.specs.File.{operator_of, operators_of}
 use Rattle.meaning.specs.Workspace.{has}
 use Rattle.meaning.specs.Mend.{Within}
@@ -27,10 +26,6 @@ use Rattle.theory.specs.Count.{count-within}
 use Rattle.theory.specs.Accepted.{Readable}
 use Rattle.theory.specs.Mending.{Below, Narrowed, narrowed-self, narrowed-on, unclosed-narrowed, before_in, beside_in, touched_in, closed-steady, without-within}
 use Rattle.theory.specs.Reading.{not-got, got-value, got-next}
-use Rattle.number.specs.Answers.{place_of, place-next, place-faulted}
-use Rattle.number.specs.declared.Reason.{Reason}
-use Rattle.number.specs.declared.Step.{Step}
-use Rattle.number.specs.declared.Step.TheVariants.{Next, Fault}
 use Rattle.operator.specs.Fold.{operators-apart, operators-fault, operators-none}
 use Rattle.keeping.specs.Turn.{TurnTo, TurnBy}
 
@@ -40,32 +35,11 @@ use Rattle.keeping.specs.Turn.{TurnTo, TurnBy}
 abbrev pub due : List ℕ → Bool → Set → Set → Operator → Bool
 due sizes all old touched o = all || (touched_in sizes old o || touched_in sizes touched o)
 
--- By what is read at a place: an operator's turn, or nothing where there is none or it is passed over.
-unfoldable pub TurnAt : Read Operator → List ℕ → Bool → List ℕ → List ℕ → List ℕ → List ℕ → List ℕ → Bool → Type 0
-TurnAt (got o next) sizes all old pairs₀ touched₀ pairs touched any =
+-- An operator's turn, or nothing where it is passed over.
+abbrev pub TurnIf : List ℕ → Bool → List ℕ → Operator → List ℕ → List ℕ → List ℕ → List ℕ → Bool → Type 0
+TurnIf sizes all old o pairs₀ touched₀ pairs touched any =
     TurnBy sizes o pairs₀ touched₀ pairs touched any
     ⊎ ((due sizes all (has old) (has touched₀) o ≡ false) × (pairs ≡ pairs₀) × (touched ≡ touched₀) × (any ≡ false))
-TurnAt (fault reason place) sizes all old pairs₀ touched₀ pairs touched any = (pairs ≡ pairs₀) × (touched ≡ touched₀) × (any ≡ false)
-
-module _ (sizes : List ℕ) (all : Bool) (old pairs touched : List ℕ) where
-  pub turn-judged : (o : Operator) (next : ℕ) (pairs' touched' : List ℕ) (any : Bool) → TurnBy sizes o pairs touched pairs' touched' any
-      → TurnAt (got o next) sizes all old pairs touched pairs' touched' any
-  unfolding TurnAt
-  turn-judged o next pairs' touched' any turn = inl turn
-
-  pub turn-over : (o : Operator) (next : ℕ) → all ≡ false → touched_in sizes (has old) o ≡ false → touched_in sizes (has touched) o ≡ false
-      → TurnAt (got o next) sizes all old pairs touched pairs touched false
-  unfolding TurnAt
-  turn-over o next x y z = inr (rw (x, y) z, refl, refl, refl)
-
-  -- By what was read.
-  pub turn-read : (read : Read Operator) (o : Operator) (next : ℕ) (pairs' touched' : List ℕ) (any : Bool) → read ≡ got o next
-      → TurnAt (got o next) sizes all old pairs touched pairs' touched' any → TurnAt read sizes all old pairs touched pairs' touched' any
-  turn-read read o next pairs' touched' any e turn = rw e turn
-
-  pub turn-unread : (read : Read Operator) (reason : meaning.Reason) (place : ℕ) → read ≡ fault reason place → TurnAt read sizes all old pairs touched pairs touched false
-  unfolding TurnAt
-  turn-unread read reason place e = rw e (refl, refl, refl)
 
 -- ---- one pass
 
@@ -129,11 +103,6 @@ touched-less sizes a b o within e = or-neither _ _
 touched_none : (sizes : List ℕ) (a : Set) (o : Operator) → ((x : ℕ) → a x ≡ false) → touched_in sizes a o ≡ false
 unfolding touched_in
 touched_none sizes a o none = or-neither _ _ (two-not _ o (λ x x' r. and-none-left (before_in sizes a x) _ (none _))) (and-none-left (any_of (before_in sizes a) o) _ (any-not _ o (λ x m. none _)))
-
--- One of the two, as code comes to it.
-pub either-told : (any one told : Bool) → ((any ≡ true) × (told ≡ any)) ⊎ ((any ≡ false) × (told ≡ one)) → told ≡ (any || one)
-either-told any one told (inl (e, q)) = q ∙ rw e refl
-either-told any one told (inr (e, q)) = q ∙ rw e refl
 
 due-parts : (a b c : Bool) → (a || (b || c)) ≡ false → (a ≡ false) × (b ≡ false) × (c ≡ false)
 due-parts false false c e = (refl, refl, e)
@@ -217,10 +186,19 @@ module _ (sizes bytes : List ℕ) (at many : ℕ) (all : Bool) (old pairs₀ : L
           );
     }
 
-    pass-more : (o : Operator) (after : ℕ) (pairs' touched' : List ℕ) (one any' : Bool) → k < many → operator_of sizes bytes next ≡ got o after
-        → TurnAt (got o after) sizes all old pairs touched pairs' touched' one → any' ≡ (any || one) → PassBy sizes bytes at many all old pairs₀ (k + 1) after pairs' touched' any'
-    unfolding TurnAt
-    pass-more o after pairs' touched' one any' l read turn told = record {
+    -- Operators that were read before can be read again.
+    pub pass-unread : (reason : Reason) (place : ℕ) → k < many → operator_of sizes bytes next ≡ fault reason place → PassTo sizes bytes at many all old pairs₀ pairs touched any
+    pass-unread reason place l read = record {
+      long = by.long;
+      quiet = by.quiet;
+      fewer = by.fewer;
+      passed = λ T stands below settled. let (rest, all_read, stand) = by.passed T stands below settled in
+          absurd (not-got (sym (operators-fault T.sizes bytes many k next _ place l (ap (λ s. operator_of s bytes next) (sym stands.sizes-are) ∙ read)) ∙ all_read));
+    }
+
+    pub pass-next : (o : Operator) (after : ℕ) (pairs' touched' : List ℕ) (one any' : Bool) → k < many → operator_of sizes bytes next ≡ got o after
+        → TurnIf sizes all old o pairs touched pairs' touched' one → any' ≡ (any || one) → PassBy sizes bytes at many all old pairs₀ (k + 1) after pairs' touched' any'
+    pass-next o after pairs' touched' one any' l read turn told = record {
       long = longs.0 ∙ by.long;
       touched-long = longs.1 ∙ by.touched-long;
       within = λ f e. by.within f (less f e);
@@ -269,35 +247,11 @@ module _ (sizes bytes : List ℕ) (at many : ℕ) (all : Bool) (old pairs₀ : L
               (subst (λ s. due s all (has old) (has touched) o ≡ false) sizes-are h.0))
         ]
 
-    -- What a turn answers: the place after an operator; and it leaves what that operator's turn leaves.
-    module _ (answer : Step) (pairs' touched' : List ℕ) (one : Bool) (more : k < many) (place : answer ≡ place_of (operator_of sizes bytes next))
-        (turn : TurnAt (operator_of sizes bytes next) sizes all old pairs touched pairs' touched' one) where
-      -- Operators that were read before can be read again.
-      pub pass-unread : (reason : Reason) (spot : ℕ) → answer ≡ Fault reason spot → PassTo sizes bytes at many all old pairs₀ pairs' touched' any
-      unfolding TurnAt
-      pass-unread reason spot e =
-          let read = place-faulted (operator_of sizes bytes next) reason spot (sym place ∙ e) in
-          let (same, still, none) = subst (λ r. TurnAt r sizes all old pairs touched pairs' touched' one) read turn in
-          rw (same, still) (record {
-            long = by.long;
-            quiet = by.quiet;
-            fewer = by.fewer;
-            passed = λ T stands below settled. let (rest, all_read, stand) = by.passed T stands below settled in
-                absurd (not-got (sym (operators-fault T.sizes bytes many k next _ spot more (ap (λ s. operator_of s bytes next) (sym stands.sizes-are) ∙ read)) ∙ all_read));
-          })
-
-      pub pass-next : (after : ℕ) (any' : Bool) → answer ≡ Next after → any' ≡ (any || one) → PassBy sizes bytes at many all old pairs₀ (k + 1) after pairs' touched' any'
-      pass-next after any' e told =
-          let (o, read) = place-next (operator_of sizes bytes next) after (sym place ∙ e) in
-          pass-more o after pairs' touched' one any' more read (subst (λ r. TurnAt r sizes all old pairs touched pairs' touched' one) read turn) told
-
 -- ---- pass after pass
 
--- After some passes: nothing that went is in a good sublist, and once a pass took nothing out the list is closed under every operator.
-pub record SettledTo (sizes bytes : List ℕ) (at many : ℕ) (pairs₀ : List ℕ) (first more : Bool) (touched pairs : List ℕ) : Type 0 where
+-- After some passes: nothing that went is in a good sublist.
+pub record SettledTo (sizes bytes : List ℕ) (at many : ℕ) (pairs₀ : List ℕ) (first : Bool) (touched pairs : List ℕ) : Type 0 where
   pub long : length pairs ≡ length pairs₀
-  pub begun : more ≡ false → first ≡ false
-  pub quiet : more ≡ false → (a : ℕ) → has touched a ≡ false
   pub settled : (T : Task) (stands : OperatorsAt T sizes bytes at many) → Below T stands.known (has pairs₀)
       → Narrowed T stands.known (has pairs₀) (has pairs) × Settled T first (has touched) (has pairs)
 
@@ -306,38 +260,20 @@ pub record Settles (sizes bytes : List ℕ) (at many : ℕ) (pairs₀ pairs : Li
   pub settles : (T : Task) (stands : OperatorsAt T sizes bytes at many) → Below T stands.known (has pairs₀)
       → Narrowed T stands.known (has pairs₀) (has pairs) × ((o : Operator) → In o T.operators → closed T.sizes (has pairs) o ≡ true)
 
--- Pairs become fewer, or there is no further pass.
-abbrev pub passes_left : List ℕ → List ℕ → Bool → ℕ
-passes_left sizes pairs more = count (features sizes) (has pairs) + cond more 1 0
-
 module _ (sizes bytes : List ℕ) (at many : ℕ) (pairs₀ : List ℕ) where
-  pub settled-start : (touched : List ℕ) → SettledTo sizes bytes at many pairs₀ true true touched pairs₀
-  settled-start touched = record {
-    long = refl;
-    begun = λ e. e;
-    quiet = λ e. absurd (true≢false e);
-    settled = λ T stands below. (narrowed-self T stands.known (has pairs₀), λ o m x. absurd (true≢false x));
-  }
-
-  module _ (first more : Bool) (touched pairs : List ℕ) (to : SettledTo sizes bytes at many pairs₀ first more touched pairs) where
-    pub settled-next : (fresh pairs' : List ℕ) (any : Bool) → PassTo sizes bytes at many first touched pairs pairs' fresh any → SettledTo sizes bytes at many pairs₀ false any fresh pairs'
-    settled-next fresh pairs' any pass = record {
+  module _ (first : Bool) (touched pairs : List ℕ) (to : SettledTo sizes bytes at many pairs₀ first touched pairs)
+      (fresh pairs' : List ℕ) (any : Bool) (pass : PassTo sizes bytes at many first touched pairs pairs' fresh any) where
+    pub settled-next : SettledTo sizes bytes at many pairs₀ false fresh pairs'
+    settled-next = record {
       long = pass.long ∙ to.long;
-      begun = λ e. refl;
-      quiet = λ e. (pass.quiet e).1;
       settled = λ T stands below. let (narrowed, shut) = to.settled T stands below in
           let (further, shut') = pass.passed T stands (λ f e. below f (narrowed.within f e)) shut in
           (narrowed-on T stands.known (has pairs₀) (has pairs) (has pairs') narrowed further, shut');
     }
 
-    pub settled-all : more ≡ false → Settles sizes bytes at many pairs₀ pairs
+    -- Once a pass took nothing out the list is closed under every operator.
+    pub settled-all : any ≡ false → Settles sizes bytes at many pairs₀ pairs'
     settled-all e = record {
-      settles = λ T stands below. let (narrowed, shut) = to.settled T stands below in (narrowed, λ o m. shut o m (to.begun e) (touched_none T.sizes (has touched) o (to.quiet e)));
+      settles = λ T stands below. let (narrowed, shut) = settled-next.settled T stands below in
+          (narrowed, λ o m. shut o m refl (touched_none T.sizes (has fresh) o (pass.quiet e).1));
     }
-
-pub passes-fewer : (sizes bytes : List ℕ) (at many : ℕ) (more any all : Bool) (old pairs pairs' fresh : List ℕ) → more ≡ true → PassTo sizes bytes at many all old pairs pairs' fresh any
-    → passes_left sizes pairs' any < passes_left sizes pairs more
-passes-fewer sizes bytes at many more any all old pairs pairs' fresh e pass = rw e (elim (test any) [
-  | on q ↦ rw q (omega (arith, pass.fewer q))
-  | off q ↦ rw q (omega (arith, ap (count (features sizes)) (pass.quiet q).0))
-])

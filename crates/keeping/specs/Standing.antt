@@ -1,32 +1,27 @@
 -- A state as an operator that names every variable and leaves it as it is.
 use Prim.Native.Nat.{ℕ, zero, suc, ◌+◌, ◌*◌, ◌<◌, ◌≤◌}
-use Rattle.std.specs.Prelude.{◌≡◌, refl, Bool, true, ◌||◌, List, get_or, set, take, replicate}
+use Rattle.std.specs.Prelude.{◌≡◌, refl, Bool, true, ◌||◌, List, get_or, replicate}
 use Rattle.std.proofs.Math.Path.{sym, ap}
-use Rattle.std.proofs.Common.{◌∙◌, get_or-set_same, get_or-set_other, eq-eqb}
+use Rattle.std.proofs.Common.{◌∙◌, eq-eqb}
 use Rattle.std.proofs.Math.Bool.{false, not, or-false}
 use native.Mathlib.Omega.{arith}
 use Rattle.std.proofs.Math.Dec.{eqb}
 use Rattle.std.proofs.Math.ListN.{length}
 use Rattle.std.proofs.lemmas.List.{length-replicate}
 use Rattle.meaning.specs.Sets.{Set, some, table}
-use Rattle.meaning.specs.Limits.{word_bits, most_variables}
+use Rattle.meaning.specs.Limits.{word_bits}
 use Rattle.meaning.specs.Task.{Entry, Operator, State, Entries, IsOperator, names, value, size}
 use Rattle.meaning.specs.Feature.{atoms, both}
 use Rattle.meaning.specs.Pair.{joins_afters, joins_possible, unclosed_pair, held_pair}
 use Rattle.meaning.specs.Workspace.{has}
 use Rattle.meaning.specs.Answer.{operator_in}
-use Rattle.theory.specs.Truth.{less, same, more, order}
 use Rattle.theory.specs.Search.{and-none-left, any-not, some_at, some-not}
 use Rattle.theory.specs.Flat.{length-table, table-cong}
 use Rattle.theory.specs.Possible.{possible_atoms}
-use Rattle.theory.specs.Slices.{entry_of}
-use Rattle.operator.specs.declared.Operator as declared
+use Rattle.theory.specs.Given.{entry_of}
 use Rattle.words.specs.Part.{has-none}
-use Rattle.operator.specs.Records.{record_of}
-use Rattle.operator.specs.Known.{Room}
 use Rattle.pairs.specs.Places.{any-table, two-table}
-use Rattle.pairs.specs.Ready.{Listed, Ready, HoldsPossible}
-use Rattle.pairs.specs.Slices.{sliced, count_room, slices-hold, slices-ready}
+use Rattle.pairs.specs.Ready.{Listed, Ready, ready-is, HoldsPossible}
 
 unfoldable pub standing : List ℕ → Operator
 standing state = table (length state) (λ i. entry_of i (value state i) (value state i))
@@ -80,46 +75,19 @@ module _ (sizes state : List ℕ) (full : State sizes state) where
 
 -- The first k variables and values are stored.
 pub record Stored (state variables values : List ℕ) (k : ℕ) : Type 0 where
-  pub within : k ≤ length state
   pub variable : (i : ℕ) → i < k → get_or variables i 0 ≡ i
   pub held : (i : ℕ) → i < k → get_or values i 0 ≡ value state i
 
-pub stored_next : (state variables values : List ℕ) (k : ℕ) → Stored state variables values k → k < length state → k < length variables → k < length values
-    → Stored state (set variables k k) (set values k (value state k)) (k + 1)
-stored_next state variables values k stored l room room' = record {
-  within = omega arith;
-  variable = λ i h. elim (order i k) [
-    | less m ↦ get_or-set_other variables k i k 0 (omega arith) ∙ stored.variable i m
-    | same q ↦ rw q (get_or-set_same variables k k 0 room)
-    | more m ↦ absurd (omega arith)
-  ];
-  held = λ i h. elim (order i k) [
-    | less m ↦ get_or-set_other values k i (value state k) 0 (omega arith) ∙ stored.held i m
-    | same q ↦ rw q (get_or-set_same values k (value state k) 0 room')
-    | more m ↦ absurd (omega arith)
-  ];
-}
-
 pub stored-standing : (state variables values : List ℕ) (k : ℕ) → Stored state variables values k → length state ≤ k
-    → operator_in (record { count = k; variables = variables; befores = values; afters = values }) ≡ standing state
+    → operator_in (record { count = length state; variables = variables; befores = values; afters = values }) ≡ standing state
 unfolding operator_in standing
-stored-standing state variables values k stored l = let e : k ≡ length state = omega (arith, stored.within) in
-    rw e (table-cong (length state) _ _ (λ i h. rw (stored.variable i (omega arith), stored.held i (omega arith)) refl))
+stored-standing state variables values k stored l = table-cong (length state) _ _ (λ i h. rw (stored.variable i (omega arith), stored.held i (omega arith)) refl)
 
 -- ---- as code holds it
 
-module _ (sizes pairs state : List ℕ) (listed : Listed sizes pairs) (full : State sizes state) (o : declared.Operator) (room : Room o) (made : operator_in (record_of o) ≡ standing state) where
-  held-is : IsOperator sizes (operator_in (record_of o))
-  held-is = rw made (standing-is sizes state full listed.limits.variables.0)
+module _ (sizes pairs state : List ℕ) (o : Operator) (listed : Listed sizes pairs) (full : State sizes state) (made : o ≡ standing state) where
+  pub held-ready : Ready sizes pairs o
+  held-ready = rw made (ready-is listed (standing-is sizes state full listed.limits.variables.0))
 
-  pub held-few : o.count ≤ most_variables
-  held-few = count_room room listed held-is
-
-  pub held-ready : Ready sizes pairs (take o.count o.variables) (take o.count o.befores) (take o.count o.afters)
-  held-ready = slices-ready room listed held-is
-
-  pub held-sliced : sliced o ≡ standing state
-  held-sliced = sym (slices-hold room listed held-is) ∙ made
-
-  pub held-possible : (k : ℕ) → atoms sizes ≤ word_bits * k → HoldsPossible sizes (has pairs) (sliced o) (replicate k 0)
-  held-possible k h = rw held-sliced (standing-possible sizes state full (has pairs) (replicate k 0) (rw (length-replicate {A = ℕ} k 0) h) (λ f. has-none k f))
+  pub held-possible : (k : ℕ) → atoms sizes ≤ word_bits * k → HoldsPossible sizes (has pairs) o (replicate k 0)
+  held-possible k h = rw made (standing-possible sizes state full (has pairs) (replicate k 0) (rw (length-replicate {A = ℕ} k 0) h) (λ f. has-none k f))

@@ -1,9 +1,13 @@
 -- One operator's turn: what it leaves of the listed pairs, which atoms are touched then, and why the operator need not be judged again unless one of its before atoms is.
-use Rattle.std.specs.Prelude.{ℕ, ◌<◌, ◌≡◌, refl, ◌⊎◌, Bool, true, false, not, ◌&&◌, List, length}
-use Rattle.std.proofs.Common.{sym, ap, ◌∙◌, inl, inr, true≢false}
+use Rattle.std.specs.Prelude.{ℕ, ◌<◌, ◌≤◌, ◌≡◌, refl, ◌⊎◌, Bool, true, false, not, ◌&&◌, List, length}
+use Rattle.std.proofs.Common.{sym, ap, ◌∙◌, arith, inl, inr, true≢false}
 use Rattle.std.proofs.Math.Bool.{and-false}
+use Rattle.meaning.specs.Limits.{most_variables}
+use Rattle.meaning.specs.Number.{got}
+use Rattle.meaning.specs.File.{operator_of}
+use Rattle.meaning.specs.Answer.{operator_in}
 use Rattle.meaning.specs.Sets.{Set, ◌⊕◌, count}
-use Rattle.meaning.specs.Task.{Operator, Entries, size}
+use Rattle.meaning.specs.Task.{Operator, Entries, IsOperator, size}
 use Rattle.meaning.specs.Feature.{features, single, both}
 use Rattle.meaning.specs.Pair.{idle, closed, unclosed_pair}
 use Rattle.meaning.specs.Workspace.{has}
@@ -16,8 +20,24 @@ use Rattle.theory.specs.Closed.{listed_unclosed, unclosed-below}
 use Rattle.theory.specs.Mending.{Touches, touched_in, Without, without-within, without-free, closed-left}
 use Rattle.words.specs.Change.{summed, length-summed, has-summed}
 use Rattle.words.specs.Next.{Empty}
+use Rattle.operator.specs.declared.Operator as declared
+use Rattle.operator.specs.Records.{record_of}
+use Rattle.operator.specs.Known.{operator-is, count-fine}
+use Rattle.pairs.specs.Ready.{Listed, Ready, ready-is}
 use Rattle.pairs.specs.Judge.{closed-idle}
 use Rattle.keeping.specs.Marks.{Marked}
+
+-- ---- an operator that was read
+
+module _ (sizes pairs bytes : List ℕ) (at : ℕ) (o : declared.Operator) (next : ℕ) (listed : Listed sizes pairs) (read : got (operator_in (record_of o)) next ≡ operator_of sizes bytes at) where
+  is : IsOperator sizes (operator_in (record_of o))
+  is = operator-is sizes bytes at _ next (sym read)
+
+  pub read-few : o.count ≤ most_variables
+  read-few = omega (arith, count-fine sizes o is, listed.limits.variables.1)
+
+  pub read-ready : Ready sizes pairs (operator_in (record_of o))
+  read-ready = ready-is listed is
 
 -- ---- what a turn leaves
 
@@ -58,22 +78,6 @@ touches-nothing : (sizes : List ℕ) (pairs touched : Set) → Touches sizes pai
 touches-nothing sizes pairs touched i x j y d l k hx hy e q = absurd (clash e q)
 
 module _ (sizes : List ℕ) (o : Operator) (fine : Entries sizes 0 o) (pairs touched₀ gone touched : List ℕ) (marked : Marked sizes pairs o touched₀ gone touched) where
-  -- There are none.
-  pub left-none : Empty gone → LeftBy sizes o pairs touched₀ pairs touched false
-  left-none empty = let still = marked.untouched empty in record {
-    long = refl;
-    touched-long = marked.touched-long;
-    left = λ f. stays (has pairs f) (unclosed_pair sizes (has pairs) o f) (sym (marked.each f) ∙ empty f);
-    within = marked.within;
-    touches = touches-nothing sizes (has pairs) (has touched);
-    told = rw still (told-nothing sizes (has pairs) (has touched₀));
-  }
-    where
-      stays : (a b : Bool) → (a && b) ≡ false → a ≡ (a && not b)
-      stays true true e = e
-      stays true false e = refl
-      stays false b e = refl
-
   -- There are some.
   module _ (now : List ℕ) (sum : now ≡ summed pairs gone) where
     taken : (f : ℕ) → has now f ≡ (has pairs f && not (unclosed_pair sizes (has pairs) o f))

@@ -2,7 +2,7 @@
 
 #![tactic(auto)]
 
-ghost use Rattle.std.specs.Prelude.{◌≡◌, ◌-◌, ◌≤◌, length, take, drop};
+ghost use Rattle.std.specs.Prelude.{◌≡◌, ◌≤◌, length};
 ghost use Rattle.meaning.specs.Limits.{most_variables, most_features};
 ghost use Rattle.meaning.specs.Workspace.{words_for, start_at, goal_at};
 ghost use Rattle.layout.specs.Places.{places_of};
@@ -26,7 +26,7 @@ pub fn words_for(n: usize) -> usize
     requires { n ≤ most_features }
     ensures { result ≡ words_for n }
 {
-    (n + (WORD_BITS - 1)) / WORD_BITS
+    n.div_ceil(WORD_BITS)
 }
 
 // Where the start's values begin, behind v sizes.
@@ -56,62 +56,54 @@ pub fn places_for(v: usize, n: usize) -> Places
     let pairs = goal + v;
     let slots = pairs + words;
     Places {
-        start: start,
-        goal: goal,
-        pairs: pairs,
-        slots: slots,
+        start,
+        goal,
+        pairs,
+        slots,
         end: slots + n * words,
     }
 }
 
-// The words from one place to another.
-fn between<'a>(words: &'a [u64], from: usize, to: usize) -> &'a [u64]
-    requires { (from ≤ to) × (to ≤ length words.now) }
-    ensures { result.now ≡ take (to - from) (drop from words.now) }
-{
-    &words[from..to]
-}
-
 // The sizes of a workspace for v variables.
-pub fn sizes<'a>(workspace: &'a [u64], v: usize) -> &'a [u64]
+pub fn sizes(workspace: &[u64], v: usize) -> &[u64]
     requires { (v ≤ most_variables) × (start_at v ≤ length workspace.now) }
     ensures { result.now ≡ sizes_part v workspace.now }
 {
-    between(workspace, SIZES_AT, start_at(v))
+    &workspace[SIZES_AT..start_at(v)]
 }
 
 // The start's values.
-pub fn start<'a>(workspace: &'a [u64], v: usize, n: usize) -> &'a [u64]
+pub fn start(workspace: &[u64], v: usize, n: usize) -> &[u64]
     requires { Headed v n workspace.now }
     ensures { result.now ≡ start_part v workspace.now }
 {
     let at = places_for(v, n);
-    between(workspace, at.start, at.goal)
+    &workspace[at.start..at.goal]
 }
 
 // The goal's values.
-pub fn goal<'a>(workspace: &'a [u64], v: usize, n: usize) -> &'a [u64]
+pub fn goal(workspace: &[u64], v: usize, n: usize) -> &[u64]
     requires { Headed v n workspace.now }
     ensures { result.now ≡ goal_part v workspace.now }
 {
     let at = places_for(v, n);
-    between(workspace, at.goal, at.pairs)
+    &workspace[at.goal..at.pairs]
 }
 
 // The set of listed pairs.
-pub fn pairs<'a>(workspace: &'a [u64], v: usize, n: usize) -> &'a [u64]
+pub fn pairs(workspace: &[u64], v: usize, n: usize) -> &[u64]
     requires { Headed v n workspace.now }
     ensures { result.now ≡ pairs_part v n workspace.now }
 {
     let at = places_for(v, n);
-    between(workspace, at.pairs, at.slots)
+    &workspace[at.pairs..at.slots]
 }
 
 // The slots.
-pub fn slots<'a>(workspace: &'a [u64], v: usize, n: usize) -> &'a [u64]
+pub fn slots(workspace: &[u64], v: usize, n: usize) -> &[u64]
     requires { Due v n workspace.now }
     ensures { result.now ≡ slots_part v n workspace.now }
 {
     let at = places_for(v, n);
-    between(workspace, at.slots, at.end)
+    &workspace[at.slots..at.end]
 }

@@ -16,9 +16,7 @@ use Rattle.theory.specs.Shown.{spot-task-within}
 use Rattle.decimal.specs.Decimal.{word_width, word-few, words-few}
 use Rattle.text.specs.Answer.{line-of-written}
 use Rattle.text.specs.Parts.{most_digits, ShortSpot, spot-short, refused-few, refusal-short}
-use Rattle.finding.specs.declared.Found.{Found}
-use Rattle.finding.specs.declared.Found.TheVariants.{Separated, Nothing, Refused}
-use Rattle.line.specs.Answer.{Lines, sought_of}
+use Rattle.line.specs.Answer.{Lines}
 
 -- ---- what the program may answer
 
@@ -46,15 +44,8 @@ answers input answer prints = elim (test (ltb most_input (length input) || too_l
 -- ---- the numbers of refusals
 
 -- A refusal's number has few enough digits for a line.
-abbrev pub ShortNumber : Found → Type 0
-ShortNumber Separated = Unit {0}
-ShortNumber Nothing = Unit {0}
-ShortNumber (Refused number) = number < 10 ^ most_digits
-
-pub prints-short : (input weights : List ℕ) (found : Found) → Prints input (sought_of found weights) → ShortNumber found
-prints-short input weights Separated prints = tt
-prints-short input weights Nothing prints = tt
-prints-short input weights (Refused number) prints = elim (answers input (refused number) prints) [
+number-short : (input : List ℕ) (number : ℕ) → Prints input (refused number) → number < 10 ^ most_digits
+number-short input number prints = elim (answers input (refused number) prints) [
   | inl (reason, e) ↦ let same : number ≡ refusal reason = cc in rw same (refusal-short reason)
   | inr (T, found, e, seeks, few) ↦ absurd (let z : ◌≡◌ {A = ℕ} 0 1 = cc in omega arith)
 ]
@@ -99,7 +90,7 @@ line-short input (done (separating fs)) prints =
       words-few feature_digits 0 n fs (omega arith) (omega (arith, few)) run,
     )
 line-short input (done nothing) prints = omega arith
-line-short input (refused number) prints = omega (arith, refused-few [] [] (omega arith) (omega arith) number (printed_spot input) (prints-short input [] (Refused number) prints) (printed-short input))
+line-short input (refused number) prints = omega (arith, refused-few [] [] (omega arith) (omega arith) number (printed_spot input) (number-short input number prints) (printed-short input))
 
 -- A room as long as that is never refused.
 pub lines-written : (input room : List ℕ) → line_bytes ≤ length room → (outcome : Outcome ℕ) → Lines input room outcome

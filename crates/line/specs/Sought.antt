@@ -1,5 +1,5 @@
 -- Opening a task file and finding in its workspace gives the program's answer.
-use Rattle.std.specs.Prelude.{ℕ, suc, ◌+◌, ◌-◌, ◌*◌, ◌<◌, ◌≤◌, ◌≡◌, refl, List, ◌++◌, ltb, length, drop, replicate}
+use Rattle.std.specs.Prelude.{ℕ, suc, ◌+◌, ◌-◌, ◌*◌, ◌<◌, ◌≤◌, ◌≡◌, refl, List, ◌++◌, Result, Ok, Err, ltb, length, drop, replicate}
 use Rattle.std.proofs.Math.Path.{sym, ap, subst, fun_ext}
 use Rattle.std.proofs.Common.{◌∙◌, inl, inr, arith, mul-le-mul, ltb-true, ltb-false, lt-ltb, le-ltb}
 use Rattle.std.proofs.lemmas.List.{length-replicate}
@@ -8,7 +8,7 @@ use Rattle.meaning.specs.Sets.{Set, listed}
 use Rattle.meaning.specs.Task.{Task, Run}
 use Rattle.meaning.specs.Feature.{features}
 use Rattle.meaning.specs.Weight.{Separates, LeastOf}
-use Rattle.meaning.specs.Number.{Small, refusal, Read, got, fault}
+use Rattle.meaning.specs.Number.{Reason, Small, refusal, Read, got, fault}
 use Rattle.meaning.specs.File.{judged_task}
 use Rattle.meaning.specs.Workspace.{words_for, words_due, has, packed, Content}
 use Rattle.meaning.specs.Answer.{Answer, done, refused, Outcome, refuses, Opens, Finding, FindsBy, Finds}
@@ -23,12 +23,11 @@ use Rattle.theory.specs.Histories.{opened-stands, stands-formed, stands-content}
 use Rattle.theory.specs.Demands.{none_said, least-given}
 use Rattle.words.specs.Part.{has-front, has-back, has-drop, has-none, has-past}
 use Rattle.words.specs.Members.{members_in, listed-in-words, members-same}
-use Rattle.opening.specs.Answer.{opened_of}
-use Rattle.opening.specs.declared.Opened.{Opened}
-use Rattle.opening.specs.declared.Opened.TheVariants as opening
+use Rattle.number.specs.Answers.{reason_of}
+use Rattle.number.specs.declared.Reason as declared
 use Rattle.finding.specs.Found.{found_of}
 use Rattle.finding.specs.declared.Found.{Found}
-use Rattle.finding.specs.declared.Found.TheVariants.{Separated, Nothing, Refused}
+use Rattle.finding.specs.declared.Found.TheVariants.{Separated, Nothing}
 use Rattle.line.specs.Answer.{sought_of}
 
 -- ---- how many words are due
@@ -95,8 +94,8 @@ room-taken c room left number h finds = elim (rw (le-ltb (length room) (words_fo
 ]
 
 module _ (input : List ℕ) where
-  pub too_long_lem : (number : ℕ) → most_input < length input → number ≡ refusal Small → Prints input (refused number)
-  too_long_lem number h e = rw (lt-ltb most_input (length input) h, e) refl
+  pub too_long_lem : most_input < length input → Prints input (refused (refusal Small))
+  too_long_lem h = rw (lt-ltb most_input (length input) h) refl
 
   -- What an opening's answer tells: the program's refusal; or a task that was accepted and has not too many features.
   abbrev Told : Answer ℕ → Type 0
@@ -132,38 +131,35 @@ module _ (input : List ℕ) where
     seeks-prints T next found e total seeks =
         rw (le-ltb most_input (length input) few, e, le-ltb most_program_features (features T.sizes) total) (found, refl, seeks)
 
-    module _ (opened : Opened) (workspace : List ℕ) (opens : Opens input room (record { answer = opened_of opened; lent = workspace })) where
-      pub unopened : (number : ℕ) → opened ≡ opening.Refused number → Prints input (refused number)
-      unopened number e = told _ (rw e at opens)
+    pub unopened : (reason : Reason) (workspace : List ℕ) → Opens input room (record { answer = refused (refusal reason); lent = workspace }) → Prints input (refused (refusal reason))
+    unopened reason workspace opens = told _ opens
 
-      module _ (due : ℕ) (is : opened ≡ opening.Opened due) where
-        opens-done : Opens input room (record { answer = done due; lent = workspace })
-        opens-done = rw is at opens
+    module _ (due : ℕ) (workspace : List ℕ) (opens : Opens input room (record { answer = done due; lent = workspace })) where
+      -- The finder does not refuse the opened workspace and so many words.
+      not-refused : (left : List ℕ) (number : ℕ) → Finds workspace (replicate weight_words 0) (record { answer = refused number; lent = left }) → ⊥
+      not-refused left number finds =
+          let (T, next, e, total) = told _ opens in
+          let S = opened-stands T input room workspace next due e opens in
+          elim finds [
+            | inl h ↦ h.0 (stands-formed T workspace S)
+            | inr (formed, h) ↦
+                let content = stands-content T workspace S formed in
+                let n : features formed.content.sizes ≤ most_program_features = omega (arith, ap (λ c. features c.sizes) content) in
+                room-taken formed.content (replicate weight_words 0) left number (omega (arith, length-replicate {A = ℕ} weight_words 0)) h
+          ]
 
-        -- The finder does not refuse the opened workspace and so many words.
-        not-refused : (left : List ℕ) (number : ℕ) → Finds workspace (replicate weight_words 0) (record { answer = refused number; lent = left }) → ⊥
-        not-refused left number finds =
-            let (T, next, e, total) = told _ opens-done in
-            let S = opened-stands T input room workspace next due e opens-done in
-            elim finds [
-              | inl h ↦ h.0 (stands-formed T workspace S)
-              | inr (formed, h) ↦
-                  let content = stands-content T workspace S formed in
-                  let n : features formed.content.sizes ≤ most_program_features = omega (arith, ap (λ c. features c.sizes) content) in
-                  room-taken formed.content (replicate weight_words 0) left number (omega (arith, length-replicate {A = ℕ} weight_words 0)) h
-            ]
+      found-so : (left : List ℕ) (found : Result Found declared.Reason) → Finds workspace (replicate weight_words 0) (record { answer = found_of found; lent = left })
+          → Prints input (sought_of found left)
+      found-so left (Ok Separated) finds =
+          let (T, next, e, total) = told _ opens in
+          let (w, best, q) = least-given input T next e room workspace due opens (replicate weight_words 0) left finds in
+          seeks-prints T next _ e total (least-weights (features T.sizes) weight_words w left q T refl best)
+      found-so left (Ok Nothing) finds =
+          let (T, next, e, total) = told _ opens in
+          seeks-prints T next nothing e total (none_said input T next e room workspace due opens (replicate weight_words 0) left finds)
+      found-so left (Err reason) finds = absurd (not-refused left (refusal (reason_of reason)) finds)
 
-        found-so : (left : List ℕ) (found : Found) → Finds workspace (replicate weight_words 0) (record { answer = found_of found; lent = left }) → Prints input (sought_of found left)
-        found-so left Separated finds =
-            let (T, next, e, total) = told _ opens-done in
-            let (w, best, q) = least-given input T next e room workspace due opens-done (replicate weight_words 0) left finds in
-            seeks-prints T next _ e total (least-weights (features T.sizes) weight_words w left q T refl best)
-        found-so left Nothing finds =
-            let (T, next, e, total) = told _ opens-done in
-            seeks-prints T next nothing e total (none_said input T next e room workspace due opens-done (replicate weight_words 0) left finds)
-        found-so left (Refused number) finds = absurd (not-refused left number finds)
-
-        -- What is found in the opened workspace, in words that were zeros, is the program's answer.
-        pub sought : (weights left : List ℕ) (found : Found) → weights ≡ replicate weight_words 0
-            → Finds workspace weights (record { answer = found_of found; lent = left }) → Prints input (sought_of found left)
-        sought weights left found zeros finds = found-so left found (rw zeros at finds)
+      -- What is found in the opened workspace, in words that were zeros, is the program's answer.
+      pub sought : (weights left : List ℕ) (found : Result Found declared.Reason) → weights ≡ replicate weight_words 0
+          → Finds workspace weights (record { answer = found_of found; lent = left }) → Prints input (sought_of found left)
+      sought weights left found zeros finds = found-so left found (rw zeros at finds)

@@ -12,15 +12,13 @@ ghost use Rattle.words.specs.Members.{members_in};
 ghost use Rattle.writer.specs.Answer.{outcome_of};
 ghost use Rattle.line.specs.Answer.{Lines, sought_of};
 ghost use Rattle.line.specs.Sought.{most_due, weight_words};
-ghost use Rattle.line.specs.Fits.{line_bytes, ShortNumber};
+ghost use Rattle.line.specs.Fits.{line_bytes};
 
 use finding::Found;
 use limits::MOST_VARIABLES;
 use number::Reason;
-use opening::Opened;
 use placing::Spot;
 use words::WORD_BITS;
-use writer::Written;
 
 // "More than 8,192 bytes give 8 before anything is judged"
 const MOST_INPUT: usize = 8192;
@@ -43,17 +41,15 @@ const FEATURE_DIGITS: usize = 3;
 pub const LINE_BYTES: usize = 9 + (1 + FEATURE_DIGITS) * (1 + MOST_PROGRAM_FEATURES) + 1;
 
 // Finds the least weights for a task file. Its workspace is spent, and the words of the weights come as zeros.
-fn seek(input: &[u8], workspace: &mut [u64], weights: &mut [u64]) -> Found
+fn seek(input: &[u8], workspace: &mut [u64], weights: &mut [u64]) -> Result<Found, Reason>
     requires { (length workspace.old ≡ most_due) × (weights.old ≡ replicate weight_words 0) }
     ensures { Prints input.now (sought_of result weights.new) }
 {
     if MOST_INPUT < input.len() {
-        return Found::Refused(number::refusal(Reason::Small));
+        return Err(Reason::Small);
     }
-    match opening::open(input, workspace) {
-        Opened::Opened(_) => finding::find(workspace, weights),
-        Opened::Refused(number) => Found::Refused(number),
-    }
+    opening::open(input, workspace)?;
+    finding::find(workspace, weights)
 }
 
 // Puts the line for weights that separate.
@@ -69,29 +65,29 @@ fn put_separated(text: &mut [u8], weights: &[u64]) -> usize
 }
 
 // Where the first fault of an input stands; one that is too long is not judged.
-fn input_spot(input: &[u8]) -> Spot
+fn input_spot(input: &[u8]) -> Option<Spot>
     ensures { spot_of result ≡ printed_spot input.now }
 {
     if MOST_INPUT < input.len() {
-        return Spot::Nowhere;
+        return None;
     }
     locating::task_spot(input)
 }
 
 // Puts the line for what was found for an input.
-fn put_line(text: &mut [u8], found: Found, weights: &[u64], input: &[u8]) -> usize
-    requires { (length text.old ≡ line_bytes) × (length weights.now ≡ weight_words) × ShortNumber found }
+fn put_line(text: &mut [u8], found: Result<Found, Reason>, weights: &[u64], input: &[u8]) -> usize
+    requires { (length text.old ≡ line_bytes) × (length weights.now ≡ weight_words) }
     ensures { Put text.old 0 (line (printed_spot input.now) (sought_of found weights.now)) result text.new }
 {
     match found {
-        Found::Separated => put_separated(text, weights),
-        Found::Nothing => text::put(text, 0, b"none\n"),
-        Found::Refused(number) => text::put_refused(text, number, input_spot(input), b"", b""),
+        Ok(Found::Separated) => put_separated(text, weights),
+        Ok(Found::Nothing) => text::put(text, 0, b"none\n"),
+        Err(reason) => text::put_refused(text, u64::from(reason), input_spot(input), b"", b""),
     }
 }
 
 // The line for a task file goes to the front of a room that is long enough for it. Any bytes are taken.
-pub fn line(input: &[u8], room: &mut [u8]) -> Written
+pub fn line(input: &[u8], room: &mut [u8]) -> Result<usize, Reason>
     ensures { Lines input.now room.old (outcome_of result room.new) }
 {
     let mut workspace = [0u64; WORKSPACE_WORDS];

@@ -1,12 +1,11 @@
 -- Tasks, states and operators, and what it is to apply an operator.
 use Rattle.std.specs.Prelude.{ℕ, suc, ◌<◌, ◌≤◌, ◌≡◌, Bool, List, [], ◌∷◌, length, get_or, set, eqb}
+use Rattle.meaning.specs.declared.Entry as declared
 use Rattle.meaning.specs.Sets.{any_of, all_of}
 
 -- An entry of an operator: "(variable, before, after)".
-pub record Entry : Type 0 where
-  pub variable : ℕ
-  pub before : ℕ
-  pub after : ℕ
+abbrev pub Entry : Type 0
+Entry = declared.Entry
 
 abbrev pub Operator : Type 0
 Operator = List Entry

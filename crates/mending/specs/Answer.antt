@@ -1,13 +1,13 @@
 -- What the calls answer for a task that was read, by its file, its header and the words of the pairs that are kept or dropped.
-use Rattle.std.specs.Prelude.{ℕ, ◌<◌, ◌≤◌, ◌≡◌, refl, Bool, true, false, not, ◌&&◌, List, [], ◌∷◌, length, set, drop}
+use Rattle.std.specs.Prelude.{ℕ, ◌<◌, ◌≤◌, ◌≡◌, refl, Bool, true, false, not, ◌&&◌, List, [], ◌∷◌, length, set, drop, Option, Result, Ok, Err}
 use Rattle.std.proofs.Common.{sym, ap, ap₂, ◌∙◌, subst, inl, inr, true≢false, arith, lt-ltb, le-ltb}
 use Rattle.meaning.specs.Sets.{◌⊕◌, listed}
 use Rattle.meaning.specs.Limits.{number_end, fault_words}
 use Rattle.meaning.specs.Task.{Task, State}
-use Rattle.meaning.specs.Number.{Reason, Small, refusal, got, fault}
+use Rattle.meaning.specs.Number.{Small, refusal, got}
 use Rattle.meaning.specs.File.{Kind, kind_of, task_of, task_bytes_as}
 use Rattle.meaning.specs.Workspace.{words_for, pairs_at, has}
-use Rattle.meaning.specs.Answer.{Answer, done, refused, Outcome, refuses, delivered}
+use Rattle.meaning.specs.Answer.{Answer, done, refused, Outcome, delivered}
 use Rattle.meaning.specs.Mend as meaning
 use Rattle.meaning.specs.Mend.{Good, Largest, Dropped, mended, Mends, Drops, no_fault, start_holds, operator_breaks, LeastHeld, LeastUnclosed, FindsFault, FaultsPairs}
 use Rattle.theory.specs.Run.{run-members, run-same}
@@ -17,30 +17,42 @@ use Rattle.theory.specs.Parts.{operators-said}
 use Rattle.theory.specs.PartialParts.{operators-copied}
 use Rattle.theory.specs.Accepted.{Readable}
 use Rattle.theory.specs.Mending.{ReadAs, dropped-exists}
+use Rattle.number.specs.Answers.{reason_of, faulted}
+use Rattle.number.specs.declared.Fault.{Fault}
+use Rattle.number.specs.declared.Reason.{Reason}
+use Rattle.reader.specs.declared.Header.{Header}
 use Rattle.words.specs.Change.{summed, length-summed, has-summed}
 use Rattle.words.specs.Members.{members_in, listed-in-words}
-use Rattle.layout.specs.Parts.{sizes_part, start_part, goal_part, pairs_part, length_part}
+use Rattle.layout.specs.Parts.{Headed, sizes_part, start_part, goal_part, pairs_part, length_part}
 use Rattle.pairs.specs.Ready.{Listed}
-use Rattle.task.specs.Answer.{ReadInto, left-room, left-parts, left-ready, read-end, read-readable, read_left, read_as}
+use Rattle.task.specs.Answer.{JudgedInto, ReadInto, judged-told, left-room, left-parts, left-ready, read-end, read-readable, read_left, read_as}
+use Rattle.writer.specs.Answer.{outcome_of}
 use Rattle.writer.specs.Parts.{FewWords}
 use Rattle.writer.specs.Front.{Front, sizes-countable, state-countable}
 use Rattle.writer.specs.TaskFile.{file_bytes, task-file}
 use Rattle.writer.specs.Judging.{weights-delivered}
 use Rattle.writer.specs.Sets.{few-in-range, in-range-fine}
 use Rattle.writer.specs.Weights.{weights_written}
-use Rattle.keeping.specs.declared.Fault.{Fault}
+use Rattle.keeping.specs.declared.Fault as keeping
 use Rattle.keeping.specs.Fault.{FaultIs}
 use Rattle.mending.specs.declared.PairFault.{PairFault}
-use Rattle.mending.specs.declared.PairFault.TheVariants.{Good as Fine, Held, Unclosed, Refused}
+use Rattle.mending.specs.declared.PairFault.TheVariants.{Good as Fine, Held, Unclosed}
 
 -- ---- the answers of the code
 
 -- The paper's answer for each case.
-abbrev pub fault_of : PairFault → Answer meaning.PairFault
-fault_of Fine = done no_fault
-fault_of Held = done start_holds
-fault_of Unclosed = done operator_breaks
-fault_of (Refused number) = refused number
+abbrev pub fault_of : Result PairFault Reason → Answer meaning.PairFault
+fault_of (Ok Fine) = done no_fault
+fault_of (Ok Held) = done start_holds
+fault_of (Ok Unclosed) = done operator_breaks
+fault_of (Err reason) = refused (refusal (reason_of reason))
+
+-- A task file that was judged up to 5, by its header in words and its counts.
+abbrev pub ReadBy : List ℕ → List ℕ → Header → Type 0
+ReadBy bytes words h = (old : List ℕ) × ReadInto bytes old words h.variables h.features h.operators h.next
+
+pub read-by : (bytes old words : List ℕ) (h : Header) → JudgedInto (task_of bytes 0) bytes old (Ok h) words → ReadBy bytes words h
+read-by bytes old words h into = (old, judged-told bytes old words h into)
 
 -- Words that hold the pairs that are kept of the task in a file.
 abbrev pub KeptIn : List ℕ → List ℕ → Type 0
@@ -53,13 +65,13 @@ Answers true = Drops
 
 -- ---- a task that is refused
 
-module _ (bytes room : List ℕ) (reason : Reason) (place : ℕ) (e : task_of bytes 0 ≡ fault reason place) where
-  pub answer-refused : (dropping : Bool) (outcome : Outcome ℕ) → outcome ≡ refuses reason room → Answers dropping bytes room outcome
-  answer-refused false outcome q = rw e q
-  answer-refused true outcome q = rw e q
+module _ (bytes : List ℕ) (f : Fault) (e : task_of bytes 0 ≡ faulted f) where
+  pub answer-refused : (dropping : Bool) (room : List ℕ) → Answers dropping bytes room (outcome_of (Err f.0) room)
+  answer-refused false room = rw e
+  answer-refused true room = rw e
 
-  pub fault-refused : (k : ℕ) → k ≡ refusal reason → FaultsPairs bytes room (record { answer = refused k; lent = room })
-  fault-refused k q = rw (e, q) refl
+  pub fault-refused : (room : List ℕ) → FaultsPairs bytes room (record { answer = fault_of (Err f.0); lent = room })
+  fault-refused room = rw e
 
 -- ---- what is dropped
 
@@ -86,16 +98,20 @@ module _ {bytes words left : List ℕ} {v n count at : ℕ} (known : ReadInto by
   is-task : (U : Task) (end : ℕ) → task_of bytes 0 ≡ got U end → T ≡ U
   is-task U end e = got-value (sym known.judged ∙ e)
 
+  -- All words of its header are there.
+  pub headed : Headed v n left
+  headed = left-room (read_left known)
+
   -- The operators begin within the file.
   pub at-within : at ≤ length bytes
   at-within = omega (arith, ((operators-said bytes T.sizes count).gives at T.operators known.next known.operators).moved, read-end known)
 
   -- The listed pairs, as they are lent, have the words that are due; those are few.
   pub pairs-long : (pairs : List ℕ) → pairs ≡ pairs_part v n left → length pairs ≡ words_for n
-  pairs-long pairs e = ap length e ∙ length_part (pairs_at v) (words_for n) left (left-room (read_left known)).words
+  pairs-long pairs e = ap length e ∙ length_part (pairs_at v) (words_for n) left headed.words
 
   few : (set : List ℕ) → length set ≡ words_for n → FewWords set
-  few set long = omega (arith, (left-room (read_left known)).features)
+  few set long = omega (arith, headed.features)
 
   -- ---- by its sizes, start and pairs, as they are lent
 
@@ -106,7 +122,7 @@ module _ {bytes words left : List ℕ} {v n count at : ℕ} (known : ReadInto by
     pub kept_in_lem : (kept : List ℕ) → ((U : Task) (end : ℕ) → ReadAs U bytes at count end sizes start (has pairs) → Largest U (members_in kept)) → KeptIn bytes kept
     kept_in_lem kept h U end e = subst (λ W. Largest W (members_in kept)) (is-task U end e) (h T known.next (read_as known sizes start pairs sizes-are start_is pairs-are))
 
-    pub fault-is : (r : Fault) → ((U : Task) (end : ℕ) → ReadAs U bytes at count end sizes start (has pairs) → FaultIs U r) → FaultIs T r
+    pub fault-is : (r : Option keeping.Fault) → ((U : Task) (end : ℕ) → ReadAs U bytes at count end sizes start (has pairs) → FaultIs U r) → FaultIs T r
     fault-is r h = h T known.next (read_as known sizes start pairs sizes-are start_is pairs-are)
 
   -- ---- dropped
@@ -165,8 +181,8 @@ module _ {bytes words left : List ℕ} {v n count at : ℕ} (known : ReadInto by
   -- ---- the pair behind a refusal
 
   module _ (room : List ℕ) where
-    pub fault-small : length room < fault_words → (k : ℕ) → k ≡ refusal Small → FaultsPairs bytes room (record { answer = refused k; lent = room })
-    fault-small h k q = rw (known.judged, lt-ltb (length room) fault_words h, q) refl
+    pub fault-small : length room < fault_words → FaultsPairs bytes room (record { answer = refused (refusal Small); lent = room })
+    fault-small h = rw (known.judged, lt-ltb (length room) fault_words h) refl
 
     module _ (fits : fault_words ≤ length room) where
       told : (outcome : Outcome meaning.PairFault) → FindsFault T room outcome → FaultsPairs bytes room outcome

@@ -1,13 +1,11 @@
 -- What the answers of the code say in the words of the meaning, and the way back from a read to an answer.
-use Rattle.std.specs.Prelude.{ℕ, ◌≡◌, refl}
+use Rattle.std.specs.Prelude.{ℕ, ◌≡◌, refl, Result, Ok, Err}
 use Rattle.std.proofs.Common.{sym, ap, ap₂, ◌∙◌, arith}
 use Rattle.meaning.specs.Number as meaning
 use Rattle.number.specs.declared.Reason.{Reason}
 use Rattle.number.specs.declared.Reason.TheVariants as code
 use Rattle.number.specs.declared.Number.{Number}
-use Rattle.number.specs.declared.Number.TheVariants.{Got, Fault as Faulty}
-use Rattle.number.specs.declared.Step.{Step}
-use Rattle.number.specs.declared.Step.TheVariants.{Next, Fault}
+use Rattle.number.specs.declared.Fault.{Fault}
 
 -- A reason of the code, as the meaning's; and back.
 abbrev pub reason_of : Reason → meaning.Reason
@@ -75,30 +73,37 @@ reason-declared meaning.Malformed = refl
 reason-declared meaning.Gaps = refl
 reason-declared meaning.Unequal = refl
 
+-- A fault of the code, as the meaning tells it; and back.
+abbrev pub faulted : {A : Type 0} → Fault → meaning.Read A
+faulted f = meaning.fault (reason_of f.0) f.1
+
+abbrev pub fault_of : meaning.Reason → ℕ → Fault
+fault_of reason place = record { 0 = declared_of reason; 1 = place }
+
 -- What an answer says was read.
-abbrev pub number_of : Number → meaning.Read ℕ
-number_of (Got n next) = meaning.got n next
-number_of (Faulty reason place) = meaning.fault (reason_of reason) place
+abbrev pub number_of : Result Number Fault → meaning.Read ℕ
+number_of (Ok n) = meaning.got n.value n.next
+number_of (Err f) = faulted f
 
 -- The answer that a reader gives for what was read: it leaves out the value.
-abbrev pub place_of : {A : Type 0} → meaning.Read A → Step
-place_of (meaning.got a next) = Next next
-place_of (meaning.fault reason place) = Fault (declared_of reason) place
+abbrev pub place_of : {A : Type 0} → meaning.Read A → Result ℕ Fault
+place_of (meaning.got a next) = Ok next
+place_of (meaning.fault reason place) = Err (fault_of reason place)
 
 -- ---- what an answer tells
 
-pub place-fault : {A : Type 0} (read : meaning.Read A) (reason : Reason) (place : ℕ) → read ≡ meaning.fault (reason_of reason) place → place_of read ≡ Fault reason place
-place-fault read reason place e = rw e (ap (λ r. Fault r place) (declared-reason reason))
+pub place-fault : {A : Type 0} (read : meaning.Read A) (f : Fault) → read ≡ faulted f → place_of read ≡ Err f
+place-fault read f e = rw e (ap (λ r. Err (record { 0 = r; 1 = f.1 })) (declared-reason f.0))
 
 -- Where a reader went on, it has read something.
-pub place-next : {A : Type 0} (read : meaning.Read A) (next : ℕ) → place_of read ≡ Next next → (a : A) × (read ≡ meaning.got a next)
+pub place-next : {A : Type 0} (read : meaning.Read A) (next : ℕ) → place_of read ≡ Ok next → (a : A) × (read ≡ meaning.got a next)
 place-next (meaning.got a after) next e = (a, cc)
 place-next (meaning.fault reason place) next e = absurd (let z : ◌≡◌ {A = ℕ} 0 1 = cc in omega arith)
 
 -- Where a reader found a fault, that fault was read.
-pub place-faulted : {A : Type 0} (read : meaning.Read A) (reason : Reason) (place : ℕ) → place_of read ≡ Fault reason place → read ≡ meaning.fault (reason_of reason) place
-place-faulted (meaning.got a after) reason place e = absurd (let z : ◌≡◌ {A = ℕ} 0 1 = cc in omega arith)
-place-faulted (meaning.fault other there) reason place e =
-    let p : declared_of other ≡ reason = cc in
-    let q : there ≡ place = cc in
+pub place-faulted : {A : Type 0} (read : meaning.Read A) (f : Fault) → place_of read ≡ Err f → read ≡ faulted f
+place-faulted (meaning.got a after) f e = absurd (let z : ◌≡◌ {A = ℕ} 0 1 = cc in omega arith)
+place-faulted (meaning.fault other there) f e =
+    let p : declared_of other ≡ f.0 = cc in
+    let q : there ≡ f.1 = cc in
     ap₂ meaning.fault (sym (reason-declared other) ∙ ap reason_of p) q

@@ -27,18 +27,24 @@ pub enum Reason {
     Unequal,
 }
 
-// What stands where a number is due: its value and the place after it; or a reason, and the place of the first byte of the number at fault.
+// Why what was read is at fault, and where: the place of the first byte of the number at fault.
 #[derive(Clone, Copy)]
-pub enum Number {
-    Got(usize, usize),
-    Fault(Reason, usize),
+pub struct Fault(pub Reason, pub usize);
+
+impl From<Fault> for Reason {
+    ghost from_gives = { λ fault reason. reason ≡ fault.0 };
+
+    // Why what was read is at fault, for a refusal that names no place.
+    fn from(fault: Fault) -> Reason {
+        fault.0
+    }
 }
 
-// What a reader of more than a number answers: the place after what it read; or the first fault.
+// A number that was read: its value, and the place after it.
 #[derive(Clone, Copy)]
-pub enum Step {
-    Next(usize),
-    Fault(Reason, usize),
+pub struct Number {
+    pub value: usize,
+    pub next: usize,
 }
 
 // How many values a group has, and the least byte that says that one group follows.
@@ -50,136 +56,137 @@ const MOST_GROUPS: usize = 3;
 // The first number that these groups cannot hold: "to 2,097,151".
 pub const NUMBER_END: usize = GROUP * GROUP * GROUP;
 
-// The paper's number for a reason.
-pub fn refusal(reason: Reason) -> u64
-    ensures { result ≡ refusal_number (reason_of reason) }
-{
-    match reason {
-        Reason::Ends => 1,
-        Reason::Padded => 12,
-        Reason::Endless => 13,
-        Reason::Limit => 2,
-        Reason::Range => 3,
-        Reason::Unordered => 4,
-        Reason::LeftOver => 5,
-        Reason::Outgrown => 2,
-        Reason::Held => 6,
-        Reason::Unclosed => 7,
-        Reason::Small => 8,
-        Reason::Malformed => 9,
-        Reason::Gaps => 10,
-        Reason::Unequal => 11,
+impl From<Reason> for u64 {
+    ghost from_gives = { λ reason n. n ≡ refusal_number (reason_of reason) };
+
+    // The paper's number for a reason.
+    fn from(reason: Reason) -> u64 {
+        match reason {
+            Reason::Ends => 1,
+            Reason::Padded => 12,
+            Reason::Endless => 13,
+            Reason::Limit | Reason::Outgrown => 2,
+            Reason::Range => 3,
+            Reason::Unordered => 4,
+            Reason::LeftOver => 5,
+            Reason::Held => 6,
+            Reason::Unclosed => 7,
+            Reason::Small => 8,
+            Reason::Malformed => 9,
+            Reason::Gaps => 10,
+            Reason::Unequal => 11,
+        }
     }
 }
 
-// Whether a fault for this reason has a place in a file.
-pub fn has_place(reason: Reason) -> bool
-    ensures { result ≡ has_place (reason_of reason) }
-{
-    match reason {
-        Reason::Ends => true,
-        Reason::Padded => true,
-        Reason::Endless => true,
-        Reason::Limit => true,
-        Reason::Range => true,
-        Reason::Unordered => true,
-        Reason::LeftOver => false,
-        Reason::Outgrown => false,
-        Reason::Held => false,
-        Reason::Unclosed => false,
-        Reason::Small => false,
-        Reason::Malformed => false,
-        Reason::Gaps => false,
-        Reason::Unequal => false,
+impl Reason {
+    // Whether a fault for this reason has a place in a file.
+    pub fn has_place(self) -> bool
+        ensures { result ≡ has_place (reason_of self) }
+    {
+        matches!(
+            self,
+            Reason::Ends
+                | Reason::Padded
+                | Reason::Endless
+                | Reason::Limit
+                | Reason::Range
+                | Reason::Unordered
+        )
     }
 }
 
 // At most so many groups from a place on, of the number that begins at `first`.
-fn groups_at(most: usize, first: usize, bytes: &[u8], place: usize) -> Number
+fn groups_at(most: usize, first: usize, bytes: &[u8], place: usize) -> Result<Number, Fault>
     requires { most ≤ most_groups }
     ensures { number_of result ≡ groups most first bytes.now place }
 {
     if most == 0 {
-        return Number::Fault(Reason::Endless, first);
+        return Err(Fault(Reason::Endless, first));
     }
     if bytes.len() <= place {
-        return Number::Fault(Reason::Ends, first);
+        return Err(Fault(Reason::Ends, first));
     }
     let byte = bytes[place] as usize;
     if byte < GROUP {
-        return Number::Got(byte, place + 1);
+        return Ok(Number {
+            value: byte,
+            next: place + 1,
+        });
     }
-    match groups_at(most - 1, first, bytes, place + 1) {
-        Number::Got(high, next) => {
-            if high == 0 {
-                return Number::Fault(Reason::Padded, first);
-            }
-            Number::Got(byte % GROUP + GROUP * high, next)
-        }
-        Number::Fault(reason, fault) => Number::Fault(reason, fault),
+    let high = groups_at(most - 1, first, bytes, place + 1)?;
+    if high.value == 0 {
+        return Err(Fault(Reason::Padded, first));
     }
+    Ok(Number {
+        value: byte % GROUP + GROUP * high.value,
+        next: high.next,
+    })
 }
 
 // The number at a place.
-pub fn number_at(bytes: &[u8], at: usize) -> Number
+pub fn number_at(bytes: &[u8], at: usize) -> Result<Number, Fault>
     ensures { number_of result ≡ number bytes.now at }
 {
     groups_at(MOST_GROUPS, at, bytes, at)
 }
 
 // A number that has to be `low` or more and below `high`; the reason is for one that is not.
-pub fn item_at(bytes: &[u8], at: usize, low: usize, high: usize, reason: Reason) -> Number
+pub fn item_at(
+    bytes: &[u8],
+    at: usize,
+    low: usize,
+    high: usize,
+    reason: Reason,
+) -> Result<Number, Fault>
     ensures { number_of result ≡ item (inside low high) (reason_of reason) bytes.now at }
 {
-    match number_at(bytes, at) {
-        Number::Got(n, next) => {
-            if n < low {
-                return Number::Fault(reason, at);
-            }
-            if n < high {
-                return Number::Got(n, next);
-            }
-            Number::Fault(reason, at)
-        }
-        Number::Fault(found, place) => Number::Fault(found, place),
+    let number = number_at(bytes, at)?;
+    if number.value < low {
+        return Err(Fault(reason, at));
     }
+    if high <= number.value {
+        return Err(Fault(reason, at));
+    }
+    Ok(number)
 }
 
 // A number in its range that has to be `least` or more: range before order.
-pub fn rising_at(bytes: &[u8], at: usize, low: usize, high: usize, least: usize) -> Number
+pub fn rising_at(
+    bytes: &[u8],
+    at: usize,
+    low: usize,
+    high: usize,
+    least: usize,
+) -> Result<Number, Fault>
     ensures { number_of result ≡ rising low high least bytes.now at }
 {
-    match item_at(bytes, at, low, high, Reason::Range) {
-        Number::Got(n, next) => {
-            if n < least {
-                return Number::Fault(Reason::Unordered, at);
-            }
-            Number::Got(n, next)
-        }
-        Number::Fault(found, place) => Number::Fault(found, place),
+    let number = item_at(bytes, at, low, high, Reason::Range)?;
+    if number.value < least {
+        return Err(Fault(Reason::Unordered, at));
     }
+    Ok(number)
 }
 
 // The next feature of a list of gaps: the number says how far it is above `least`.
-fn gap_at(bytes: &[u8], at: usize, low: usize, high: usize, least: usize) -> Number
+fn gap_at(bytes: &[u8], at: usize, low: usize, high: usize, least: usize) -> Result<Number, Fault>
     ensures { number_of result ≡ feature_of gapped_kind low high least bytes.now at }
 {
-    match number_at(bytes, at) {
-        Number::Got(n, next) => {
-            if high <= least {
-                return Number::Fault(Reason::Range, at);
-            }
-            if high - least <= n {
-                return Number::Fault(Reason::Range, at);
-            }
-            let feature = least + n;
-            if feature < low {
-                return Number::Fault(Reason::Range, at);
-            }
-            Number::Got(feature, next)
-        }
-        Number::Fault(found, place) => Number::Fault(found, place),
+    let gap = number_at(bytes, at)?;
+    if high <= least {
+        return Err(Fault(Reason::Range, at));
     }
+    if high - least <= gap.value {
+        return Err(Fault(Reason::Range, at));
+    }
+    let feature = least + gap.value;
+    if feature < low {
+        return Err(Fault(Reason::Range, at));
+    }
+    Ok(Number {
+        value: feature,
+        next: gap.next,
+    })
 }
 
 // The next feature of a list, in a file of either kind.
@@ -190,7 +197,7 @@ pub fn feature_at(
     low: usize,
     high: usize,
     least: usize,
-) -> Number
+) -> Result<Number, Fault>
     ensures { number_of result ≡ feature_of (kind_if gapped) low high least bytes.now at }
 {
     if gapped {
@@ -204,8 +211,8 @@ pub fn is_gapped(bytes: &[u8]) -> bool
     ensures { kind_if result ≡ kind_of bytes.now 0 }
 {
     match number_at(bytes, 0) {
-        Number::Got(n, _) => n == 0,
-        Number::Fault(_, _) => false,
+        Ok(number) => number.value == 0,
+        Err(_) => false,
     }
 }
 
@@ -213,20 +220,15 @@ pub fn is_gapped(bytes: &[u8]) -> bool
 pub fn bytes_read(bytes: &[u8], at: usize) -> usize
     ensures { result ≡ bytes_read bytes.now at }
 {
-    let mut next = at;
-    let mut left = MOST_GROUPS;
-    while 0 < left {
-        if bytes.len() <= next {
-            return next - at;
+    for i in 0..MOST_GROUPS {
+        if bytes.len() <= at + i {
+            return i;
         }
-        let byte = bytes[next] as usize;
-        if byte < GROUP {
-            return next + 1 - at;
+        if (bytes[at + i] as usize) < GROUP {
+            return i + 1;
         }
-        next += 1;
-        left -= 1;
     }
-    next - at
+    MOST_GROUPS
 }
 
 // The place of the number that stands so many numbers behind the one at a place.
@@ -234,17 +236,15 @@ pub fn numbers_on(bytes: &[u8], at: usize, count: usize) -> usize
     ensures { result ≡ numbers_on count bytes.now at }
 {
     let mut place = at;
-    let mut i = 0;
-    while i < count {
+    for _ in 0..count {
         match number_at(bytes, place) {
-            Number::Got(_, next) => {
-                place = next;
+            Ok(number) => {
+                place = number.next;
             }
-            Number::Fault(_, _) => {
+            Err(_) => {
                 return place;
             }
         }
-        i += 1;
     }
     place
 }

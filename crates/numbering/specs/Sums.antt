@@ -1,12 +1,18 @@
 -- Counting atoms and pairs variable by variable: what one variable more adds, and that the sums stay small.
-use Rattle.std.specs.Prelude.{ℕ, zero, suc, ◌+◌, ◌*◌, ◌≤◌, ◌≡◌, refl, List, [], ◌∷◌, length, take}
-use Rattle.std.proofs.Common.{ap, arith, mul-add, add-mul, mul-le-mul_left, add-one, take_all}
-use Rattle.std.proofs.Math.Seq.{take-length}
+use Rattle.std.specs.Prelude.{ℕ, zero, suc, ◌+◌, ◌*◌, ◌≤◌, ◌≡◌, refl, List, [], ◌∷◌, length, take, sum}
+use Rattle.std.proofs.Common.{ap, ◌∙◌, arith, mul-add, add-mul, mul-le-mul_left, add-one, take_all}
+use Rattle.std.proofs.lemmas.List.Sums.{sum_by-cons}
 use Rattle.meaning.specs.Limits.{most_atoms}
 use Rattle.meaning.specs.Task.{size}
 use Rattle.meaning.specs.Feature.{sum_of, pairs_of, atoms, features}
 use Rattle.theory.specs.Numbering.{front-room}
 use Rattle.numbering.specs.Sizes.{SmallSizes, most_pairs, sum-small, pairs_small}
+
+-- The sum of a list, in the library's word.
+pub sum-atoms : (sizes : List ℕ) → sum sizes ≡ atoms sizes
+unfolding atoms sum_of
+sum-atoms [] = refl
+sum-atoms (d ∷ ds) = sum_by-cons (λ x. x) d ds ∙ ap (λ n. d + n) (sum-atoms ds)
 
 pub sum-next : (sizes : List ℕ) (i : ℕ) → sum_of (take (suc i) sizes) ≡ sum_of (take i sizes) + size sizes i
 unfolding sum_of
@@ -43,10 +49,6 @@ module _ (sizes : List ℕ) (i d sum : ℕ) (s : SmallSizes sizes) (own : d ≡ 
   pairs-turn pairs e =
       rw (own, before, e, add-one)
       (omega (arith, pairs_next sizes i), omega (arith, pairs_next sizes i, pairs-front sizes (suc i), pairs_small sizes s))
-
-pub all-atoms : (sizes : List ℕ) → sum_of (take (length sizes) sizes) ≡ atoms sizes
-unfolding atoms
-all-atoms sizes = ap sum_of (take-length sizes)
 
 -- After the last turn all features are counted.
 pub counted : (sizes : List ℕ) (j sum pairs : ℕ) → length sizes ≤ j → sum ≡ sum_of (take j sizes) → pairs ≡ pairs_of (take j sizes) → sum + pairs ≡ features sizes

@@ -2,11 +2,10 @@
 
 #![tactic(auto)]
 
-ghost use Rattle.std.specs.Prelude.{◌≡◌, ◌≢◌, ◌+◌, ◌^◌, ◌<◌, ◌≤◌, length, take};
+ghost use Rattle.std.specs.Prelude.{◌≡◌, ◌≢◌, ◌+◌, ◌^◌, ◌<◌, ◌≤◌, length};
 ghost use Rattle.meaning.specs.Task.{size};
-ghost use Rattle.meaning.specs.Feature.{sum_of, atoms, features, single, pair_start, both};
+ghost use Rattle.meaning.specs.Feature.{atoms, features, single, pair_start, both};
 ghost use Rattle.numbering.specs.Sizes.{SmallSizes};
-ghost use Rattle.numbering.specs.Blocks.{From};
 ghost use Rattle.numbering.specs.Planes.{number_in, Spans};
 ghost use Rattle.numbering.specs.Order.{Stands, Follows, Contains, Joins};
 
@@ -16,13 +15,6 @@ pub struct Plane {
     pub first: usize,
     pub step: usize,
     pub other: usize,
-}
-
-// How many atoms the variables from a first one on have, and those from a second one on.
-#[derive(Clone, Copy)]
-struct Rests {
-    first: usize,
-    second: usize,
 }
 
 // The features of two variables in order as a block of numbers, from `start` to right before `end`. A variable with itself has an empty one,
@@ -50,26 +42,12 @@ pub fn size(sizes: &[u64], i: usize) -> usize
     sizes[i] as usize
 }
 
-// How many atoms the first n variables have: the number of variable n's first atom.
-fn atoms_before(sizes: &[u64], n: usize) -> usize
-    requires { SmallSizes sizes.now × (n ≤ length sizes.now) }
-    ensures { result ≡ sum_of (take n sizes.now) }
-{
-    let mut sum = 0;
-    let mut i = 0;
-    while i < n {
-        sum += size(sizes, i);
-        i += 1;
-    }
-    sum
-}
-
 // How many single atoms there are: A.
 pub fn atoms(sizes: &[u64]) -> usize
     requires { SmallSizes sizes.now }
     ensures { result ≡ atoms sizes.now }
 {
-    atoms_before(sizes, sizes.len())
+    sizes.iter().sum::<u64>() as usize
 }
 
 // How many features there are: N. Each variable adds its atoms, and its pairs with the atoms before them.
@@ -79,12 +57,10 @@ pub fn features(sizes: &[u64]) -> usize
 {
     let mut atoms = 0;
     let mut pairs = 0;
-    let mut j = 0;
-    while j < sizes.len() {
-        let d = size(sizes, j);
+    for size in sizes {
+        let d = *size as usize;
         pairs += atoms * d;
         atoms += d;
-        j += 1;
     }
     atoms + pairs
 }
@@ -94,28 +70,7 @@ pub fn single(sizes: &[u64], i: usize, x: usize) -> usize
     requires { SmallSizes sizes.now × (i < length sizes.now) × (x < size sizes.now i) }
     ensures { result ≡ single sizes.now i x }
 {
-    atoms_before(sizes, i) + x
-}
-
-// How many atoms the variables from i on have, and those from j on.
-fn atoms_from(sizes: &[u64], i: usize, j: usize) -> Rests
-    requires { SmallSizes sizes.now × (i < j) × (j < length sizes.now) }
-    ensures { From sizes.now i result.first × From sizes.now j result.second }
-{
-    let mut sum = 0;
-    let mut second = 0;
-    let mut k = sizes.len();
-    while i < k {
-        k -= 1;
-        sum += size(sizes, k);
-        if k == j {
-            second = sum;
-        }
-    }
-    Rests {
-        first: sum,
-        second: second,
-    }
+    atoms(&sizes[..i]) + x
 }
 
 // The number of the first feature of variables i < j. All atoms stand before it, the pairs of i with the variables between the two, and those of each
@@ -124,13 +79,12 @@ fn first_pair(sizes: &[u64], i: usize, j: usize) -> usize
     requires { SmallSizes sizes.now × (i < j) × (j < length sizes.now) }
     ensures { result ≡ atoms sizes.now + pair_start sizes.now i j }
 {
-    let from = atoms_from(sizes, i, j);
+    let rest = atoms(&sizes[i..]);
+    let later = atoms(&sizes[j..]);
     let own = size(sizes, i);
-    let mut pairs = own * (from.first - (own + from.second));
-    let mut behind = from.first;
-    let mut k = i;
-    while 0 < k {
-        k -= 1;
+    let mut pairs = own * (rest - (own + later));
+    let mut behind = rest;
+    for k in (0..i).rev() {
         let d = size(sizes, k);
         pairs += d * behind;
         behind += d;
@@ -143,22 +97,15 @@ pub fn plane_of(sizes: &[u64], i: usize, j: usize) -> Plane
     requires { SmallSizes sizes.now × (i ≢ j) × (i < length sizes.now) × (j < length sizes.now) }
     ensures { Spans sizes.now i j (both sizes.now) result }
 {
-    let mut low = i;
-    let mut high = j;
-    if j < i {
-        low = j;
-        high = i;
-    }
-    let first = first_pair(sizes, low, high);
     if i < j {
         Plane {
-            first: first,
+            first: first_pair(sizes, i, j),
             step: size(sizes, j),
             other: 1,
         }
     } else {
         Plane {
-            first: first,
+            first: first_pair(sizes, j, i),
             step: 1,
             other: size(sizes, i),
         }
@@ -204,14 +151,14 @@ fn next_block(sizes: &[u64], block: Block) -> Block
     if second < sizes.len() {
         return Block {
             first: block.first,
-            second: second,
+            second,
             start: block.end,
             end: block.end + size(sizes, block.first) * size(sizes, second),
         };
     }
     let first = block.first + 1;
     Block {
-        first: first,
+        first,
         second: first,
         start: block.end,
         end: block.end,

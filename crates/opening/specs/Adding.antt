@@ -1,5 +1,5 @@
 -- Operators read one after another, and their rows inserted into the slots of a workspace.
-use Rattle.std.specs.Prelude.{ℕ, ◌+◌, ◌-◌, ◌<◌, ◌≡◌, refl}
+use Rattle.std.specs.Prelude.{ℕ, ◌+◌, ◌-◌, ◌<◌, ◌≡◌, refl, Result, Ok}
 use Rattle.std.proofs.Common.{sym, ap, ◌∙◌}
 use mathlib.Core.List.{List, [], ◌∷◌, ◌++◌, flat_map, foldl}
 use Rattle.meaning.specs.Task.{Operator}
@@ -9,8 +9,7 @@ use Rattle.theory.specs.Contents.{with_slots}
 use Rattle.theory.specs.InsertAll.{insert_all, insert_all-join}
 use Rattle.theory.specs.Rows.{rows_of, rows_all}
 use Rattle.number.specs.Answers.{place_of}
-use Rattle.number.specs.declared.Step.{Step}
-use Rattle.number.specs.declared.Step.TheVariants.{Next}
+use Rattle.number.specs.declared.Fault.{Fault}
 use Rattle.layout.specs.Parts.{sizes_part}
 use Rattle.operator.specs.Fold.{walked, walk-keeps, turn_more}
 use Rattle.condition.specs.Slotted.{with_rows}
@@ -41,7 +40,7 @@ module _ (v n : ℕ) (bytes : List ℕ) where
   added-sized count at sizes ws sized = walk-keeps (with_rows v n) (sizes_part v ws) bytes (Sized v n sizes) (λ l o h. sized_rows h o) count at ws sized
 
   -- A turn that inserts the rows of one operator.
-  module _ (count k at : ℕ) (ws : List ℕ) (workable : Workable v n ws) (answer : Step) (left : List ℕ) (more : k < count)
+  module _ (count k at : ℕ) (ws : List ℕ) (workable : Workable v n ws) (answer : Result ℕ Fault) (left : List ℕ) (more : k < count)
       (place : answer ≡ place_of (operator_of (sizes_part v ws) bytes at)) (rows : left ≡ added_from v n 1 bytes at ws) where
     same : Sized v n (sizes_part v ws) left
     same = rw rows (added-sized 1 at (sizes_part v ws) ws (record { workable = workable; sizes-are = refl }))
@@ -49,7 +48,7 @@ module _ (v n : ℕ) (bytes : List ℕ) where
     pub added-workable : Workable v n left
     added-workable = same.workable
 
-    pub added_more : (next : ℕ) → answer ≡ Next next → added_from v n (count - k) bytes at ws ≡ added_from v n (count - (k + 1)) bytes next left
+    pub added_more : (next : ℕ) → answer ≡ Ok next → added_from v n (count - k) bytes at ws ≡ added_from v n (count - (k + 1)) bytes next left
     added_more next e = turn_more (with_rows v n) (sizes_part v ws) bytes count k at ws answer left more place rows next e
         ∙ ap (λ sizes. walked (with_rows v n) sizes (count - (k + 1)) bytes next left) same.sizes-are
 

@@ -1,9 +1,10 @@
 -- What the answer says in the words of the meaning.
-use Rattle.std.specs.Prelude.{ℕ}
+use Rattle.std.specs.Prelude.{ℕ, Result, Ok, Err}
+use Rattle.meaning.specs.Number.{refusal}
 use Rattle.meaning.specs.Answer.{Answer, done, refused}
-use Rattle.opening.specs.declared.Opened.{Opened}
-use Rattle.opening.specs.declared.Opened.TheVariants as code
+use Rattle.number.specs.Answers.{reason_of}
+use Rattle.number.specs.declared.Reason.{Reason}
 
-abbrev pub opened_of : Opened → Answer ℕ
-opened_of (code.Opened due) = done due
-opened_of (code.Refused number) = refused number
+abbrev pub opened_of : Result ℕ Reason → Answer ℕ
+opened_of (Ok due) = done due
+opened_of (Err reason) = refused (refusal (reason_of reason))

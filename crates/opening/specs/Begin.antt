@@ -1,6 +1,6 @@
 -- A workspace whose slots are still empty, and what it becomes once all operators' rows are inserted.
-use Rattle.std.specs.Prelude.{ℕ, zero, suc, ◌+◌, ◌-◌, ◌*◌, ◌<◌, ◌≤◌, ◌≡◌, refl, false, ltb, length, take, drop, replicate}
-use Rattle.std.proofs.Common.{sym, ap₂, ◌∙◌, arith, length-drop, take_at, drop_at, drop-drop, length-take-le, lt-ltb, le-ltb}
+use Rattle.std.specs.Prelude.{ℕ, zero, suc, ◌+◌, ◌-◌, ◌*◌, ◌≤◌, ◌≡◌, refl, false, ltb, length, take, drop, replicate}
+use Rattle.std.proofs.Common.{sym, ap₂, ◌∙◌, arith, le-ltb}
 use Rattle.std.proofs.Math.Path.{ap}
 use Rattle.std.proofs.Math.Logic.Iff
 use mathlib.Core.List.{List, ◌++◌, append_assoc, foldl}
@@ -8,12 +8,12 @@ use Rattle.std.proofs.lemmas.List.{length-replicate, replicate-append-replicate}
 use Rattle.meaning.specs.Sets.{Slots, flat, listed}
 use Rattle.meaning.specs.Task.{Operator, Task}
 use Rattle.meaning.specs.Feature.{features}
-use Rattle.meaning.specs.Number.{Read, got, fault, Reason, refusal, Small}
+use Rattle.meaning.specs.Number.{Read, got}
 use Rattle.meaning.specs.File.{operators_of}
 use Rattle.meaning.specs.Slot.{SlotsOf}
 use Rattle.meaning.specs.Weight.{Meets}
 use Rattle.meaning.specs.Workspace.{words_for, slots_at, words_due, packed, words_of, content_of}
-use Rattle.meaning.specs.Answer.{Outcome, done, refused, OpensAs}
+use Rattle.meaning.specs.Answer.{done, OpensAs}
 use Rattle.theory.specs.Search.{and-none-right}
 use Rattle.theory.specs.Words.{packed-is}
 use Rattle.theory.specs.Contents.{slot_words, length-words, opened-proper}
@@ -28,20 +28,6 @@ use Rattle.task.specs.Answer.{KnownAs, known-headed, known-header}
 use Rattle.condition.specs.Slotted.{held_slots, with_rows}
 use Rattle.condition.specs.Holds.{Holds, held-sizes, held-slots}
 use Rattle.opening.specs.Adding.{Sized, added_from, fold-rows}
-
--- ---- two parts written one after the other
-
--- A front is copied, and the words from its end to the place `due` are cleared.
-pub begin-made : (room front copied cleared : List ℕ) (due : ℕ) → let end = length front in let middle = copied ++ drop end room in end ≤ due → due ≤ length room → copied ≡ front
-    → cleared ≡ replicate (length (take (due - end) (drop end middle))) 0
-    → take end middle ++ (cleared ++ drop (due - end) (drop end middle)) ≡ front ++ (replicate (due - end) 0 ++ drop due room)
-begin-made room front copied cleared due h k q z =
-    let end = length front in
-    let back : drop end (front ++ drop end room) ≡ drop end room = drop_at front (drop end room) end refl in
-    let rest : end + (due - end) ≡ due = omega arith in
-    let long : length (take (due - end) (drop end room)) ≡ due - end = length-take-le (due - end) (drop end room) (rw (length-drop end room) (omega arith)) in
-    let zeros : cleared ≡ replicate (due - end) 0 = rw (back, long) at (rw q at z) in
-    rw (q, take_at front (drop end room) end refl, back, drop-drop (due - end) end room, rest, zeros)
 
 -- ---- empty slots
 
@@ -60,10 +46,6 @@ zeros-slots : (n : ℕ) → replicate (n * words_for n) 0 ≡ slot_words n bare
 zeros-slots n = sym (zeros-flat n (words_for n) (λ i. packed n (bare i)) (zeros-slot n))
 
 -- ---- a task that was accepted
-
--- Refused with a number, and the room as it came.
-abbrev refused_with : List ℕ → ℕ → Outcome ℕ
-refused_with room number = record { answer = refused number; lent = room }
 
 module _ (judging : Read Task) (words left room : List ℕ) (v n : ℕ) (known : KnownAs judging words left v n) where
   abbrev task : Task
@@ -127,17 +109,8 @@ module _ (judging : Read Task) (words left room : List ℕ) (v n : ℕ) (known :
   due-for : words_due v n ≡ words_due (length task.sizes) (features task.sizes)
   due-for = ap₂ words_due known.variables known.total
 
-  -- Too little room.
-  pub opens_small : (due number : ℕ) → due ≡ words_due v n → length room < due → number ≡ refusal Small → OpensAs judging room (record { answer = refused number; lent = room })
-  opens_small due number e h q = rw (known.judged, lt-ltb (length room) (words_due (length task.sizes) (features task.sizes)) (omega (arith, e, due-for))) (ap (refused_with room) q)
-
   -- Enough of it.
   pub opens-done : (due : ℕ) (exit : List ℕ) → due ≡ words_due v n → due ≤ length room → exit ≡ words_of (content_of task operator_slots) ++ drop due room
       → OpensAs judging room (record { answer = done due; lent = exit })
   opens-done due exit e h x = rw (known.judged, le-ltb (length room) (words_due (length task.sizes) (features task.sizes)) (omega (arith, e, due-for)))
       (operator_slots, are-slots, ap₂ (λ d l. record { answer = done d; lent = l }) (e ∙ due-for) (x ∙ ap (λ k. words_of (content_of task operator_slots) ++ drop k room) (e ∙ sym long)))
-
--- A task that was refused.
-pub opens-refused : (judging : Read Task) (room : List ℕ) (reason : Reason) (place number : ℕ) → judging ≡ fault reason place → number ≡ refusal reason
-    → OpensAs judging room (record { answer = refused number; lent = room })
-opens-refused judging room reason place number e q = rw e (ap (refused_with room) q)

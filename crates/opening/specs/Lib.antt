@@ -5,4 +5,4 @@ pub mod Later
 pub mod Step
 pub mod Begin
 pub mod Forgotten
-pub mod Built
+pub mod Accepted

@@ -2,38 +2,33 @@
 
 #![tactic(auto)]
 
-ghost use Rattle.std.specs.Prelude.{◌≡◌, false, ℕ, ◌-◌, ◌<◌, ◌≤◌, length, replicate, drop};
+ghost use Rattle.std.specs.Prelude.{◌≡◌, false, ℕ, ◌-◌, ◌≤◌, length, replicate, drop};
 ghost use mathlib.Core.List.{List, ◌++◌, foldl};
 ghost use Rattle.meaning.specs.Limits.{most_variables};
-ghost use Rattle.meaning.specs.Task.{State};
+ghost use Rattle.meaning.specs.Number.{Read};
+ghost use Rattle.meaning.specs.Task.{State, Task};
 ghost use Rattle.meaning.specs.File.{operator_of};
 ghost use Rattle.meaning.specs.Workspace.{has};
-ghost use Rattle.meaning.specs.Answer.{Opens};
+ghost use Rattle.meaning.specs.Answer.{Opens, OpensAs};
 ghost use Rattle.meaning.specs.Partial.{OpensPartial};
 ghost use Rattle.number.specs.Answers.{place_of};
 ghost use Rattle.layout.specs.Parts.{sizes_part};
 ghost use Rattle.pairs.specs.Ready.{Listed};
-ghost use Rattle.forgetting.specs.Kept.{unknown_of, forgotten_by, kept_in};
+ghost use Rattle.forgetting.specs.Kept.{kept_in};
 ghost use Rattle.condition.specs.Slotted.{with_rows};
 ghost use Rattle.condition.specs.Later.{Kept, settled_as};
-ghost use Rattle.order.specs.Answer.{KnownPartial};
+ghost use Rattle.order.specs.With.{following, KnownWith};
 ghost use Rattle.opening.specs.Answer.{opened_of};
 ghost use Rattle.opening.specs.Adding.{Workable, Sized, added_from};
 ghost use Rattle.opening.specs.Later.{Blank};
 
 use limits::{HEADER_WORDS, MOST_WORDS};
-use number::{Reason, Step};
-use task::Judged;
+use number::{Fault, Reason};
+use operator::Entries;
+use reader::Header;
 
 // Slots are settled once one in so many of all is pending.
 const PENDING_SHARE: usize = 32;
-
-// The number of words due, or the paper's number of a refusal.
-#[derive(Clone, Copy)]
-pub enum Opened {
-    Opened(usize),
-    Refused(u64),
-}
 
 // Puts a header in front, and clears the slots behind it.
 fn begin(room: &mut [u64], header: &[u64], due: usize)
@@ -45,7 +40,7 @@ fn begin(room: &mut [u64], header: &[u64], due: usize)
     words::clear(&mut room[end..due]);
 }
 
-// Reads an operator and inserts its rows; nothing is inserted where there is a fault. New slots stay pending.
+// Reads an operator and inserts its rows; nothing is inserted where there is a fault. New slots stay pending. The answer is the place after it.
 fn add_operator(
     bytes: &[u8],
     at: usize,
@@ -54,34 +49,16 @@ fn add_operator(
     n: usize,
     full: &mut [u64],
     pending: &mut [u64],
-) -> Step
+) -> Result<usize, Fault>
     requires { Kept v n full.old pending.old room.old × Workable v n (settled_as v n pending.old room.old) }
     ensures place { result ≡ place_of (operator_of (sizes_part v (settled_as v n pending.old room.old)) bytes.now at) }
     ensures kept { Kept v n full.new pending.new room.new }
     ensures rows { settled_as v n pending.new room.new ≡ added_from v n 1 bytes.now at (settled_as v n pending.old room.old) }
 {
-    let read = operator::read_operator(bytes, at, layout::sizes(room, v));
-    let step = read.step;
-    match step {
-        Step::Next(next) => {
-            let count = read.operator.count;
-            let variables = read.operator.variables;
-            let befores = read.operator.befores;
-            let afters = read.operator.afters;
-            condition::add_rows_later(
-                room,
-                v,
-                n,
-                full,
-                pending,
-                &variables[..count],
-                &befores[..count],
-                &afters[..count],
-            );
-            Step::Next(next)
-        }
-        Step::Fault(reason, place) => Step::Fault(reason, place),
-    }
+    let read = operator::read_operator(bytes, at, layout::sizes(room, v))?;
+    let entries = read.operator.entries();
+    condition::add_rows_later(room, v, n, full, pending, &entries);
+    Ok(read.next)
 }
 
 // Settles the slots where so many are pending that it pays; what they are once settled stays.
@@ -111,94 +88,13 @@ fn add_operators(
     ensures rows { settled_as v n pending.new room.new ≡ added_from v n count bytes.now at (settled_as v n pending.old room.old) }
 {
     let mut next = at;
-    let mut k = 0;
-    while k < count {
-        match add_operator(bytes, next, room, v, n, full, pending) {
-            Step::Next(after) => {
-                next = after;
-            }
-            Step::Fault(_, _) => {
-                return;
-            }
-        }
+    for _ in 0..count {
+        let Ok(after) = add_operator(bytes, next, room, v, n, full, pending) else {
+            return;
+        };
         settle_when_due(room, v, n, full, pending);
-        k += 1;
+        next = after;
     }
-}
-
-// Reads so many operators, inserts their rows into empty slots and settles these.
-fn add_task(
-    bytes: &[u8],
-    at: usize,
-    count: usize,
-    room: &mut [u64],
-    v: usize,
-    n: usize,
-    full: &mut [u64],
-    pending: &mut [u64],
-)
-    requires { Blank v n full.old pending.old room.old }
-    ensures { room.new ≡ added_from v n count bytes.now at room.old }
-{
-    add_operators(bytes, at, count, room, v, n, full, pending);
-    condition::settle_rows(room, v, n, full, pending);
-}
-
-// Opens a workspace from a task file in lent words.
-pub fn open(task: &[u8], room: &mut [u64]) -> Opened
-    ensures { Opens task.now room.old (record { answer = opened_of result; lent = room.new }) }
-{
-    let mut header = [0u64; HEADER_WORDS];
-    match task::judge(task, &mut header) {
-        Judged::Accepted {
-            variables,
-            features,
-            operators,
-            at,
-        } => {
-            let places = layout::places_for(variables, features);
-            if room.len() < places.end {
-                return Opened::Refused(number::refusal(Reason::Small));
-            }
-            begin(room, &header[..places.slots], places.end);
-            let w = layout::words_for(features);
-            let mut full = [0u64; MOST_WORDS];
-            let mut pending = [0u64; MOST_WORDS];
-            add_task(
-                task,
-                at,
-                operators,
-                room,
-                variables,
-                features,
-                &mut full[..w],
-                &mut pending[..w],
-            );
-            Opened::Opened(places.end)
-        }
-        Judged::Refused(reason, _) => Opened::Refused(number::refusal(reason)),
-    }
-}
-
-// Inserts the rows of the operator that forgets value x of variable i; new slots stay pending.
-fn add_forgetting(
-    room: &mut [u64],
-    v: usize,
-    n: usize,
-    full: &mut [u64],
-    pending: &mut [u64],
-    sizes: &[u64],
-    i: usize,
-    x: usize,
-)
-    requires { Kept v n full.old pending.old room.old × Sized v n sizes.now (settled_as v n pending.old room.old) × (i < length sizes.now) × (x < unknown_of sizes.now i) }
-    ensures kept { Kept v n full.new pending.new room.new }
-    ensures rows { settled_as v n pending.new room.new ≡ with_rows v n (settled_as v n pending.old room.old) (forgotten_by sizes.now i x) }
-{
-    let variables = [i];
-    let befores = [x];
-    let afters = [numbering::size(sizes, i) - 1];
-    condition::add_rows_later(room, v, n, full, pending, &variables, &befores, &afters);
 }
 
 // Inserts the rows of the forgetting operators that are kept, by the sizes, pairs and goal of the built task; the last slots stay pending.
@@ -217,90 +113,100 @@ fn add_forgettings(
     ensures rows { settled_as v n pending.new room.new
         ≡ foldl (with_rows v n) (settled_as v n pending.old room.old) (kept_in sizes.now (has pairs.now) goal.now false) }
 {
-    let mut kept = forgetting::next_kept(sizes, pairs, goal, false, 0, 0);
-    while kept.variable < sizes.len() {
-        let i = kept.variable;
-        let x = kept.value;
-        add_forgetting(room, v, n, full, pending, sizes, i, x);
+    let mut next = forgetting::next_kept(sizes, pairs, goal, false, 0, 0);
+    while let Some(kept) = next {
+        let entry = kept.entry(sizes);
+        condition::add_rows_later(room, v, n, full, pending, &Entries::one(&entry));
         settle_when_due(room, v, n, full, pending);
-        kept = forgetting::next_kept(sizes, pairs, goal, false, i, x + 1);
+        next = forgetting::next_kept(sizes, pairs, goal, false, kept.variable, kept.value + 1);
     }
 }
 
-// Reads so many operators, inserts their rows and those of the kept forgetting operators into empty slots, and settles these.
-fn add_built(
+// Inserts the rows of a task's operators into empty slots, those that are read and, if the task forgets, then the kept forgetting ones, and settles these.
+fn add_task(
     bytes: &[u8],
-    at: usize,
-    count: usize,
+    header: Header,
+    forgets: bool,
     room: &mut [u64],
-    v: usize,
-    n: usize,
     full: &mut [u64],
     pending: &mut [u64],
     sizes: &[u64],
     pairs: &[u64],
     goal: &[u64],
 )
-    requires { Blank v n full.old pending.old room.old × Sized v n sizes.now room.old × Listed sizes.now pairs.now × State sizes.now goal.now }
-    ensures { room.new ≡ foldl (with_rows v n) (added_from v n count bytes.now at room.old) (kept_in sizes.now (has pairs.now) goal.now false) }
+    requires { Blank header.variables header.features full.old pending.old room.old × Sized header.variables header.features sizes.now room.old
+        × Listed sizes.now pairs.now × State sizes.now goal.now }
+    ensures { room.new ≡ foldl (with_rows header.variables header.features)
+        (added_from header.variables header.features header.operators bytes.now header.next room.old) (following sizes.now (has pairs.now) goal.now forgets) }
 {
-    add_operators(bytes, at, count, room, v, n, full, pending);
-    add_forgettings(room, v, n, full, pending, sizes, pairs, goal);
-    condition::settle_rows(room, v, n, full, pending);
-}
-
-// Opens a workspace of the task that is built for an accepted partial file, by its header and its counts.
-fn open_built(
-    partial: &[u8],
-    at: usize,
-    count: usize,
-    room: &mut [u64],
-    header: &[u64],
-    v: usize,
-    n: usize,
-) -> Opened
-    requires { (old : List ℕ) × (kept : ℕ) × KnownPartial false partial.now old header.now v n count kept at }
-    ensures { OpensPartial partial.now room.old (record { answer = opened_of result; lent = room.new }) }
-{
-    let places = layout::places_for(v, n);
-    let slots = places.slots;
-    let due = places.end;
-    if room.len() < due {
-        return Opened::Refused(number::refusal(Reason::Small));
-    }
-    begin(room, &header[..slots], due);
-    let w = layout::words_for(n);
-    let mut full = [0u64; MOST_WORDS];
-    let mut pending = [0u64; MOST_WORDS];
-    add_built(
-        partial,
-        at,
-        count,
+    let v = header.variables;
+    let n = header.features;
+    add_operators(
+        bytes,
+        header.next,
+        header.operators,
         room,
         v,
         n,
+        full,
+        pending,
+    );
+    if forgets {
+        add_forgettings(room, v, n, full, pending, sizes, pairs, goal);
+    }
+    condition::settle_rows(room, v, n, full, pending);
+}
+
+// Opens a workspace of an accepted task, by its header and the words with its parts. The answer is the number of words due.
+fn open_accepted(
+    bytes: &[u8],
+    header: Header,
+    parts: &[u64],
+    forgets: bool,
+    room: &mut [u64],
+) -> Result<usize, Reason>
+    requires { (judging : Read Task) × (old : List ℕ) × KnownWith judging bytes.now old parts.now header forgets }
+    ensures { (judging : Read Task) (old : List ℕ) → KnownWith judging bytes.now old parts.now header forgets
+        → OpensAs judging room.old (record { answer = opened_of result; lent = room.new }) }
+{
+    let v = header.variables;
+    let n = header.features;
+    let places = layout::places_for(v, n);
+    if room.len() < places.end {
+        return Err(Reason::Small);
+    }
+    begin(room, &parts[..places.slots], places.end);
+    let w = layout::words_for(n);
+    let mut full = [0u64; MOST_WORDS];
+    let mut pending = [0u64; MOST_WORDS];
+    add_task(
+        bytes,
+        header,
+        forgets,
+        room,
         &mut full[..w],
         &mut pending[..w],
-        layout::sizes(header, v),
-        layout::pairs(header, v, n),
-        layout::goal(header, v, n),
+        layout::sizes(parts, v),
+        layout::pairs(parts, v, n),
+        layout::goal(parts, v, n),
     );
-    Opened::Opened(due)
+    Ok(places.end)
+}
+
+// Opens a workspace from a task file in lent words.
+pub fn open(task: &[u8], room: &mut [u64]) -> Result<usize, Reason>
+    ensures { Opens task.now room.old (record { answer = opened_of result; lent = room.new }) }
+{
+    let mut parts = [0u64; HEADER_WORDS];
+    let header = task::judge(task, &mut parts)?;
+    open_accepted(task, header, &parts, false, room)
 }
 
 // Opens a workspace of the task that is built for a partial task file, in lent words.
-pub fn open_partial(partial: &[u8], room: &mut [u64]) -> Opened
+pub fn open_partial(partial: &[u8], room: &mut [u64]) -> Result<usize, Reason>
     ensures { OpensPartial partial.now room.old (record { answer = opened_of result; lent = room.new }) }
 {
-    let mut header = [0u64; HEADER_WORDS];
-    match order::judge(partial, false, &mut header) {
-        order::Judged::Accepted {
-            variables,
-            features,
-            operators,
-            kept: _,
-            at,
-        } => open_built(partial, at, operators, room, &header, variables, features),
-        order::Judged::Refused(reason, _) => Opened::Refused(number::refusal(reason)),
-    }
+    let mut parts = [0u64; HEADER_WORDS];
+    let judged = order::judge(partial, false, &mut parts)?;
+    open_accepted(partial, judged.header, &parts, true, room)
 }

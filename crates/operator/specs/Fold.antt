@@ -1,7 +1,7 @@
 -- The operators of a file, read one after another: what is known of all of them where they were read, the place after them, and a state that each of them changes. Every walk over a
 -- file's operators is the last with a state of its own.
 use Prim.Native.Nat.{ℕ, zero, suc, ◌+◌, ◌-◌, ◌<◌, ◌≤◌}
-use Rattle.std.specs.Prelude.{◌≡◌}
+use Rattle.std.specs.Prelude.{◌≡◌, Result, Ok, Err}
 use Rattle.std.proofs.Math.Path.{refl, sym, ap}
 use Rattle.std.proofs.Common.{◌∙◌}
 use mathlib.Core.List.{List, [], ◌∷◌, foldl}
@@ -12,9 +12,7 @@ use Rattle.meaning.specs.Number.{Read, got, fault, on_read}
 use Rattle.meaning.specs.File.{operator_of, operators_of}
 use Rattle.theory.specs.Reading.{on-got, got-value, got-next}
 use Rattle.number.specs.Answers.{place_of, place-next, place-faulted}
-use Rattle.number.specs.declared.Reason.{Reason}
-use Rattle.number.specs.declared.Step.{Step}
-use Rattle.number.specs.declared.Step.TheVariants.{Next, Fault}
+use Rattle.number.specs.declared.Fault.{Fault}
 
 -- What follows an operator that was read; where none was, the state as it is.
 abbrev pub changed : {S : Type 0} → S → Read Operator → (Operator → ℕ → S) → S
@@ -110,13 +108,13 @@ module _ {S : Type 0} (step : S → Operator → S) (sizes bytes : List ℕ) whe
       walk-left h = walk_more ∙ walk-stays (count - (k + 1)) next after h
 
     -- A turn that is a call: it answers the place after one operator, and leaves the state after it.
-    module _ (answer : Step) (after : S) (more : k < count) (place : answer ≡ place_of (operator_of sizes bytes at)) (one : after ≡ walked step sizes 1 bytes at s) where
-      pub turn_more : (next : ℕ) → answer ≡ Next next → walked step sizes (count - k) bytes at s ≡ walked step sizes (count - (k + 1)) bytes next after
+    module _ (answer : Result ℕ Fault) (after : S) (more : k < count) (place : answer ≡ place_of (operator_of sizes bytes at)) (one : after ≡ walked step sizes 1 bytes at s) where
+      pub turn_more : (next : ℕ) → answer ≡ Ok next → walked step sizes (count - k) bytes at s ≡ walked step sizes (count - (k + 1)) bytes next after
       unfolding walked
       turn_more next e = let (o, read) = place-next (operator_of sizes bytes at) next (sym place ∙ e) in
           walk_more o next after more read (sym (one ∙ ap (λ r. changed s r (λ p _. step s p)) read))
 
-      pub turn-unread : (reason : Reason) (there : ℕ) → answer ≡ Fault reason there → walked step sizes (count - k) bytes at s ≡ after
+      pub turn-unread : (found : Fault) → answer ≡ Err found → walked step sizes (count - k) bytes at s ≡ after
       unfolding walked
-      turn-unread reason there e = let read = place-faulted (operator_of sizes bytes at) reason there (sym place ∙ e) in
-          walk-unread _ there read ∙ sym (one ∙ ap (λ r. changed s r (λ p _. step s p)) read)
+      turn-unread found e = let read = place-faulted (operator_of sizes bytes at) found (sym place ∙ e) in
+          walk-unread _ _ read ∙ sym (one ∙ ap (λ r. changed s r (λ p _. step s p)) read)

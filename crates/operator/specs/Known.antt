@@ -1,8 +1,8 @@
 -- What callers know of an operator that was read or found fine.
 use Rattle.std.specs.Prelude.{ℕ, suc, ◌≤◌, ◌≡◌, List, length, leb, ltb}
-use Rattle.std.proofs.Common.{sym, ap, ◌∙◌, arith, leb-true}
+use Rattle.std.proofs.Common.{ap, arith, leb-true}
 use Rattle.meaning.specs.Task.{Operator, IsOperator}
-use Rattle.meaning.specs.Number.{Range, Unclosed, got, fault}
+use Rattle.meaning.specs.Number.{Range, Unclosed, got}
 use Rattle.meaning.specs.File.{inside, operator_of}
 use Rattle.meaning.specs.Answer.{OperatorRecord, operator_in, add_operator, fine, need, entries_judged, edit_judged}
 use Rattle.meaning.specs.Pair.{closed}
@@ -12,13 +12,9 @@ use Rattle.theory.specs.Search.{and_left}
 use Rattle.theory.specs.Parts.{operator-said}
 use Rattle.theory.specs.ReadBack.{entries-length}
 use Rattle.theory.specs.Operands.{unless, need-unless, need-fine, entries-fine}
-use Rattle.theory.specs.Slices.{length-held}
-use Rattle.number.specs.Answers.{reason_of}
-use Rattle.number.specs.declared.Reason.{Reason}
-use Rattle.number.specs.declared.Step.TheVariants.{Next, Fault}
 use Rattle.operator.specs.declared.Operator as declared
-use Rattle.operator.specs.declared.OperatorRead.{OperatorRead}
-use Rattle.operator.specs.Records.{record_of, step_of, operator_read_of}
+use Rattle.operator.specs.Entries.{length-held}
+use Rattle.operator.specs.Records.{record_of}
 use Rattle.operator.specs.Laws.{entries-unless}
 
 -- ---- an operator of a file
@@ -26,15 +22,6 @@ use Rattle.operator.specs.Laws.{entries-unless}
 module _ (sizes bytes : List ℕ) (at : ℕ) (o : Operator) (next : ℕ) (read : operator_of sizes bytes at ≡ got o next) where
   pub operator-is : IsOperator sizes o
   operator-is = ((operator-said bytes sizes).gives at o next read).known.0
-
--- What a reader that went on has read.
-pub read_next : (sizes bytes : List ℕ) (at : ℕ) (r : OperatorRead) (next : ℕ) → operator_read_of r ≡ operator_of sizes bytes at → r.step ≡ Next next
-    → operator_of sizes bytes at ≡ got (operator_in (record_of r.operator)) next
-read_next sizes bytes at r next e g = sym e ∙ ap (λ s. step_of s (operator_in (record_of r.operator))) g
-
-pub read-faulted : (sizes bytes : List ℕ) (at : ℕ) (r : OperatorRead) (reason : Reason) (place : ℕ) → operator_read_of r ≡ operator_of sizes bytes at
-    → r.step ≡ Fault reason place → operator_of sizes bytes at ≡ fault (reason_of reason) place
-read-faulted sizes bytes at r reason place e g = sym e ∙ ap (λ s. step_of s (operator_in (record_of r.operator))) g
 
 -- ---- an operator that is handed over
 

@@ -12,9 +12,10 @@ use Rattle.meaning.specs.File.{entries_of}
 use Rattle.meaning.specs.Answer.{operator_in, Judged, fine, entries_judged}
 use Rattle.theory.specs.Flat.{table-cong}
 use Rattle.theory.specs.Walk.{entry_at}
-use Rattle.theory.specs.Slices.{entry_of, entry_in, held_in, length-held, entry-held}
+use Rattle.theory.specs.Given.{entry_of}
 use Rattle.theory.specs.Reading.{on-on}
 use Rattle.theory.specs.Operands.{unless, need-unless}
+use Rattle.operator.specs.Entries.{held_in}
 
 -- ---- the arrays of a record
 
@@ -87,14 +88,11 @@ module _ (sizes : List ℕ) where
   unfolding entries_judged
   judged-first least e es rest = entries-unless least (e ∷ []) (entries_judged sizes (suc e.variable) es rest)
 
-  pub judge-more : (least k count : ℕ) (vs xs ys : List ℕ) (rest : Judged) → k < count → entries_judged sizes least (drop k (held_in count vs xs ys)) rest
-      ≡ unless (entries_judged sizes least (entry_in vs xs ys k ∷ []) fine)
-      (entries_judged sizes (get_or vs k 0 + 1) (drop (k + 1) (held_in count vs xs ys)) rest)
-  judge-more least k count vs xs ys rest h =
-      let o = held_in count vs xs ys in
-      let inside : k < length o = omega (arith, length-held count vs xs ys) in
-      rw (drop-cons o k (entry_of 0 0 0) inside, entry-held count vs xs ys k h, add-one k, add-one (get_or vs k 0)) (judged-first least _ (drop (suc k) o) rest)
+  pub judge-more : (least k : ℕ) (o : Operator) (rest : Judged) → k < length o → entries_judged sizes least (drop k o) rest
+      ≡ unless (entries_judged sizes least (entry_at o k ∷ []) fine) (entries_judged sizes ((entry_at o k).variable + 1) (drop (k + 1) o) rest)
+  judge-more least k o rest h =
+      rw (drop-cons o k (entry_of 0 0 0) h, add-one k, add-one (entry_at o k).variable) (judged-first least _ (drop (suc k) o) rest)
 
-  pub judge-all : (least k count : ℕ) (vs xs ys : List ℕ) (rest : Judged) → count ≤ k → entries_judged sizes least (drop k (held_in count vs xs ys)) rest ≡ rest
+  pub judge-all : (least k : ℕ) (o : Operator) (rest : Judged) → length o ≤ k → entries_judged sizes least (drop k o) rest ≡ rest
   unfolding entries_judged
-  judge-all least k count vs xs ys rest h = rw (drop_of_length-le (held_in count vs xs ys) {i = k} (omega (arith, length-held count vs xs ys)))
+  judge-all least k o rest h = rw (drop_of_length-le o {i = k} h)

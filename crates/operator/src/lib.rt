@@ -2,18 +2,24 @@
 
 #![tactic(auto)]
 
-ghost use Rattle.std.specs.Prelude.{◌≡◌, [], ◌∷◌, suc, ◌≤◌, length};
+ghost use Rattle.std.specs.Prelude.{◌≡◌, [], ◌∷◌, suc, ◌<◌, ◌≤◌, length, take};
 ghost use Rattle.meaning.specs.Limits.{most_variables};
+ghost use Rattle.meaning.specs.Task.{names};
 ghost use Rattle.meaning.specs.Number.{Range};
 ghost use Rattle.meaning.specs.File.{inside, entries_of, operator_of};
 ghost use Rattle.meaning.specs.Answer.{operator_in, fine, need, entries_judged};
-ghost use Rattle.theory.specs.Slices.{entry_of};
+ghost use Rattle.theory.specs.Walk.{entry_at};
+ghost use Rattle.operator.specs.Entries.{entries_in, Named};
 ghost use Rattle.operator.specs.Records.{blank_for, record_of, entry_read_of, operator_read_of, judgement_of};
 
 use limits::MOST_ENTRIES;
-use number::{Number, Reason, Step};
+use meaning::Entry;
+use number::{Fault, Reason};
+use std::marker::Model;
+use std::slice::from_ref;
 
-// The entries below the count, each a variable with its before and its after value.
+// The entries below the count, each a variable with its before and its after value; what stands behind them says nothing. Document 01 names this form: "a struct by value with arrays of
+// variables, before and after values and a count".
 #[derive(Drop)]
 pub struct Operator {
     pub count: usize,
@@ -22,171 +28,238 @@ pub struct Operator {
     pub afters: [usize; MOST_ENTRIES],
 }
 
-// The place after an operator that was read, or the first fault; and the operator, which says nothing where there is a fault.
+// An operator's entries, lent: the parts of a record's arrays, so that the record is not copied at each call.
+#[derive(Drop)]
+pub struct Entries<'a> {
+    variables: &'a [usize],
+    befores: &'a [usize],
+    afters: &'a [usize],
+}
+
+// An entry that was read, and the place after it.
+#[derive(Clone, Copy)]
+struct EntryRead {
+    entry: Entry,
+    next: usize,
+}
+
+// An operator that was read, and the place after it.
 #[derive(Drop)]
 pub struct OperatorRead {
-    pub step: Step,
     pub operator: Operator,
+    pub next: usize,
 }
 
-// What is wrong with an operator: the first fault, or nothing.
-#[derive(Clone, Copy)]
-pub enum Judgement {
-    Fine,
-    Faulty(Reason),
+// Clauses see the meaning's operator.
+impl<'a> Model for Entries<'a> {
+    ghost use Rattle.std.specs.Prelude.{◌≡◌, length};
+    ghost use Rattle.meaning.specs.Task as meaning;
+    ghost use Rattle.operator.specs.Entries.{entries_in, Named};
+
+    ghost Value = { meaning.Operator };
+
+    ghost view = { λ e. entries_in e.variables.now e.befores.now e.afters.now };
+
+    ghost invariant = { λ e. (length e.befores.now ≡ length e.variables.now) × (length e.afters.now ≡ length e.variables.now) };
 }
 
-// An entry that was read: variable, before, after, and the place after it; or the first fault.
-#[derive(Clone, Copy)]
-enum EntryRead {
-    Got(usize, usize, usize, usize),
-    Fault(Reason, usize),
+impl<'a> Entries<'a> {
+    // The entries that stand in three slices.
+    pub fn new(variables: &'a [usize], befores: &'a [usize], afters: &'a [usize]) -> Self
+        requires { (length befores.now ≡ length variables.now) × (length afters.now ≡ length variables.now) }
+        ensures { result ≡ entries_in variables.now befores.now afters.now }
+    {
+        Entries {
+            variables,
+            befores,
+            afters,
+        }
+    }
+
+    // An operator of one entry.
+    pub fn one(entry: &'a Entry) -> Self
+        ensures { result ≡ entry.now ∷ [] }
+    {
+        let variable = &entry.variable;
+        let before = &entry.before;
+        let after = &entry.after;
+        Entries::new(from_ref(variable), from_ref(before), from_ref(after))
+    }
+
+    // How many entries there are.
+    pub fn len(&self) -> usize
+        ensures { result ≡ length self.now }
+    {
+        self.variables.len()
+    }
+
+    // The entry at a place.
+    pub fn at(&self, k: usize) -> Entry
+        requires { k < length self.now }
+        ensures { result ≡ entry_at self.now k }
+    {
+        let Entries {
+            variables,
+            befores,
+            afters,
+        } = self;
+        Entry {
+            variable: variables[k],
+            before: befores[k],
+            after: afters[k],
+        }
+    }
+
+    // The first n entries.
+    pub fn first(&self, n: usize) -> Entries<'a>
+        requires { n ≤ length self.now }
+        ensures { result ≡ take n self.now }
+    {
+        let Entries {
+            variables,
+            befores,
+            afters,
+        } = self;
+        Entries {
+            variables: &variables[..n],
+            befores: &befores[..n],
+            afters: &afters[..n],
+        }
+    }
+
+    // The entry of a variable, the first if there were several.
+    pub fn named(&self, u: usize) -> Option<Entry>
+        ensures { Named self.now u result }
+    {
+        for k in 0..self.len() {
+            let entry = self.at(k);
+            if entry.variable == u {
+                return Some(entry);
+            }
+        }
+        None
+    }
+
+    // Whether there is an entry of a variable.
+    pub fn names(&self, u: usize) -> bool
+        ensures { result ≡ names self.now u }
+    {
+        self.named(u).is_some()
+    }
+}
+
+impl Operator {
+    // A record for so many entries, before they are read.
+    fn blank(count: usize) -> Operator
+        ensures { result ≡ blank_for count }
+    {
+        let none = [0usize; MOST_ENTRIES];
+        Operator {
+            count,
+            variables: none,
+            befores: none,
+            afters: none,
+        }
+    }
+
+    // The record's entries.
+    pub fn entries(&self) -> Entries<'_>
+        requires { self.now.count ≤ most_variables }
+        ensures { result ≡ operator_in (record_of self.now) }
+    {
+        let count = self.count;
+        Entries::new(
+            &self.variables[..count],
+            &self.befores[..count],
+            &self.afters[..count],
+        )
+    }
 }
 
 // Reads one entry, whose variable is `least` or more.
-fn read_entry(bytes: &[u8], at: usize, sizes: &[u64], least: usize) -> EntryRead
+fn read_entry(bytes: &[u8], at: usize, sizes: &[u64], least: usize) -> Result<EntryRead, Fault>
     ensures { entry_read_of result ≡ entries_of sizes.now 1 least bytes.now at }
 {
-    match number::rising_at(bytes, at, 0, sizes.len(), least) {
-        Number::Got(variable, first) => {
-            let size = sizes[variable] as usize;
-            match number::item_at(bytes, first, 0, size, Reason::Range) {
-                Number::Got(before, second) => match number::item_at(
-                    bytes,
-                    second,
-                    0,
-                    size,
-                    Reason::Range,
-                ) {
-                    Number::Got(after, next) => EntryRead::Got(variable, before, after, next),
-                    Number::Fault(reason, place) => EntryRead::Fault(reason, place),
-                },
-                Number::Fault(reason, place) => EntryRead::Fault(reason, place),
-            }
-        }
-        Number::Fault(reason, place) => EntryRead::Fault(reason, place),
-    }
-}
-
-// A record for so many entries, before they are read.
-fn blank(count: usize) -> Operator
-    ensures { result ≡ blank_for count }
-{
-    let none = [0usize; MOST_ENTRIES];
-    Operator {
-        count: count,
-        variables: none,
-        befores: none,
-        afters: none,
-    }
+    let variable = number::rising_at(bytes, at, 0, sizes.len(), least)?;
+    let size = sizes[variable.value] as usize;
+    let before = number::item_at(bytes, variable.next, 0, size, Reason::Range)?;
+    let after = number::item_at(bytes, before.next, 0, size, Reason::Range)?;
+    Ok(EntryRead {
+        entry: Entry {
+            variable: variable.value,
+            before: before.value,
+            after: after.value,
+        },
+        next: after.next,
+    })
 }
 
 // Reads so many entries.
-fn read_entries(bytes: &[u8], at: usize, sizes: &[u64], count: usize) -> OperatorRead
+fn read_entries(bytes: &[u8], at: usize, sizes: &[u64], count: usize) -> Result<OperatorRead, Fault>
     requires { (length sizes.now ≤ most_variables) × (count ≤ most_variables) }
     ensures { operator_read_of result ≡ entries_of sizes.now count 0 bytes.now at }
 {
-    let mut operator = blank(count);
+    let mut operator = Operator::blank(count);
     let mut next = at;
     let mut least = 0;
-    let mut k = 0;
-    while k < count {
-        match read_entry(bytes, next, sizes, least) {
-            EntryRead::Got(variable, before, after, following) => {
-                operator.variables[k] = variable;
-                operator.befores[k] = before;
-                operator.afters[k] = after;
-                next = following;
-                least = variable + 1;
-                k += 1;
-            }
-            EntryRead::Fault(reason, place) => {
-                return OperatorRead {
-                    step: Step::Fault(reason, place),
-                    operator: operator,
-                };
-            }
-        }
+    for k in 0..count {
+        let read = read_entry(bytes, next, sizes, least)?;
+        operator.variables[k] = read.entry.variable;
+        operator.befores[k] = read.entry.before;
+        operator.afters[k] = read.entry.after;
+        next = read.next;
+        least = read.entry.variable + 1;
     }
-    OperatorRead {
-        step: Step::Next(next),
-        operator: operator,
-    }
+    Ok(OperatorRead { operator, next })
 }
 
 // Reads an operator: its entry count, 1 to the number of variables, and its entries.
-pub fn read_operator(bytes: &[u8], at: usize, sizes: &[u64]) -> OperatorRead
+pub fn read_operator(bytes: &[u8], at: usize, sizes: &[u64]) -> Result<OperatorRead, Fault>
     requires { length sizes.now ≤ most_variables }
     ensures { operator_read_of result ≡ operator_of sizes.now bytes.now at }
 {
-    match number::item_at(bytes, at, 1, sizes.len() + 1, Reason::Range) {
-        Number::Got(count, next) => read_entries(bytes, next, sizes, count),
-        Number::Fault(reason, place) => {
-            OperatorRead {
-                step: Step::Fault(reason, place),
-                operator: blank(0),
-            }
-        }
-    }
+    let count = number::item_at(bytes, at, 1, sizes.len() + 1, Reason::Range)?;
+    read_entries(bytes, count.next, sizes, count.value)
 }
 
 // Judges one entry, whose variable has to be `least` or more.
-fn judge_entry(
-    sizes: &[u64],
-    least: usize,
-    variable: usize,
-    before: usize,
-    after: usize,
-) -> Judgement
-    ensures { judgement_of result ≡ entries_judged sizes.now least (entry_of variable before after ∷ []) fine }
+fn judge_entry(sizes: &[u64], least: usize, entry: Entry) -> Result<(), Reason>
+    ensures { judgement_of result ≡ entries_judged sizes.now least (entry ∷ []) fine }
 {
-    if sizes.len() <= variable {
-        return Judgement::Faulty(Reason::Range);
+    if sizes.len() <= entry.variable {
+        return Err(Reason::Range);
     }
-    if variable < least {
-        return Judgement::Faulty(Reason::Unordered);
+    if entry.variable < least {
+        return Err(Reason::Unordered);
     }
-    let size = sizes[variable] as usize;
-    if size <= before {
-        return Judgement::Faulty(Reason::Range);
+    let size = sizes[entry.variable] as usize;
+    if size <= entry.before {
+        return Err(Reason::Range);
     }
-    if size <= after {
-        return Judgement::Faulty(Reason::Range);
+    if size <= entry.after {
+        return Err(Reason::Range);
     }
-    Judgement::Fine
+    Ok(())
 }
 
 // Judges an operator in file order: its count, then entry by entry.
-pub fn judge_operator(operator: Operator, sizes: &[u64]) -> Judgement
+pub fn judge_operator(operator: &Operator, sizes: &[u64]) -> Result<(), Reason>
     requires { length sizes.now ≤ most_variables }
     ensures { judgement_of result
-        ≡ need (inside 1 (suc (length sizes.now)) operator.count) Range (entries_judged sizes.now 0 (operator_in (record_of operator)) fine) }
+        ≡ need (inside 1 (suc (length sizes.now)) operator.now.count) Range (entries_judged sizes.now 0 (operator_in (record_of operator.now)) fine) }
 {
     if operator.count < 1 {
-        return Judgement::Faulty(Reason::Range);
+        return Err(Reason::Range);
     }
     if sizes.len() < operator.count {
-        return Judgement::Faulty(Reason::Range);
+        return Err(Reason::Range);
     }
+    let entries = operator.entries();
     let mut least = 0;
-    let mut k = 0;
-    while k < operator.count {
-        let variable = operator.variables[k];
-        match judge_entry(
-            sizes,
-            least,
-            variable,
-            operator.befores[k],
-            operator.afters[k],
-        ) {
-            Judgement::Fine => {
-                least = variable + 1;
-                k += 1;
-            }
-            Judgement::Faulty(reason) => {
-                return Judgement::Faulty(reason);
-            }
-        }
+    for k in 0..entries.len() {
+        let entry = entries.at(k);
+        judge_entry(sizes, least, entry)?;
+        least = entry.variable + 1;
     }
-    Judgement::Fine
+    Ok(())
 }

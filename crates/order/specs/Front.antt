@@ -1,6 +1,6 @@
 -- What is known once the front of a partial file was read, with its operators behind it.
-use Rattle.std.specs.Prelude.{ℕ, ◌<◌, ◌≤◌, ◌≡◌, Bool}
-use Rattle.std.proofs.Math.Path.{refl, sym, ap}
+use Rattle.std.specs.Prelude.{ℕ, ◌<◌, ◌≤◌, ◌≡◌, Bool, Result, Ok, Err}
+use Rattle.std.proofs.Math.Path.{sym, ap}
 use Rattle.std.proofs.Common.{ap₂, ◌∙◌}
 use mathlib.Core.List.Memᴰ.{not-nil}
 use mathlib.Core.List.{List, []}
@@ -9,15 +9,12 @@ use borrow.Author.Tests.{le-leb, lt-leb}
 use Rattle.meaning.specs.Limits.{most_variables}
 use Rattle.meaning.specs.Task.{Operator}
 use Rattle.meaning.specs.Number.{got, fault, LeftOver}
-use Rattle.meaning.specs.Number as meaning
 use Rattle.meaning.specs.File.{judge, operators_of, ended}
 use Rattle.meaning.specs.Partial.{Partial, Ordered, partial_of, judged_partial}
 use Rattle.theory.specs.Parts.{operators-said}
 use Rattle.theory.specs.PartialFile.{partial-said}
-use Rattle.number.specs.Answers.{reason_of, place_of, place-next, place-faulted}
-use Rattle.number.specs.declared.Reason.{Reason}
-use Rattle.number.specs.declared.Step.{Step}
-use Rattle.number.specs.declared.Step.TheVariants.{Next, Fault}
+use Rattle.number.specs.Answers.{faulted, place_of, place-next, place-faulted}
+use Rattle.number.specs.declared.Fault.{Fault}
 use Rattle.layout.specs.Parts as layout
 use Rattle.layout.specs.Parts.{sizes_part}
 use Rattle.reader.specs.Answer.{begun}
@@ -27,10 +24,9 @@ use Rattle.task.specs.Header.{header_words, front-header, header-room, header-pa
 use Rattle.task.specs.Answer.{FrontedAs}
 use Rattle.order.specs.Whole.{Whole, own-headed}
 
-pub front-unread : (out : Partial → ℕ → ℕ → Bool) (bytes : List ℕ) (reason : meaning.Reason) (place : ℕ) → partial_front_of bytes 0 ≡ fault reason place
-    → judged_partial out bytes ≡ fault reason place
+pub front-unread : (out : Partial → ℕ → ℕ → Bool) (bytes : List ℕ) (f : Fault) → partial_front_of bytes 0 ≡ faulted f → judged_partial out bytes ≡ faulted f
 unfolding judged_partial
-front-unread out bytes reason place e = rw (partial-front bytes 0, e) refl
+front-unread out bytes f e = rw (partial-front bytes 0, e)
 
 module _ (bytes : List ℕ) {words own : List ℕ} {v n count at : ℕ} (known : FrontedAs (partial_front_of bytes 0) words own v n count at) where
   abbrev front : Front
@@ -54,42 +50,45 @@ module _ (bytes : List ℕ) {words own : List ℕ} {v n count at : ℕ} (known :
     pub front-few : length sizes ≤ most_variables
     front-few = rw own-sizes front-said.variables.1
 
-    -- The operators behind it.
-    module _ (answer : Step) (told : answer ≡ place_of (operators_of sizes count bytes at)) where
-      -- What the answer tells of them.
-      found : place_of (operators_of front.states.sizes front.count bytes at) ≡ answer
-      found = sym (told ∙ ap₂ (λ s k. place_of (operators_of s k bytes at)) own-sizes known.many)
+    -- The operators behind it, as they are told.
+    abbrev behind : Result ℕ Fault
+    behind = place_of (operators_of sizes count bytes at)
 
-      pub operators-unread : (out : Partial → ℕ → ℕ → Bool) (reason : Reason) (place : ℕ) → answer ≡ Fault reason place → judged_partial out bytes ≡ fault (reason_of reason) place
-      unfolding judged_partial
-      operators-unread out reason place e = rw (partial-front bytes 0, known.read, place-faulted (operators_of front.states.sizes front.count bytes at) reason place (found ∙ e)) refl
+    behind-own : behind ≡ place_of (operators_of front.states.sizes front.count bytes at)
+    behind-own = ap₂ (λ s k. place_of (operators_of s k bytes at)) own-sizes known.many
 
-      module _ (next : ℕ) (e : answer ≡ Next next) where
-        read : (operators : List Operator) × (operators_of front.states.sizes front.count bytes at ≡ got operators next)
-        read = place-next (operators_of front.states.sizes front.count bytes at) next (found ∙ e)
+    pub operators-unread : (f : Fault) → Err f ≡ behind → (out : Partial → ℕ → ℕ → Bool) → judged_partial out bytes ≡ faulted f
+    unfolding judged_partial
+    operators-unread f told out =
+        let found : operators_of front.states.sizes front.count bytes at ≡ faulted f = place-faulted _ f (sym (told ∙ behind-own)) in
+        rw (partial-front bytes 0, known.read, found)
 
-        pub operators-over : (out : Partial → ℕ → ℕ → Bool) → next < length bytes → judged_partial out bytes ≡ fault LeftOver next
-        unfolding judged_partial ended judge
-        operators-over out h = rw (partial-front bytes 0, known.read, read.1, lt-leb (length bytes) next h) refl
+    module _ (next : ℕ) (told : Ok next ≡ behind) where
+      read : (operators : List Operator) × (operators_of front.states.sizes front.count bytes at ≡ got operators next)
+      read = place-next (operators_of front.states.sizes front.count bytes at) next (sym (told ∙ behind-own))
 
-        pub operators-whole : length bytes ≤ next → Whole bytes own v n count at
-        unfolding ended judge
-        operators-whole h = made read.0 read.1
-          where
-            made : (operators : List Operator) → operators_of front.states.sizes front.count bytes at ≡ got operators next → Whole bytes own v n count at
-            made operators r =
-                let all : partial_of bytes 0 ≡ got (partial_with front operators) next = partial-front bytes 0 ∙ rw (known.read, r, le-leb (length bytes) next h) refl in
-                let long : length operators ≡ front.count = ((operators-said bytes front.states.sizes front.count).gives at operators next r).known.0 in
-                record {
-                  partial = partial_with front operators;
-                  next = next;
-                  read = all;
-                  ordered = ((partial-said bytes).gives 0 (partial_with front operators) next all).known.0;
-                  variables = known.variables;
-                  total = known.total;
-                  many = known.many ∙ sym long;
-                  operators = ap (λ k. operators_of front.states.sizes k bytes at) known.many ∙ r;
-                  end = h;
-                  words = words;
-                  words_are = own-words operators;
-                }
+      pub operators-over : next < length bytes → (out : Partial → ℕ → ℕ → Bool) → judged_partial out bytes ≡ fault LeftOver next
+      unfolding judged_partial ended judge
+      operators-over h out = rw (partial-front bytes 0, known.read, read.1, lt-leb (length bytes) next h)
+
+      pub operators-whole : length bytes ≤ next → Whole bytes own v n count at
+      unfolding ended judge
+      operators-whole h = made read.0 read.1
+        where
+          made : (operators : List Operator) → operators_of front.states.sizes front.count bytes at ≡ got operators next → Whole bytes own v n count at
+          made operators r =
+              let all : partial_of bytes 0 ≡ got (partial_with front operators) next = partial-front bytes 0 ∙ rw (known.read, r, le-leb (length bytes) next h) in
+              let long : length operators ≡ front.count = ((operators-said bytes front.states.sizes front.count).gives at operators next r).known.0 in
+              record {
+                partial = partial_with front operators;
+                next = next;
+                read = all;
+                ordered = ((partial-said bytes).gives 0 (partial_with front operators) next all).known.0;
+                variables = known.variables;
+                total = known.total;
+                many = known.many ∙ sym long;
+                operators = ap (λ k. operators_of front.states.sizes k bytes at) known.many ∙ r;
+                end = h;
+                words = words;
+                words_are = own-words operators;
+              }

@@ -3,3 +3,4 @@ pub mod Answer
 pub mod Last
 pub mod Whole
 pub mod Front
+pub mod With

@@ -11,7 +11,7 @@ use Rattle.meaning.specs.Limits.{number_end}
 use Rattle.meaning.specs.Task.{Task, State}
 use Rattle.meaning.specs.Feature.{features}
 use Rattle.meaning.specs.Pair.{closed, holds}
-use Rattle.meaning.specs.Number.{Reason, got, fault, on_read}
+use Rattle.meaning.specs.Number.{got, on_read}
 use Rattle.meaning.specs.File.{operators_of}
 use Rattle.meaning.specs.Workspace.{has}
 use Rattle.meaning.specs.Partial.{Partial, Ordered, built_sizes, built_pairs, forgettings, built_task, partial_of, judged_partial}
@@ -20,6 +20,8 @@ use Rattle.theory.specs.PartialPairs.{built-length, built-run}
 use Rattle.theory.specs.PartialTask.{state-built, built-limits, all_closed}
 use Rattle.theory.specs.PartialFile.{operators-built, accepted-partial}
 use Rattle.theory.specs.PartialParts.{out_for}
+use Rattle.number.specs.Answers.{faulted}
+use Rattle.number.specs.declared.Fault.{Fault}
 use Rattle.layout.specs.Parts as layout
 use Rattle.layout.specs.Parts.{sizes_part, start_part, goal_part, pairs_part}
 use Rattle.reader.specs.Answer.{begun}
@@ -147,14 +149,13 @@ module _ {bytes own : List ℕ} {v n count at : ℕ} (whole : Whole bytes own v 
         built-last : last_of sizes (has pairs) start goal lean count bytes at ≡ last_of T.sizes (listed T.pairs) T.start T.goal lean count bytes at
         built-last =
             let (first, second, third, _) = header-parts T built-headed words left built-header v total built-many built-total in
-            rw (sizes-are ∙ first, start_is ∙ second, goal-is ∙ third, ap has pairs-are ∙ header-has T built-headed words left built-header v total built-many built-total) refl
+            rw (sizes-are ∙ first, start_is ∙ second, goal-is ∙ third, ap has pairs-are ∙ header-has T built-headed words left built-header v total built-many built-total)
 
-        pub whole-refused : (reason : Reason) (place : ℕ) → last_of sizes (has pairs) start goal lean count bytes at ≡ fault reason place
-            → judged_partial (out_for lean) bytes ≡ fault reason place
-        whole-refused reason place e = judged-last ∙ rw (sym built-last ∙ e) refl
+        pub whole-refused : (f : Fault) → faulted f ≡ last_of sizes (has pairs) start goal lean count bytes at → judged_partial (out_for lean) bytes ≡ faulted f
+        whole-refused f e = judged-last ∙ rw (sym built-last ∙ sym e)
 
-        pub whole-accepted : (kept place : ℕ) → last_of sizes (has pairs) start goal lean count bytes at ≡ got kept place → KnownPartial lean bytes words left v total count kept at
-        whole-accepted kept place e = record {
+        pub whole-accepted : (kept : ℕ) → got kept at ≡ last_of sizes (has pairs) start goal lean count bytes at → KnownPartial lean bytes words left v total count kept at
+        whole-accepted kept e = record {
           accepted = record {
             task = T;
             next = whole.next;
@@ -168,10 +169,10 @@ module _ {bytes own : List ℕ} {v n count at : ℕ} (whole : Whole bytes own v 
           ordered = whole.ordered;
           built = refl;
           many = whole.many;
-          forgotten = last-kept _ _ _ _ lean count bytes at kept place (sym built-last ∙ e) ∙ kept-many;
+          forgotten = last-kept _ _ _ _ lean count bytes at kept at (sym built-last ∙ sym e) ∙ kept-many;
           operators = read-built;
           end = whole.end;
         }
           where
             judged : judged_partial (out_for lean) bytes ≡ got T whole.next
-            judged = judged-last ∙ rw (sym built-last ∙ e) refl
+            judged = judged-last ∙ rw (sym built-last ∙ sym e)

@@ -17,18 +17,17 @@ use Rattle.theory.specs.Truth.{on, off, test}
 use Rattle.theory.specs.Search.{and_both, and-none-left, and-none-right, or_right, or-neither, some-not, some-cong}
 use Rattle.theory.specs.Numbering.{single-below, single-later}
 use Rattle.theory.specs.Possible.{possible_atoms}
-use Rattle.theory.specs.Slices.{entries_in}
 use Rattle.words.specs.Change.{toggled, length-toggled, has-toggled}
 use Rattle.words.specs.Part.{has-none}
 use Rattle.pairs.specs.Places.{some-start}
 use Rattle.pairs.specs.Ready.{HoldsPossible}
-use Rattle.pairs.specs.Judge.{paired_within, possible-places}
+use Rattle.pairs.specs.None.{Suffices}
 
 -- ---- one variable
 
--- The atoms of the first n values of variable u that are paired with none of the operator's atoms.
-unfoldable pub free_atoms : List ℕ → Set → List ℕ → List ℕ → ℕ → ℕ → Set
-free_atoms sizes pairs variables values u n f = some n (λ y. eqb f (single sizes u y) && not (paired_within sizes pairs variables values (length variables) u y))
+-- The possible atoms of the first n values of variable u.
+unfoldable pub free_atoms : List ℕ → Set → Operator → ℕ → ℕ → Set
+free_atoms sizes pairs o u n f = some n (λ y. eqb f (single sizes u y) && possible sizes pairs o u y)
 
 -- Words to which a set was added that they had no member of.
 abbrev pub Added : List ℕ → Set → List ℕ → Type 0
@@ -38,38 +37,38 @@ Added entry set exit = (length exit ≡ length entry) × ((f : ℕ) → has exit
 abbrev pub Lacks : List ℕ → ℕ → List ℕ → Type 0
 Lacks sizes u words = (y : ℕ) → y < size sizes u → has words (single sizes u y) ≡ false
 
-module _ (sizes : List ℕ) (pairs : Set) (variables values : List ℕ) (u : ℕ) where
+module _ (sizes : List ℕ) (pairs : Set) (o : Operator) (u : ℕ) where
   own-apart : (y z : ℕ) → z < y → eqb (single sizes u y) (single sizes u z) ≡ false
   unfolding single
   own-apart y z l = ne_eqb (single sizes u y) (single sizes u z) (omega arith)
 
-  free-next : (n f : ℕ) → free_atoms sizes pairs variables values u (n + 1) f
-      ≡ (free_atoms sizes pairs variables values u n f || (eqb f (single sizes u n) && not (paired_within sizes pairs variables values (length variables) u n)))
+  free-next : (n f : ℕ) → free_atoms sizes pairs o u (n + 1) f
+      ≡ (free_atoms sizes pairs o u n f || (eqb f (single sizes u n) && possible sizes pairs o u n))
   unfolding free_atoms some
   free-next n f = rw add-one refl
 
-  free-fresh : (n : ℕ) → free_atoms sizes pairs variables values u n (single sizes u n) ≡ false
+  free-fresh : (n : ℕ) → free_atoms sizes pairs o u n (single sizes u n) ≡ false
   unfolding free_atoms
   free-fresh n = some-not n _ (λ z l. and-none-left _ _ (own-apart n z l))
 
-  pub free-start : (entry : List ℕ) → Added entry (free_atoms sizes pairs variables values u 0) entry
+  pub free-start : (entry : List ℕ) → Added entry (free_atoms sizes pairs o u 0) entry
   unfolding free_atoms
   free-start entry = (refl, λ f. sym (ap (◌||◌ (has entry f)) (some-start _) ∙ or-false (has entry f)))
 
-  module _ (entry words : List ℕ) (n : ℕ) (a : Added entry (free_atoms sizes pairs variables values u n) words) where
-    -- A value that is paired with an atom of the operator adds nothing.
-    pub free-skip : (next : List ℕ) → paired_within sizes pairs variables values (length variables) u n ≡ true → next ≡ words
-        → Added entry (free_atoms sizes pairs variables values u (n + 1)) next
+  module _ (entry words : List ℕ) (n : ℕ) (a : Added entry (free_atoms sizes pairs o u n) words) where
+    -- A value that is not possible adds nothing.
+    pub free-skip : (next : List ℕ) → possible sizes pairs o u n ≡ false → next ≡ words
+        → Added entry (free_atoms sizes pairs o u (n + 1)) next
     free-skip next q e = rw e (
       a.0,
       λ f. a.1 f ∙ ap (◌||◌ (has entry f)) (sym (free-next n f
-          ∙ ap (◌||◌ (free_atoms sizes pairs variables values u n f)) (and-none-right (eqb f (single sizes u n)) _ (ap not q)) ∙ or-false _)),
+          ∙ ap (◌||◌ (free_atoms sizes pairs o u n f)) (and-none-right (eqb f (single sizes u n)) _ q) ∙ or-false _)),
     )
 
     -- Another adds its atom.
     pub free-put : (f : ℕ) (next : List ℕ) → atoms sizes ≤ word_bits * length entry → Lacks sizes u entry → n < size sizes u
-        → paired_within sizes pairs variables values (length variables) u n ≡ false → f ≡ single sizes u n → next ≡ toggled words f
-        → Added entry (free_atoms sizes pairs variables values u (n + 1)) next
+        → possible sizes pairs o u n ≡ true → f ≡ single sizes u n → next ≡ toggled words f
+        → Added entry (free_atoms sizes pairs o u (n + 1)) next
     free-put f next room lacks l q e e' = rw (e', e) (
       length-toggled words (single sizes u n) ∙ a.0,
       λ g. has-toggled words (single sizes u n) g (omega (arith, a.0, single-below sizes u n l)) ∙ elim (test (eqb g (single sizes u n))) [
@@ -81,9 +80,9 @@ module _ (sizes : List ℕ) (pairs : Set) (variables values : List ℕ) (u : ℕ
         none : has words (single sizes u n) ≡ false
         none = a.1 (single sizes u n) ∙ or-neither _ _ (lacks n l) (free-fresh n)
 
-        here : (g : ℕ) → eqb g (single sizes u n) ≡ true → g ≡ single sizes u n → eqb g (single sizes u n) ⊕ has words g ≡ (has entry g || free_atoms sizes pairs variables values u (n + 1) g)
+        here : (g : ℕ) → eqb g (single sizes u n) ≡ true → g ≡ single sizes u n → eqb g (single sizes u n) ⊕ has words g ≡ (has entry g || free_atoms sizes pairs o u (n + 1) g)
         here g t z = ap₂ ◌⊕◌ t (ap (has words) z ∙ none)
-            ∙ sym (or_right (has entry g) _ (free-next n g ∙ or_right (free_atoms sizes pairs variables values u n g) _ (and_both _ _ t (ap not q))))
+            ∙ sym (or_right (has entry g) _ (free-next n g ∙ or_right (free_atoms sizes pairs o u n g) _ (and_both _ _ t q)))
 
 -- ---- all variables
 
@@ -120,14 +119,12 @@ module _ (sizes : List ℕ) (pairs : Set) (o : Operator) where
     unfolding possible_to possible_atoms
     filled-done l k r = let e : length sizes ≡ u = omega arith in record { room = rw h.0 r; each = λ f. rw e (h.1 f) }
 
--- An unnamed variable adds its atoms.
-pub filled_put : (sizes : List ℕ) (pairs : Set) (variables befores afters : List ℕ) (room u : ℕ) (words added next : List ℕ) → let o = entries_in variables befores afters in
-    Filled sizes pairs o room u words → names o u ≡ false → Added words (free_atoms sizes pairs variables befores u (size sizes u)) added → next ≡ added
-    → Filled sizes pairs o room (u + 1) next
-unfolding free_atoms
-filled_put sizes pairs variables befores afters room u words added next h q a e = rw e (
-  a.0 ∙ h.0,
-  λ f. a.1 f ∙ ap₂ ◌||◌ (h.1 f) (some-cong (size sizes u) _ _ (λ y l.
-      ap (◌&&◌ (eqb f (single sizes u y))) (sym (possible-places sizes pairs variables befores afters u y)))
-      ∙ rw q refl) ∙ sym (possible-next sizes pairs (entries_in variables befores afters) u f),
-)
+    -- An unnamed variable adds its atoms, by the entries that were looked at.
+    pub filled_put : (looked : Operator) (added next : List ℕ) → names o u ≡ false → Suffices pairs o looked → Added words (free_atoms sizes pairs looked u (size sizes u)) added
+        → next ≡ added → Filled sizes pairs o room (u + 1) next
+    unfolding free_atoms
+    filled_put looked added next q enough a e = rw e (
+      a.0 ∙ h.0,
+      λ f. a.1 f ∙ ap₂ ◌||◌ (h.1 f) (some-cong (size sizes u) _ _ (λ y l. ap (◌&&◌ (eqb f (single sizes u y))) (enough.same sizes u y))
+          ∙ rw q refl) ∙ sym (possible-next u f),
+    )

@@ -3,5 +3,4 @@ pub mod Ready
 pub mod Judge
 pub mod None
 pub mod Fill
-pub mod Slices
 pub mod Walk

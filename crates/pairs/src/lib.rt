@@ -3,52 +3,43 @@
 
 #![tactic(auto)]
 
-ghost use Rattle.std.specs.Prelude.{◌≡◌, ◌≢◌, true, not, ◌&&◌, List, ℕ, ◌+◌, ◌*◌, ◌<◌, ◌≤◌, length};
+ghost use Rattle.std.specs.Prelude.{ℕ, ◌≡◌, ◌≢◌, true, false, ◌&&◌, not, ◌+◌, ◌*◌, ◌<◌, ◌≤◌, length, IfSome};
 ghost use Rattle.meaning.specs.Limits.{word_bits};
 ghost use Rattle.meaning.specs.Sets.{some};
 ghost use Rattle.meaning.specs.Task.{State, names, size, value};
 ghost use Rattle.meaning.specs.Feature.{atoms, features};
 ghost use Rattle.meaning.specs.Workspace.{has};
 ghost use Rattle.meaning.specs.File.{InLimits};
-ghost use Rattle.meaning.specs.Pair.{paired, idle, closed, unclosed_pair, holds};
-ghost use Rattle.theory.specs.Slices.{entries_in};
+ghost use Rattle.meaning.specs.Pair.{paired, possible, clashing, idle, closed, unclosed_pair, holds};
 ghost use Rattle.theory.specs.Closed.{leaves};
 ghost use Rattle.theory.specs.Mending.{beside_in};
 ghost use Rattle.numbering.specs.Order.{Stands, Contains};
-ghost use Rattle.pairs.specs.Ready.{Listed, Atoms, Ready, Apart, Place, HoldsPossible};
-ghost use Rattle.pairs.specs.Judge.{paired_within, clashing_in, valued};
+ghost use Rattle.pairs.specs.Ready.{Listed, Ready, Ready-prop, HoldsPossible, HoldsPossible-prop};
+ghost use Rattle.pairs.specs.Judge.{valued, unnamed_in};
 ghost use Rattle.pairs.specs.None.{Suffices};
 ghost use Rattle.pairs.specs.Fill.{free_atoms, Added, Lacks};
-ghost use Rattle.pairs.specs.Walk.{Found, Reached};
+ghost use Rattle.pairs.specs.Walk.{ListedAt, Found, Reached};
 
+use limits::ATOM_WORDS;
 use numbering::Block;
+use operator::Entries;
 
-// A listed pair with its block; past the last one, a number that is no feature's.
+// A listed pair with its block.
 #[derive(Clone, Copy)]
 pub struct PairAt {
     pub feature: usize,
     pub block: Block,
 }
 
-// The first place of a variable; the number of places where it stands nowhere.
-fn place(variables: &[usize], u: usize) -> usize
-    ensures { Place variables.now u result }
-{
-    let mut k = 0;
-    while k < variables.len() {
-        if variables[k] == u {
-            return k;
-        }
-        k += 1;
-    }
-    k
-}
-
-// Whether an operator with these variables names variable u.
-pub fn names(variables: &[usize], u: usize) -> bool
-    ensures { (befores afters : List ℕ) → result ≡ names (entries_in variables.now befores afters) u }
-{
-    place(variables, u) < variables.len()
+// An operator beside the listed pairs, with the table of the atoms that it leaves possible.
+#[derive(Clone, Copy)]
+pub struct Tabled<'a> {
+    pub sizes: &'a [u64],
+    pub pairs: &'a [u64],
+    pub entries: &'a Entries<'a>,
+    pub possible: &'a [u64],
+    pub ghost ready: { Ready sizes.now pairs.now entries.now } by { Ready-prop sizes.now pairs.now entries.now },
+    pub ghost held: { HoldsPossible sizes.now (has pairs.now) entries.now possible.now } by { HoldsPossible-prop sizes.now (has pairs.now) entries.now possible.now },
 }
 
 // Whether the feature of two atoms is listed.
@@ -59,211 +50,117 @@ pub fn is_paired(sizes: &[u64], pairs: &[u64], i: usize, x: usize, j: usize, y: 
     words::has(pairs, numbering::both(sizes, i, x, j, y))
 }
 
-// Whether one of the first n atoms is paired with the atom of value y of another variable u: a look at each of them.
-fn is_paired_among(
-    sizes: &[u64],
-    pairs: &[u64],
-    variables: &[usize],
-    values: &[usize],
-    n: usize,
-    u: usize,
-    y: usize,
-) -> bool
-    requires { Listed sizes.now pairs.now × Atoms sizes.now variables.now values.now × (n ≤ length variables.now) × Apart variables.now n u
-        × (u < length sizes.now) × (y < size sizes.now u) }
-    ensures { result ≡ paired_within sizes.now (has pairs.now) variables.now values.now n u y }
+// Whether value y of variable u, which is none of the entries', is paired with none of their before atoms: a look at each of them.
+fn is_possible(sizes: &[u64], pairs: &[u64], entries: &Entries, u: usize, y: usize) -> bool
+    requires { Ready sizes.now pairs.now entries.now × (names entries.now u ≡ false) × (u < length sizes.now) × (y < size sizes.now u) }
+    ensures { result ≡ possible sizes.now (has pairs.now) entries.now u y }
 {
-    let mut k = 0;
-    while k < n {
-        if is_paired(sizes, pairs, variables[k], values[k], u, y) {
-            return true;
-        }
-        k += 1;
-    }
-    false
+    !(0..entries.len()).any(|k| {
+        let entry = entries.at(k);
+        is_paired(sizes, pairs, entry.variable, entry.before, u, y)
+    })
 }
 
-// The same, at once where no pair is listed.
-fn is_paired_within(
-    sizes: &[u64],
-    pairs: &[u64],
-    variables: &[usize],
-    values: &[usize],
-    n: usize,
-    u: usize,
-    y: usize,
-) -> bool
-    requires { Listed sizes.now pairs.now × Atoms sizes.now variables.now values.now × (n ≤ length variables.now) × Apart variables.now n u
-        × (u < length sizes.now) × (y < size sizes.now u) }
-    ensures { result ≡ paired_within sizes.now (has pairs.now) variables.now values.now n u y }
+// The entries that have to be looked at: none where no pair is listed.
+fn looks<'a>(pairs: &[u64], entries: &Entries<'a>) -> Entries<'a>
+    ensures { Suffices (has pairs.now) entries.now result }
 {
-    !words::is_empty(pairs) && is_paired_among(sizes, pairs, variables, values, n, u, y)
-}
-
-// How many atoms have to be looked at: none where no pair is listed.
-fn looks(sizes: &[u64], pairs: &[u64], variables: &[usize]) -> usize
-    requires { Listed sizes.now pairs.now }
-    ensures { Suffices sizes.now (has pairs.now) variables.now result }
-{
-    if words::is_empty(pairs) {
-        return 0;
-    }
-    variables.len()
+    let count = if words::is_empty(pairs) {
+        0
+    } else {
+        entries.len()
+    };
+    entries.first(count)
 }
 
 // Puts in the atoms of an unnamed variable that are paired with no before atom.
-fn fill_variable(
-    sizes: &[u64],
-    pairs: &[u64],
-    variables: &[usize],
-    befores: &[usize],
-    u: usize,
-    possible: &mut [u64],
-)
-    requires { Listed sizes.now pairs.now × Atoms sizes.now variables.now befores.now × Apart variables.now (length variables.now) u
-        × (u < length sizes.now) × (atoms sizes.now ≤ word_bits * length possible.old) × Lacks sizes.now u possible.old }
-    ensures { Added possible.old
-        (free_atoms sizes.now (has pairs.now) variables.now befores.now u (size sizes.now u))
-        possible.new }
+fn fill_variable(sizes: &[u64], pairs: &[u64], entries: &Entries, u: usize, possible: &mut [u64])
+    requires { Ready sizes.now pairs.now entries.now × (names entries.now u ≡ false) × (u < length sizes.now)
+        × (atoms sizes.now ≤ word_bits * length possible.old) × Lacks sizes.now u possible.old }
+    ensures { Added possible.old (free_atoms sizes.now (has pairs.now) entries.now u (size sizes.now u)) possible.new }
 {
-    let n = looks(sizes, pairs, variables);
     let start = numbering::single(sizes, u, 0);
-    let d = numbering::size(sizes, u);
-    let mut y = 0;
-    while y < d {
-        if !is_paired_among(sizes, pairs, variables, befores, n, u, y) {
+    for y in 0..numbering::size(sizes, u) {
+        if is_possible(sizes, pairs, entries, u, y) {
             words::toggle(possible, start + y);
         }
-        y += 1;
     }
 }
 
 // Makes the words the table of the atoms that the operator leaves possible.
-pub fn fill_possible(
-    sizes: &[u64],
-    pairs: &[u64],
-    variables: &[usize],
-    befores: &[usize],
-    afters: &[usize],
-    possible: &mut [u64],
-)
-    requires { Ready sizes.now pairs.now variables.now befores.now afters.now × (atoms sizes.now ≤ word_bits * length possible.old) }
-    ensures { (length possible.new ≡ length possible.old)
-        × HoldsPossible sizes.now (has pairs.now) (entries_in variables.now befores.now afters.now)
-        possible.new }
+pub fn fill_possible(sizes: &[u64], pairs: &[u64], entries: &Entries, possible: &mut [u64])
+    requires { Ready sizes.now pairs.now entries.now × (atoms sizes.now ≤ word_bits * length possible.old) }
+    ensures { (length possible.new ≡ length possible.old) × HoldsPossible sizes.now (has pairs.now) entries.now possible.new }
 {
     words::clear(possible);
-    let mut u = 0;
-    while u < sizes.len() {
-        if !names(variables, u) {
-            fill_variable(sizes, pairs, variables, befores, u, possible);
+    let looked = looks(pairs, entries);
+    for u in 0..sizes.len() {
+        if !entries.names(u) {
+            fill_variable(sizes, pairs, &looked, u, possible);
         }
-        u += 1;
     }
 }
 
-// Whether two of the atoms are paired.
-fn is_clashing(sizes: &[u64], pairs: &[u64], variables: &[usize], values: &[usize]) -> bool
-    requires { Listed sizes.now pairs.now × Atoms sizes.now variables.now values.now }
-    ensures { result ≡ clashing_in sizes.now (has pairs.now) variables.now values.now }
+// Whether two of the before atoms are paired.
+fn is_clashing(sizes: &[u64], pairs: &[u64], entries: &Entries) -> bool
+    requires { Ready sizes.now pairs.now entries.now }
+    ensures { result ≡ clashing sizes.now (has pairs.now) entries.now }
 {
-    let mut l = 0;
-    while l < variables.len() {
-        if is_paired_within(sizes, pairs, variables, values, l, variables[l], values[l]) {
-            return true;
-        }
-        l += 1;
-    }
-    false
+    !words::is_empty(pairs)
+        && (0..entries.len()).any(|l| {
+            let entry = entries.at(l);
+            !is_possible(
+                sizes,
+                pairs,
+                &entries.first(l),
+                entry.variable,
+                entry.before,
+            )
+        })
 }
 
-// Whether the table has an atom of variable u.
-fn has_value(sizes: &[u64], possible: &[u64], u: usize) -> bool
-    requires { InLimits sizes.now × (u < length sizes.now) × (atoms sizes.now ≤ word_bits * length possible.now) }
-    ensures { result ≡ valued sizes.now possible.now u }
+// Whether a set of atoms has one of variable u.
+fn has_value(sizes: &[u64], set: &[u64], u: usize) -> bool
+    requires { InLimits sizes.now × (u < length sizes.now) × (atoms sizes.now ≤ word_bits * length set.now) }
+    ensures { result ≡ valued sizes.now (has set.now) u }
 {
     let start = numbering::single(sizes, u, 0);
-    let d = numbering::size(sizes, u);
-    let mut y = 0;
-    while y < d {
-        if words::has(possible, start + y) {
-            return true;
-        }
-        y += 1;
-    }
-    false
+    (0..numbering::size(sizes, u)).any(|y| words::has(set, start + y))
 }
 
-// Whether the table has no atom of some unnamed variable.
-fn is_stuck(sizes: &[u64], variables: &[usize], possible: &[u64]) -> bool
-    requires { InLimits sizes.now × (atoms sizes.now ≤ word_bits * length possible.now) }
-    ensures { (befores afters : List ℕ) → result ≡ some (length sizes.now)
-        (λ u. not (names (entries_in variables.now befores afters) u) && not (valued sizes.now possible.now u)) }
+// Whether of some unnamed variable a set has an atom, or has none, as is asked.
+fn is_unnamed(sizes: &[u64], entries: &Entries, set: &[u64], asked: bool) -> bool
+    requires { InLimits sizes.now × (atoms sizes.now ≤ word_bits * length set.now) }
+    ensures { result ≡ unnamed_in sizes.now (has set.now) entries.now asked }
 {
-    let mut u = 0;
-    while u < sizes.len() {
-        if !names(variables, u) && !has_value(sizes, possible, u) {
-            return true;
-        }
-        u += 1;
-    }
-    false
+    (0..sizes.len()).any(|u| !entries.names(u) && has_value(sizes, set, u) == asked)
 }
 
 // Whether a set of atoms has one of some unnamed variable.
-pub fn has_unnamed(sizes: &[u64], variables: &[usize], set: &[u64]) -> bool
+pub fn has_unnamed(sizes: &[u64], entries: &Entries, set: &[u64]) -> bool
     requires { InLimits sizes.now × (atoms sizes.now ≤ word_bits * length set.now) }
-    ensures { (befores afters : List ℕ) → result ≡ beside_in sizes.now (has set.now) (entries_in variables.now befores afters) }
+    ensures { result ≡ beside_in sizes.now (has set.now) entries.now }
 {
-    let mut u = 0;
-    while u < sizes.len() {
-        if !names(variables, u) && has_value(sizes, set, u) {
-            return true;
-        }
-        u += 1;
-    }
-    false
-}
-
-// Whether the operator is idle.
-pub fn is_idle(
-    sizes: &[u64],
-    pairs: &[u64],
-    variables: &[usize],
-    befores: &[usize],
-    afters: &[usize],
-    possible: &[u64],
-) -> bool
-    requires { Ready sizes.now pairs.now variables.now befores.now afters.now
-        × HoldsPossible sizes.now (has pairs.now) (entries_in variables.now befores.now afters.now) possible.now }
-    ensures { result ≡ idle sizes.now (has pairs.now) (entries_in variables.now befores.now afters.now) }
-{
-    if is_clashing(sizes, pairs, variables, befores) {
-        return true;
-    }
-    is_stuck(sizes, variables, possible)
+    is_unnamed(sizes, entries, set, true)
 }
 
 // The next listed pair from a feature on, with its block, which is looked for from a given one on.
-fn pair_from(sizes: &[u64], pairs: &[u64], end: usize, block: Block, start: usize) -> PairAt
+fn pair_from(sizes: &[u64], pairs: &[u64], end: usize, block: Block, start: usize) -> Option<PairAt>
     requires { Listed sizes.now pairs.now × (end ≡ features sizes.now) × Stands sizes.now block × (block.start ≤ start) × (start ≤ end) }
     ensures { Found sizes.now pairs.now start result }
 {
     let f = words::next_member(pairs, start);
-    if f < end {
-        return PairAt {
-            feature: f,
-            block: numbering::block_at(sizes, block, f),
-        };
+    if end <= f {
+        return None;
     }
-    PairAt {
+    Some(PairAt {
         feature: f,
-        block: block,
-    }
+        block: numbering::block_at(sizes, block, f),
+    })
 }
 
 // The first listed pair, where N is given.
-pub fn first_pair(sizes: &[u64], pairs: &[u64], end: usize) -> PairAt
+pub fn first_pair(sizes: &[u64], pairs: &[u64], end: usize) -> Option<PairAt>
     requires { Listed sizes.now pairs.now × (end ≡ features sizes.now) }
     ensures { Found sizes.now pairs.now (atoms sizes.now) result }
 {
@@ -272,134 +169,97 @@ pub fn first_pair(sizes: &[u64], pairs: &[u64], end: usize) -> PairAt
 }
 
 // The listed pair after another one.
-pub fn next_pair(sizes: &[u64], pairs: &[u64], end: usize, pair: PairAt) -> PairAt
+pub fn next_pair(sizes: &[u64], pairs: &[u64], end: usize, pair: PairAt) -> Option<PairAt>
     requires { Listed sizes.now pairs.now × (end ≡ features sizes.now) × (pair.feature < end) × Contains sizes.now pair.block pair.feature }
     ensures { Found sizes.now pairs.now (pair.feature + 1) result }
 {
     pair_from(sizes, pairs, end, pair.block, pair.feature + 1)
 }
 
-// Whether the operator leaves value x of variable i.
-fn leaves(
-    sizes: &[u64],
-    pairs: &[u64],
-    variables: &[usize],
-    befores: &[usize],
-    afters: &[usize],
-    possible: &[u64],
-    i: usize,
-    x: usize,
-) -> bool
-    requires { Ready sizes.now pairs.now variables.now befores.now afters.now
-        × HoldsPossible sizes.now (has pairs.now) (entries_in variables.now befores.now afters.now) possible.now
-        × (i < length sizes.now) × (x < size sizes.now i) }
-    ensures { result ≡ leaves sizes.now (has pairs.now) (entries_in variables.now befores.now afters.now) i x }
-{
-    let k = place(variables, i);
-    if k < variables.len() {
-        return afters[k] == x;
+impl<'a> Tabled<'a> {
+    // Whether the operator is idle.
+    pub fn is_idle(self) -> bool
+        ensures { result ≡ idle self.entry.sizes.now (has self.entry.pairs.now) self.entry.entries.now }
+    {
+        is_clashing(self.sizes, self.pairs, self.entries)
+            || is_unnamed(self.sizes, self.entries, self.possible, false)
     }
-    words::has(possible, numbering::single(sizes, i, x))
-}
 
-// Whether a pair is unclosed under the operator. One of two variables that the operator doesn't name never is.
-pub fn is_unclosed(
-    sizes: &[u64],
-    pairs: &[u64],
-    variables: &[usize],
-    befores: &[usize],
-    afters: &[usize],
-    possible: &[u64],
-    pair: PairAt,
-) -> bool
-    requires { Ready sizes.now pairs.now variables.now befores.now afters.now
-        × HoldsPossible sizes.now (has pairs.now) (entries_in variables.now befores.now afters.now) possible.now
-        × Contains sizes.now pair.block pair.feature }
-    ensures { result ≡ unclosed_pair sizes.now (has pairs.now)
-        (entries_in variables.now befores.now afters.now) pair.feature }
-{
-    let block = pair.block;
-    let i = block.first;
-    let j = block.second;
-    if !names(variables, i) && !names(variables, j) {
-        return false;
-    }
-    let values = numbering::values_in(sizes, block, pair.feature);
-    let x = values.first;
-    let y = values.second;
-    leaves(sizes, pairs, variables, befores, afters, possible, i, x)
-        && leaves(sizes, pairs, variables, befores, afters, possible, j, y)
-}
-
-// The next listed pair that is unclosed under the operator, from a listed one on; past the last one, a number that is no feature's.
-pub fn unclosed_from(
-    sizes: &[u64],
-    pairs: &[u64],
-    variables: &[usize],
-    befores: &[usize],
-    afters: &[usize],
-    possible: &[u64],
-    end: usize,
-    pair: PairAt,
-) -> PairAt
-    requires { Ready sizes.now pairs.now variables.now befores.now afters.now
-        × HoldsPossible sizes.now (has pairs.now) (entries_in variables.now befores.now afters.now) possible.now
-        × (end ≡ features sizes.now) × Reached sizes.now pairs.now (entries_in variables.now befores.now afters.now) pair.feature pair }
-    ensures { Reached sizes.now pairs.now (entries_in variables.now befores.now afters.now) pair.feature result
-        × (result.feature < end → unclosed_pair sizes.now (has pairs.now)
-        (entries_in variables.now befores.now afters.now) result.feature ≡ true) }
-{
-    let mut next = pair;
-    while next.feature < end {
-        if is_unclosed(sizes, pairs, variables, befores, afters, possible, next) {
-            return next;
+    // Whether the operator leaves value x of variable i.
+    fn leaves(self, i: usize, x: usize) -> bool
+        requires { (i < length self.sizes.now) × (x < size self.sizes.now i) }
+        ensures { result ≡ leaves self.entry.sizes.now (has self.entry.pairs.now) self.entry.entries.now i x }
+    {
+        match self.entries.named(i) {
+            Some(entry) => entry.after == x,
+            None => words::has(self.possible, numbering::single(self.sizes, i, x)),
         }
-        next = next_pair(sizes, pairs, end, next);
     }
-    next
+
+    // Whether a pair is unclosed under the operator. One of two variables that the operator doesn't name never is.
+    pub fn is_unclosed(self, pair: PairAt) -> bool
+        requires { Contains self.sizes.now pair.block pair.feature }
+        ensures { result ≡ unclosed_pair self.entry.sizes.now (has self.entry.pairs.now) self.entry.entries.now pair.feature }
+    {
+        let block = pair.block;
+        if !self.entries.names(block.first) && !self.entries.names(block.second) {
+            return false;
+        }
+        let values = numbering::values_in(self.sizes, block, pair.feature);
+        self.leaves(block.first, values.first) && self.leaves(block.second, values.second)
+    }
+
+    // The next listed pair that is unclosed under the operator, from a listed one on.
+    pub fn unclosed_from(self, end: usize, pair: Option<PairAt>) -> Option<PairAt>
+        requires { (end ≡ features self.sizes.now) × IfSome pair (ListedAt self.sizes.now self.pairs.now) }
+        ensures { ((start : ℕ) → Reached self.entry.sizes.now self.entry.pairs.now self.entry.entries.now start pair
+            → Reached self.entry.sizes.now self.entry.pairs.now self.entry.entries.now start result)
+            × IfSome result (λ unclosed. unclosed_pair self.entry.sizes.now (has self.entry.pairs.now) self.entry.entries.now unclosed.feature ≡ true) }
+    {
+        let mut next = pair;
+        while let Some(pair) = next {
+            if self.is_unclosed(pair) {
+                return next;
+            }
+            next = next_pair(self.sizes, self.pairs, end, pair);
+        }
+        None
+    }
+
+    // The first listed pair that is unclosed under the operator.
+    pub fn first_unclosed(self, end: usize) -> Option<PairAt>
+        requires { end ≡ features self.sizes.now }
+        ensures { Reached self.entry.sizes.now self.entry.pairs.now self.entry.entries.now (atoms self.entry.sizes.now) result
+            × IfSome result (λ unclosed. unclosed_pair self.entry.sizes.now (has self.entry.pairs.now) self.entry.entries.now unclosed.feature ≡ true) }
+    {
+        self.unclosed_from(end, first_pair(self.sizes, self.pairs, end))
+    }
+
+    // Whether the list is closed under the operator.
+    pub fn is_closed(self) -> bool
+        ensures { result ≡ closed self.entry.sizes.now (has self.entry.pairs.now) self.entry.entries.now }
+    {
+        self.is_idle()
+            || self
+                .first_unclosed(numbering::features(self.sizes))
+                .is_none()
+    }
 }
 
-// The first listed pair that is unclosed under the operator.
-pub fn first_unclosed(
-    sizes: &[u64],
-    pairs: &[u64],
-    variables: &[usize],
-    befores: &[usize],
-    afters: &[usize],
-    possible: &[u64],
-    end: usize,
-) -> PairAt
-    requires { Ready sizes.now pairs.now variables.now befores.now afters.now
-        × HoldsPossible sizes.now (has pairs.now) (entries_in variables.now befores.now afters.now) possible.now × (end ≡ features sizes.now) }
-    ensures { Reached sizes.now pairs.now (entries_in variables.now befores.now afters.now) (atoms sizes.now) result
-        × (result.feature < end → unclosed_pair sizes.now (has pairs.now)
-        (entries_in variables.now befores.now afters.now) result.feature ≡ true) }
+// Whether the list is closed under an operator. The table of its possible atoms has its room here.
+pub fn is_closed(sizes: &[u64], pairs: &[u64], entries: &Entries) -> bool
+    requires { Ready sizes.now pairs.now entries.now }
+    ensures { result ≡ closed sizes.now (has pairs.now) entries.now }
 {
-    let first = first_pair(sizes, pairs, end);
-    unclosed_from(
-        sizes, pairs, variables, befores, afters, possible, end, first,
-    )
-}
-
-// Whether the list is closed under the operator.
-pub fn is_closed(
-    sizes: &[u64],
-    pairs: &[u64],
-    variables: &[usize],
-    befores: &[usize],
-    afters: &[usize],
-    possible: &[u64],
-) -> bool
-    requires { Ready sizes.now pairs.now variables.now befores.now afters.now
-        × HoldsPossible sizes.now (has pairs.now) (entries_in variables.now befores.now afters.now) possible.now }
-    ensures { result ≡ closed sizes.now (has pairs.now) (entries_in variables.now befores.now afters.now) }
-{
-    if is_idle(sizes, pairs, variables, befores, afters, possible) {
-        return true;
-    }
-    let end = numbering::features(sizes);
-    let first = first_unclosed(sizes, pairs, variables, befores, afters, possible, end);
-    end <= first.feature
+    let mut possible = [0u64; ATOM_WORDS];
+    fill_possible(sizes, pairs, entries, &mut possible);
+    let tabled = Tabled {
+        sizes,
+        pairs,
+        entries,
+        possible: &possible,
+    };
+    tabled.is_closed()
 }
 
 // Whether the value of variable j is paired with that of an earlier variable.
@@ -408,35 +268,13 @@ fn holds_at(sizes: &[u64], pairs: &[u64], state: &[u64], j: usize) -> bool
     ensures { result ≡ some j (λ i. paired sizes.now (has pairs.now) i (value state.now i) j (value state.now j)) }
 {
     let y = state[j] as usize;
-    let mut i = 0;
-    while i < j {
-        if is_paired(sizes, pairs, i, state[i] as usize, j, y) {
-            return true;
-        }
-        i += 1;
-    }
-    false
+    (0..j).any(|i| is_paired(sizes, pairs, i, state[i] as usize, j, y))
 }
 
-// Whether a state holds a listed pair: a look at each two of its atoms.
-fn holds_among(sizes: &[u64], pairs: &[u64], state: &[u64]) -> bool
-    requires { Listed sizes.now pairs.now × State sizes.now state.now }
-    ensures { result ≡ holds sizes.now (has pairs.now) state.now }
-{
-    let mut j = 0;
-    while j < sizes.len() {
-        if holds_at(sizes, pairs, state, j) {
-            return true;
-        }
-        j += 1;
-    }
-    false
-}
-
-// The same, at once where no pair is listed.
+// Whether a state holds a listed pair: a look at each two of its atoms, unless no pair is listed.
 pub fn holds(sizes: &[u64], pairs: &[u64], state: &[u64]) -> bool
     requires { Listed sizes.now pairs.now × State sizes.now state.now }
     ensures { result ≡ holds sizes.now (has pairs.now) state.now }
 {
-    !words::is_empty(pairs) && holds_among(sizes, pairs, state)
+    !words::is_empty(pairs) && (0..sizes.len()).any(|j| holds_at(sizes, pairs, state, j))
 }

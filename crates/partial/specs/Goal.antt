@@ -1,5 +1,5 @@
 -- The goal of a partial task file as the code reads it, over the marks: what is still to be read, after each turn, goes into the words as they are then.
-use Rattle.std.specs.Prelude.{ℕ, suc, ◌+◌, ◌<◌, ◌≤◌, ◌≡◌, refl, ◌≢◌, cond, List, [], ◌∷◌, eqb, get_or, set, take, drop}
+use Rattle.std.specs.Prelude.{ℕ, suc, ◌+◌, ◌<◌, ◌≤◌, ◌≡◌, refl, ◌≢◌, Result, cond, List, [], ◌∷◌, eqb, get_or, set, take, drop}
 use Rattle.std.proofs.Common.{sym, ap, ◌∙◌, arith, length-set, drop_of_length-le, eq-eqb, ne_eqb}
 use Rattle.std.proofs.Math.Numerals.{add-one}
 use Rattle.std.proofs.Math.ListN.{length}
@@ -12,7 +12,7 @@ use Rattle.meaning.specs.Partial.{goal_of}
 use Rattle.theory.specs.Reading.{on-got, got-value}
 use Rattle.layout.specs.Parts.{sizes_part, goal_part, length_part}
 use Rattle.number.specs.Laws.{sets-all}
-use Rattle.number.specs.declared.Step.{Step}
+use Rattle.number.specs.declared.Fault.{Fault}
 use Rattle.reader.specs.Answer.{written, ReadsInto, reads_same, placed}
 use Rattle.reader.specs.Lists.{Splits, Unread, apart-same, apart-behind, unread-all, unread-set}
 
@@ -84,7 +84,7 @@ module _ (old : List ℕ) (v goal : ℕ) (is : goal ≡ goal_at v) (room : pairs
   unfolding goal_of
   values-none bytes new i place next h = let past : length (sizes_part v old) ≤ i = omega (arith, sizes-length) in rw (drop_of_length-le (sizes_part v old) past)
 
-  pub values-written : (bytes : List ℕ) (place : ℕ) (answer : Step) (left : List ℕ) → ReadsInto (goal_of (sizes_part v old) marked bytes place) (sets old goal) answer left
+  pub values-written : (bytes : List ℕ) (place : ℕ) (answer : Result ℕ Fault) (left : List ℕ) → ReadsInto (goal_of (sizes_part v old) marked bytes place) (sets old goal) answer left
       → ReadsInto (goal_of (sizes_part v old) (goal_part v old) bytes place) (written old (goal_at v)) answer left
   values-written bytes place answer left read = rw (← is) (
       reads_same (goal_of (sizes_part v old) marked bytes place) (sets old goal) (written old goal) answer left

@@ -1,5 +1,5 @@
 -- Sizes, marks, start and goal as the code reads them: the marks go where the goal will stand, the start between them and the sizes, and the goal over the marks.
-use Rattle.std.specs.Prelude.{ℕ, ◌+◌, ◌≤◌, ◌≡◌, get_or, take, drop}
+use Rattle.std.specs.Prelude.{ℕ, ◌+◌, ◌≤◌, ◌≡◌, Result, Ok, Err, get_or, take, drop}
 use Rattle.std.proofs.Math.Path.{refl, sym, ap}
 use Rattle.std.proofs.Common.{◌∙◌, add_assoc, arith, length-append, length-drop, take_at, drop_at, drop-drop, length-take-le}
 use mathlib.Core.List.{List, [], ◌∷◌, ◌++◌, append-nil, append_assoc}
@@ -15,9 +15,7 @@ use Rattle.theory.specs.Parts.{values-said}
 use Rattle.theory.specs.PartialPairs.{built-length, built-size}
 use Rattle.theory.specs.PartialFile.{goal-said}
 use Rattle.layout.specs.Parts.{sizes_part, goal_part}
-use Rattle.number.specs.declared.Reason.{Reason}
-use Rattle.number.specs.declared.Step.{Step}
-use Rattle.number.specs.declared.Step.TheVariants.{Next, Fault}
+use Rattle.number.specs.declared.Fault.{Fault}
 use Rattle.numbering.specs.Sizes.{SmallSizes}
 use Rattle.reader.specs.Answer.{written, begun, sized_words, ReadsInto, reads-next, reads-map, reads-unread}
 use Rattle.reader.specs.After.{After, after, sizes_begin}
@@ -98,9 +96,8 @@ module _ (bytes : List ℕ) (from : ℕ) (old : List ℕ) where
   abbrev pub AfterLimited : List ℕ → ℕ → Type 0
   AfterLimited = After (partial_header bytes from) (Ends (λ sizes. sizes) sized_words start_at) (λ sizes. sizes) sized_words old
 
-  pub after-limited : (answer : Step) (left : List ℕ) (next : ℕ) → ReadsInto (partial_header bytes from) (λ sizes. begun old (sized_words sizes)) answer left → answer ≡ Next next
-      → AfterLimited left next
-  after-limited answer left next = after _ _ _ sized_words (λ sizes. ([], sym (append-nil (sized_words sizes)))) old answer left next
+  pub after-limited : (left : List ℕ) (next : ℕ) → ReadsInto (partial_header bytes from) (λ sizes. begun old (sized_words sizes)) (Ok next) left → AfterLimited left next
+  after-limited left next = after _ _ _ sized_words (λ sizes. ([], sym (append-nil (sized_words sizes)))) old left next
       (λ sizes r. (sized-limits sizes ((sizes-said bytes).gives from sizes next r).known, omega arith))
 
   -- ---- marks and start
@@ -113,11 +110,11 @@ module _ (bytes : List ℕ) (from : ℕ) (old : List ℕ) where
     unfolding marked_of
     marked-rest = rw (known.is, many) refl
 
-    module _ (answer : Step) (left : List ℕ) (read : ReadsInto (marks_of v bytes next) (written new (goal_at v)) answer left) where
-      pub marks-unread : (reason : Reason) (place : ℕ) → answer ≡ Fault reason place → ReadsInto (marked_of bytes from) (λ marked. begun old (state_words marked)) (Fault reason place) left
-      marks-unread reason place e = rw marked-rest (reads-unread (marks_of v bytes next) (written new (goal_at v)) _ _ answer reason place left read e)
+    module _ (answer : Result ℕ Fault) (left : List ℕ) (read : ReadsInto (marks_of v bytes next) (written new (goal_at v)) answer left) where
+      pub marks-unread : (f : Fault) → answer ≡ Err f → ReadsInto (marked_of bytes from) (λ marked. begun old (state_words marked)) (Err f) left
+      marks-unread f e = rw marked-rest (reads-unread (marks_of v bytes next) (written new (goal_at v)) _ _ answer f left read e)
 
-      pub start-behind : (after : ℕ) → answer ≡ Next after → goal_at v ≤ length old → (last : Step) (final : List ℕ)
+      pub start-behind : (after : ℕ) → answer ≡ Ok after → goal_at v ≤ length old → (last : Result ℕ Fault) (final : List ℕ)
           → ReadsInto (values_of (sizes_part v left) bytes after) (written left (start_at v)) last final → ReadsInto (marked_of bytes from) (λ marked. begun old (state_words marked)) last final
       unfolding state_words
       start-behind after e room last final reads = let (marks, r, w) = reads-next (marks_of v bytes next) (written new (goal_at v)) answer after left read e in
@@ -136,18 +133,18 @@ module _ (bytes : List ℕ) (from : ℕ) (old : List ℕ) where
 
   -- ---- the goal over the marks
 
-  module _ (answer : Step) (left : List ℕ) (next : ℕ) where
-    pub after-marked : ReadsInto (marked_of bytes from) (λ marked. begun old (state_words marked)) answer left → answer ≡ Next next → AfterStates marked_of bytes from old left next
-    after-marked = after-states marked_of bytes from old answer left next (λ marked r.
+  module _ (left : List ℕ) (next : ℕ) where
+    pub after-marked : ReadsInto (marked_of bytes from) (λ marked. begun old (state_words marked)) (Ok next) left → AfterStates marked_of bytes from old left next
+    after-marked = after-states marked_of bytes from old left next (λ marked r.
         let said = ((marked-said bytes).gives from marked next r).known in
         (sized-limits _ said.0, states-end marked said.1.full (said.2.full ∙ length-replicate (length marked.sizes) 2)))
 
-    pub after-goal : ReadsInto (partial_states_of bytes from) (λ states. begun old (state_words states)) answer left → answer ≡ Next next → AfterStates partial_states_of bytes from old left next
-    after-goal = after-states partial_states_of bytes from old answer left next (λ states r.
+    pub after-goal : ReadsInto (partial_states_of bytes from) (λ states. begun old (state_words states)) (Ok next) left → AfterStates partial_states_of bytes from old left next
+    after-goal = after-states partial_states_of bytes from old left next (λ states r.
         let said = ((partial-states-said bytes).gives from states next r).known in
         (sized-limits _ said.0, states-end states said.1.full (said.2.full ∙ built-length states.sizes)))
 
-  pub goal-behind : (new : List ℕ) (next : ℕ) → AfterStates marked_of bytes from old new next → (v : ℕ) → v ≡ get_or new 0 0 → (answer : Step) (left : List ℕ)
+  pub goal-behind : (new : List ℕ) (next : ℕ) → AfterStates marked_of bytes from old new next → (v : ℕ) → v ≡ get_or new 0 0 → (answer : Result ℕ Fault) (left : List ℕ)
       → ReadsInto (goal_of (sizes_part v new) (goal_part v new) bytes next) (written new (goal_at v)) answer left
       → ReadsInto (partial_states_of bytes from) (λ states. begun old (state_words states)) answer left
   unfolding partial_states_of sizes_in

@@ -2,7 +2,7 @@
 
 #![tactic(auto)]
 
-ghost use Rattle.std.specs.Prelude.{◌≡◌, cond};
+ghost use Rattle.std.specs.Prelude.{◌≡◌, cond, Some};
 ghost use Rattle.meaning.specs.Number.{has_place};
 ghost use Rattle.meaning.specs.Place.{nowhere, part_at};
 ghost use Rattle.number.specs.Answers.{reason_of};
@@ -10,10 +10,9 @@ ghost use Rattle.placing.specs.Answers.{spot_of, part_of};
 
 use number::Reason;
 
-// A place in the task or in the weights, or none.
+// A place in the task or in the weights.
 #[derive(Clone, Copy)]
 pub enum Spot {
-    Nowhere,
     InTask(usize),
     InWeights(usize),
 }
@@ -26,22 +25,19 @@ pub enum Part {
 }
 
 // The spot of a fault, if its reason has a place.
-pub fn placed(reason: Reason, spot: Spot) -> Spot
-    ensures { spot_of result ≡ cond (has_place (reason_of reason)) (spot_of spot) nowhere }
+pub fn placed(reason: Reason, spot: Spot) -> Option<Spot>
+    ensures { spot_of result ≡ cond (has_place (reason_of reason)) (spot_of (Some spot)) nowhere }
 {
-    if number::has_place(reason) {
-        return spot;
-    }
-    Spot::Nowhere
+    reason.has_place().then_some(spot)
 }
 
-// The part that is shown of the number at a spot.
-pub fn part_at(task: &[u8], weights: &[u8], spot: Spot) -> Part
+// The part that is shown of the number at a spot; it is empty where there is none.
+pub fn part_at(task: &[u8], weights: &[u8], spot: Option<Spot>) -> Part
     ensures { part_of result ≡ part_at task.now weights.now (spot_of spot) }
 {
     match spot {
-        Spot::Nowhere => Part::OfTask(0, 0),
-        Spot::InTask(place) => Part::OfTask(place, number::bytes_read(task, place)),
-        Spot::InWeights(place) => Part::OfWeights(place, number::bytes_read(weights, place)),
+        None => Part::OfTask(0, 0),
+        Some(Spot::InTask(place)) => Part::OfTask(place, number::bytes_read(task, place)),
+        Some(Spot::InWeights(place)) => Part::OfWeights(place, number::bytes_read(weights, place)),
     }
 }

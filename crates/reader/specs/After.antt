@@ -1,11 +1,9 @@
 -- What is known once a value was read into the beginning of words, where the value's words begin with sizes and their count.
-use Rattle.std.specs.Prelude.{ℕ, zero, suc, ◌<◌, ◌≡◌, refl, List, [], ◌∷◌, ◌++◌, length, get_or, drop}
+use Rattle.std.specs.Prelude.{ℕ, zero, suc, ◌<◌, ◌≡◌, refl, Ok, List, [], ◌∷◌, ◌++◌, length, get_or, drop}
 use Rattle.std.proofs.Common.{sym, ap, ◌∙◌, append_assoc, arith, length-append, take_at, drop_at, drop-drop}
 use Rattle.meaning.specs.Number.{Read, got}
 use Rattle.theory.specs.Contents.{sizes_in}
 use Rattle.layout.specs.Parts.{sizes_part, sizes-first}
-use Rattle.number.specs.declared.Step.{Step}
-use Rattle.number.specs.declared.Step.TheVariants.{Next}
 use Rattle.reader.specs.Answer.{written, begun, sized_words, ReadsInto, reads-next}
 
 -- Values written behind those that words begin with.
@@ -20,11 +18,11 @@ unfolding sizes_in
 sizes_begin sizes rest left e = rw e (refl, take_at sizes rest (length sizes) refl)
 
 -- What is written behind the count leaves it.
-pub count_left : (read : Read (List ℕ)) (old : List ℕ) (at : ℕ) (answer : Step) (left : List ℕ) (next : ℕ) → 0 < at → 0 < length old
-    → ReadsInto read (written old at) answer left → answer ≡ Next next → get_or left 0 0 ≡ get_or old 0 0
-count_left read [] at answer left next h k reads e = absurd (omega arith)
-count_left read (x ∷ old) zero answer left next h k reads e = absurd (omega arith)
-count_left read (x ∷ old) (suc at) answer left next h k reads e = ap (λ l. get_or l 0 0) (reads-next read (written (x ∷ old) (suc at)) answer next left reads e).2
+pub count_left : (read : Read (List ℕ)) (old : List ℕ) (at : ℕ) (left : List ℕ) (next : ℕ) → 0 < at → 0 < length old
+    → ReadsInto read (written old at) (Ok next) left → get_or left 0 0 ≡ get_or old 0 0
+count_left read [] at left next h k reads = absurd (omega arith)
+count_left read (x ∷ old) zero left next h k reads = absurd (omega arith)
+count_left read (x ∷ old) (suc at) left next h k reads = ap (λ l. get_or l 0 0) (reads-next read (written (x ∷ old) (suc at)) (Ok next) next left reads refl).2
 
 -- After a value was read; `left` are the words then.
 pub record After {A : Type 0} (read : Read A) (Known : A → Type 0) (sizes words : A → List ℕ) (old left : List ℕ) (next : ℕ) : Type 0 where
@@ -36,9 +34,9 @@ pub record After {A : Type 0} (read : Read A) (Known : A → Type 0) (sizes word
   pub same : sizes_in left ≡ sizes value
 
 module _ {A : Type 0} (read : Read A) (Known : A → Type 0) (sizes words : A → List ℕ) (begins : (a : A) → (more : List ℕ) × (words a ≡ sized_words (sizes a) ++ more)) where
-  pub after : (old : List ℕ) (answer : Step) (left : List ℕ) (next : ℕ) → ((a : A) → read ≡ got a next → Known a)
-      → ReadsInto read (λ a. begun old (words a)) answer left → answer ≡ Next next → After read Known sizes words old left next
-  after old answer left next said reads e = known (reads-next read (λ a. begun old (words a)) answer next left reads e)
+  pub after : (old left : List ℕ) (next : ℕ) → ((a : A) → read ≡ got a next → Known a)
+      → ReadsInto read (λ a. begun old (words a)) (Ok next) left → After read Known sizes words old left next
+  after old left next said reads = known (reads-next read (λ a. begun old (words a)) (Ok next) next left reads refl)
     where
       known : (a : A) × (read ≡ got a next) × (left ≡ begun old (words a)) → After read Known sizes words old left next
       known (a, r, w) =

@@ -1,10 +1,10 @@
 -- A list of features in words: features that increase, each toggled once in words that hold none, leave the words of their set.
-use Rattle.std.specs.Prelude.{ℕ, ◌≤◌, ◌≡◌, List, replicate}
+use Rattle.std.specs.Prelude.{ℕ, ◌≤◌, ◌≡◌, Result, List, replicate}
 use Rattle.meaning.specs.Number.{Reason, got, fault, number}
 use Rattle.meaning.specs.File.{Kind, features_of, feature_list}
 use Rattle.meaning.specs.Workspace.{words_for}
 use Rattle.theory.specs.Parts.{feature-list-said}
-use Rattle.number.specs.declared.Step.{Step}
+use Rattle.number.specs.declared.Fault.{Fault}
 use Rattle.reader.specs.Answer.{feature_words, ReadsInto, reads_same}
 use Rattle.words.specs.Toggled.{toggled_all, run-packed}
 
@@ -15,7 +15,7 @@ module _ (kind : Kind) (low high : ℕ) (bytes : List ℕ) (place : ℕ) where
   unfolding feature_list
   list-fault reason there e = rw e
 
-  pub list_read : (count next : ℕ) (words : List ℕ) (answer : Step) (left : List ℕ) → low ≤ high → words ≡ replicate (words_for high) 0
+  pub list_read : (count next : ℕ) (words : List ℕ) (answer : Result ℕ Fault) (left : List ℕ) → low ≤ high → words ≡ replicate (words_for high) 0
       → number bytes place ≡ got count next
       → ReadsInto (features_of kind count low high 0 bytes next) (toggled_all words) answer left
       → ReadsInto (feature_list kind low high bytes place) (feature_words high) answer left

@@ -1,14 +1,14 @@
 -- What stands before the operators of a task file: its parser, the words that hold it, and that a task is read as this and then its operators.
-use Rattle.std.specs.Prelude.{ℕ, ◌≡◌, List, ◌∷◌, ◌++◌, length}
+use Rattle.std.specs.Prelude.{ℕ, ◌≡◌, Result, Ok, Err, List, ◌∷◌, ◌++◌, length}
 use Rattle.meaning.specs.Limits.{least_size, most_size}
 use Rattle.meaning.specs.Task.{Operator, Task}
 use Rattle.meaning.specs.Feature.{atoms, features}
 use Rattle.meaning.specs.Number.{Read, got, fault, number}
 use Rattle.meaning.specs.File.{Parser, give, then, header, values_of, Kind, feature_list, operators_of, ended, body_of, parts_of}
 use Rattle.theory.specs.Reading.{on-on}
-use Rattle.number.specs.Answers.{declared_of}
+use Rattle.number.specs.Answers.{fault_of}
+use Rattle.number.specs.declared.Fault.{Fault}
 use Rattle.reader.specs.declared.Header.{Header}
-use Rattle.reader.specs.declared.Header.TheVariants.{Got, Fault}
 use Rattle.reader.specs.Answer.{begun, feature_words}
 
 -- Sizes and start.
@@ -60,11 +60,15 @@ state_words states = length states.sizes ∷ (states.sizes ++ (states.start ++ s
 unfoldable pub front_words : Front → List ℕ
 front_words front = state_words front.states ++ feature_words (features front.states.sizes) front.pairs
 
+-- The counts of a front, with the place after it.
+abbrev pub header_of : Front → ℕ → Header
+header_of front next =
+    record { variables = length front.states.sizes; features = features front.states.sizes; operators = front.count; next = next }
+
 -- Where the front was read, the answer has its counts and the place after it, and the words left begin with those of the front.
-unfoldable pub HeaderInto : Read Front → List ℕ → Header → List ℕ → Type 0
-HeaderInto (got front next) words answer left =
-    (answer ≡ Got (length front.states.sizes) (features front.states.sizes) front.count next) × (left ≡ begun words (front_words front))
-HeaderInto (fault reason place) words answer left = answer ≡ Fault (declared_of reason) place
+unfoldable pub HeaderInto : Read Front → List ℕ → Result Header Fault → List ℕ → Type 0
+HeaderInto (got front next) words answer left = (answer ≡ Ok (header_of front next)) × (left ≡ begun words (front_words front))
+HeaderInto (fault reason place) words answer left = answer ≡ Err (fault_of reason place)
 
 -- A task with this front.
 abbrev pub task_with : Front → List Operator → Task

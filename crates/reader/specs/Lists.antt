@@ -1,6 +1,6 @@
 -- The lists of a file as the code reads them: what is still to be read, after each turn, goes into the words as they are then.
 use Prim.Native.Nat.{ℕ, suc, ◌+◌, ◌-◌, ◌<◌, ◌≤◌}
-use Rattle.std.specs.Prelude.{◌≡◌, ◌≢◌, List, ◌++◌, get_or, set, take, drop, replicate}
+use Rattle.std.specs.Prelude.{◌≡◌, ◌≢◌, Result, List, ◌++◌, get_or, set, take, drop, replicate}
 use Rattle.std.proofs.Math.Path.{refl}
 use Rattle.std.proofs.Common.{sym, ap, ◌∙◌, length-append, length-drop, drop_of_length-le, drop-cons, drop-drop, take_at, drop_at, get_or-take, length-take-le}
 use native.Mathlib.Omega.{arith}
@@ -15,9 +15,8 @@ use Rattle.meaning.specs.Number.{got, fault}
 use Rattle.meaning.specs.File.{Parser, inside, item, items_of, Kind, feature_of, features_of}
 use Rattle.theory.specs.Flat.{take-replicate}
 use Rattle.theory.specs.Parts.{items-said, feature-said}
-use Rattle.layout.specs.Parts.{lent, length_part}
 use Rattle.number.specs.Laws.{sets-all}
-use Rattle.number.specs.declared.Step.{Step}
+use Rattle.number.specs.declared.Fault.{Fault}
 use Rattle.words.specs.Change.{toggled}
 use Rattle.reader.specs.Answer.{written, ReadsInto, reads_same, placed, list_of, first_read, first-fault}
 use Rattle.words.specs.Toggled.{toggled_all}
@@ -89,7 +88,7 @@ module _ (old : List ℕ) (bounds to count : ℕ) (within : bounds + count ≤ l
   unfolding items_of
   items-none bytes new i place next h = let past : length (take count (drop bounds old)) ≤ i = omega (arith, bounds-length) in rw (drop_of_length-le (take count (drop bounds old)) past)
 
-  pub items-written : (bytes : List ℕ) (place : ℕ) (answer : Step) (left : List ℕ) → ReadsInto (items_of low reason (take count (drop bounds old)) bytes place) (sets old to) answer left
+  pub items-written : (bytes : List ℕ) (place : ℕ) (answer : Result ℕ Fault) (left : List ℕ) → ReadsInto (items_of low reason (take count (drop bounds old)) bytes place) (sets old to) answer left
       → ReadsInto (items_of low reason (take count (drop bounds old)) bytes place) (written old to) answer left
   items-written bytes place answer left =
       reads_same (items_of low reason (take count (drop bounds old)) bytes place) (sets old to) (written old to) answer left
@@ -120,10 +119,6 @@ module _ (old : List ℕ) (to count bound : ℕ) (few : count ≤ most_variables
   bounds-count : length (bounds count bound) ≡ count
   bounds-count = ap length bounds-are ∙ length-replicate count bound
 
-  -- There is room for them.
-  pub bounds-room : length (take (to + count - to) (drop to old)) ≡ length (bounds count bound)
-  bounds-room = ap length (lent to count old) ∙ length_part to count old room ∙ sym bounds-count
-
   module _ (part : List ℕ) (e : part ≡ bounds count bound) where
     long : length part ≡ count
     long = ap length e ∙ bounds-count
@@ -136,7 +131,7 @@ module _ (old : List ℕ) (to count bound : ℕ) (few : count ≤ most_variables
         (omega (arith, long, length-take-le to old (omega arith)))
 
     -- The numbers are read over their bounds.
-    pub items-over : (low : ℕ) (reason : meaning.Reason) (bytes : List ℕ) (place : ℕ) (answer : Step) (left : List ℕ)
+    pub items-over : (low : ℕ) (reason : meaning.Reason) (bytes : List ℕ) (place : ℕ) (answer : Result ℕ Fault) (left : List ℕ)
         → ReadsInto (items_of low reason (take count (drop to (laid old to count part))) bytes place) (written (laid old to count part) to) answer left
         → ReadsInto (items_of low reason (replicate count bound) bytes place) (written old to) answer left
     items-over low reason bytes place answer left read =

@@ -1,12 +1,12 @@
 -- The pairs as the code reads them, into the words behind sizes, start and goal; and then the whole front.
-use Rattle.std.specs.Prelude.{ℕ, zero, suc, ◌+◌, ◌-◌, ◌≤◌, ◌≡◌, length, get_or, take, drop, replicate}
+use Rattle.std.specs.Prelude.{ℕ, zero, suc, ◌+◌, ◌-◌, ◌≤◌, ◌≡◌, Result, Ok, Err, length, get_or, take, drop, replicate}
 use Rattle.std.proofs.Math.Path.{refl, ap}
 use Rattle.std.proofs.Common.{sym, subst, ◌∙◌, arith, drop_at, drop-drop}
 use mathlib.Core.List.{List, ◌++◌}
 use Rattle.std.proofs.Math.Nat.{sub-zero, add-sub_cancel_left}
 use Rattle.meaning.specs.Limits.{most_variables, most_features}
 use Rattle.meaning.specs.Feature.{atoms, features}
-use Rattle.meaning.specs.Number.{Read, got, fault, on_read, number}
+use Rattle.meaning.specs.Number.{Read, got, on_read, number}
 use Rattle.meaning.specs.File.{Parser, give, then, Kind, feature_list, InLimits}
 use Rattle.meaning.specs.Workspace.{pairs_at, slots_at, words_for}
 use Rattle.theory.specs.Numbering.{atoms-room}
@@ -16,14 +16,10 @@ use Rattle.theory.specs.Flat.{take-replicate}
 use Rattle.layout.specs.declared.Places.{Places}
 use Rattle.layout.specs.Places.{places_of}
 use Rattle.layout.specs.Parts.{sizes_part, pairs_part, Headed, sizes-first, lent-pairs}
-use Rattle.number.specs.Answers.{reason_of, declared-reason}
-use Rattle.number.specs.declared.Reason.{Reason}
-use Rattle.number.specs.declared.Step.{Step}
-use Rattle.number.specs.declared.Step.TheVariants as code
-use Rattle.number.specs.declared.Step.TheVariants.{Next}
+use Rattle.number.specs.Answers.{declared-reason, faulted}
+use Rattle.number.specs.declared.Fault.{Fault}
 use Rattle.numbering.specs.Sizes.{SmallSizes, limits-small}
 use Rattle.reader.specs.declared.Header.{Header}
-use Rattle.reader.specs.declared.Header.TheVariants.{Got, Fault}
 use Rattle.reader.specs.Answer.{written, begun, feature_words, ReadsInto, reads-next, reads-fault, reads-put, unread}
 use Rattle.reader.specs.After.{begun_more}
 use Rattle.reader.specs.Front.{States, state_words, Front, behind_states, front_words, HeaderInto}
@@ -45,7 +41,7 @@ module _ (words : List ℕ) (n : ℕ) (clear : Cleared words n) where
     pairs-room = rw (first, clear.total) (atoms-room (sizes_in words))
 
     -- The part with the pairs is put back.
-    pub pairs-put : (kind : Kind) (at : Places) → at ≡ places_of (get_or words 0 0) n → (bytes : List ℕ) (place : ℕ) (answer : Step) (left : List ℕ)
+    pub pairs-put : (kind : Kind) (at : Places) → at ≡ places_of (get_or words 0 0) n → (bytes : List ℕ) (place : ℕ) (answer : Result ℕ Fault) (left : List ℕ)
         → ReadsInto (feature_list kind low n bytes place) (feature_words n) answer left
         → ReadsInto (feature_list kind (atoms (sizes_in words)) n bytes place) (λ pairs. written words (pairs_at (get_or words 0 0)) (feature_words n pairs)) answer
         (take at.pairs words ++ (left ++ drop (at.slots - at.pairs) (drop at.pairs words)))
@@ -77,13 +73,17 @@ pub record Holds (states : States) (old words : List ℕ) : Type 0 where
   pub same : sizes_in words ≡ states.sizes
   pub ends : length (state_words states) ≡ pairs_at (length states.sizes)
 
+-- The counts, with the place after them.
+abbrev counted : ℕ → ℕ → ℕ → ℕ → Header
+counted v n operators next = record { variables = v; features = n; operators = operators; next = next }
+
 -- What is read behind the states that the words hold, whichever they are.
-pub record BehindInto (kind : Kind) (bytes : List ℕ) (at : ℕ) (words : List ℕ) (answer : Header) (left : List ℕ) : Type 0 where
+pub record BehindInto (kind : Kind) (bytes : List ℕ) (at : ℕ) (words : List ℕ) (answer : Result Header Fault) (left : List ℕ) : Type 0 where
   pub into : (states : States) (old : List ℕ) → Holds states old words → HeaderInto (behind_states kind states bytes at) old answer left
 
-header-fault : (read : Read Front) (words : List ℕ) (reason : Reason) (place : ℕ) (left : List ℕ) → read ≡ fault (reason_of reason) place → HeaderInto read words (Fault reason place) left
+header-fault : (read : Read Front) (words : List ℕ) (f : Fault) (left : List ℕ) → read ≡ faulted f → HeaderInto read words (Err f) left
 unfolding HeaderInto
-header-fault read words reason place left e = rw e (ap (λ r. Fault r place) (sym (declared-reason reason)))
+header-fault read words f left e = rw e (ap (λ r. Err (record { 0 = r; 1 = f.1 })) (sym (declared-reason f.0)))
 
 module _ (kind : Kind) (bytes : List ℕ) (at : ℕ) (words : List ℕ) (n : ℕ) (total : n ≡ features (sizes_in words)) where
   -- What the pairs are read as, and the words with them.
@@ -99,25 +99,23 @@ module _ (kind : Kind) (bytes : List ℕ) (at : ℕ) (words : List ℕ) (n : ℕ
   unfolding behind_states
   behind-rest states same = rw (total, same) refl
 
-  module _ (answer : Step) (left : List ℕ) (read : ReadsInto pairs_read with_pairs answer left) where
-    pub pairs-unread : (reason : Reason) (place : ℕ) → answer ≡ code.Fault reason place → BehindInto kind bytes at words (Fault reason place) left
-    pairs-unread reason place e = record {
-      into = λ states old holds. header-fault _ old reason place left (behind-rest states holds.same ∙ rw (reads-fault pairs_read with_pairs answer reason place left read e));
-    }
+  module _ (left : List ℕ) where
+    pub pairs-unread : (f : Fault) → ReadsInto pairs_read with_pairs (Err f) left → BehindInto kind bytes at words (Err f) left
+    pairs-unread f read = record { into = λ states old holds. header-fault _ old f left (behind-rest states holds.same ∙ rw (reads-fault pairs_read with_pairs (Err f) f left read refl)) }
 
-    module _ (next : ℕ) (e : answer ≡ Next next) where
+    module _ (next : ℕ) (read : ReadsInto pairs_read with_pairs (Ok next) left) where
       pairs-read : (pairs : List ℕ) × (pairs_read ≡ got pairs next) × (left ≡ with_pairs pairs)
-      pairs-read = reads-next pairs_read with_pairs answer next left read e
+      pairs-read = reads-next pairs_read with_pairs (Ok next) next left read refl
 
-      pub count-unread : (reason : Reason) (place : ℕ) → number bytes next ≡ fault (reason_of reason) place → BehindInto kind bytes at words (Fault reason place) left
-      count-unread reason place f = record { into = λ states old holds. header-fault _ old reason place left (behind-rest states holds.same ∙ rw (pairs-read.1, f)) }
+      pub count-unread : (f : Fault) → number bytes next ≡ faulted f → BehindInto kind bytes at words (Err f) left
+      count-unread f g = record { into = λ states old holds. header-fault _ old f left (behind-rest states holds.same ∙ rw (pairs-read.1, g)) }
 
-      pub header-got : (v operators last : ℕ) → v ≡ get_or words 0 0 → number bytes next ≡ got operators last → BehindInto kind bytes at words (Got v n operators last) left
+      pub header-got : (v operators last : ℕ) → v ≡ get_or words 0 0 → number bytes next ≡ got operators last → BehindInto kind bytes at words (Ok (counted v n operators last)) left
       unfolding front_words HeaderInto
       header-got v operators last same f = record { into = λ states old holds. made states old holds pairs-read.0 pairs-read.1 pairs-read.2 }
         where
           made : (states : States) (old : List ℕ) → Holds states old words → (pairs : List ℕ) → pairs_read ≡ got pairs next → left ≡ with_pairs pairs
-              → HeaderInto (behind_states kind states bytes at) old (Got v n operators last) left
+              → HeaderInto (behind_states kind states bytes at) old (Ok (counted v n operators last)) left
           made states old holds pairs r w =
               let count : n ≡ features states.sizes = total ∙ ap features holds.same in
               let front : behind_states kind states bytes at ≡ got (record { states = states; pairs = pairs; count = operators }) last = behind-rest states holds.same ∙ rw (r, f) in
@@ -129,9 +127,9 @@ module _ (kind : Kind) (bytes : List ℕ) (at : ℕ) (words : List ℕ) (n : ℕ
 -- ---- behind states that were read
 
 module _ (read : Parser States) (bytes : List ℕ) (from : ℕ) (words : List ℕ) where
-  pub states-unread : (kind : Kind) (answer : Step) (reason : Reason) (place : ℕ) (left : List ℕ) → ReadsInto (read bytes from) (λ states. begun words (state_words states)) answer left
-      → answer ≡ code.Fault reason place → HeaderInto (then read (behind_states kind) bytes from) words (Fault reason place) left
-  states-unread kind answer reason place left reads e = header-fault _ words reason place left (unread _ _ _ _ (reads-fault _ _ answer reason place left reads e))
+  pub states-unread : (kind : Kind) (f : Fault) (left : List ℕ) → ReadsInto (read bytes from) (λ states. begun words (state_words states)) (Err f) left
+      → HeaderInto (then read (behind_states kind) bytes from) words (Err f) left
+  states-unread kind f left reads = header-fault _ words f left (unread _ _ _ _ (reads-fault _ _ (Err f) f left reads refl))
 
   module _ (old : List ℕ) (next : ℕ) (known : AfterStates read bytes from words old next) where
     pub cleared : words ≡ replicate (length words) 0 → slots_at most_variables most_features ≤ length words → length old ≡ length words → Cleared old (features (sizes_in old))
@@ -152,6 +150,6 @@ module _ (read : Parser States) (bytes : List ℕ) (from : ℕ) (words : List �
             rw none (rw (zeros-left (length front) (length words))
             (take-replicate (words_for n) (length words - length front) 0 (omega (arith, known.known.1, known.known.0.variables)))))
 
-    pub header-behind : (kind : Kind) (answer : Header) (left : List ℕ) → BehindInto kind bytes next old answer left → HeaderInto (then read (behind_states kind) bytes from) words answer left
+    pub header-behind : (kind : Kind) (answer : Result Header Fault) (left : List ℕ) → BehindInto kind bytes next old answer left → HeaderInto (then read (behind_states kind) bytes from) words answer left
     header-behind kind answer left behind = rw known.is
         (behind.into known.value words (record { are = known.are; count = known.count; same = known.same; ends = known.known.1 }))

@@ -1,5 +1,5 @@
 -- Sizes, start and goal as the code reads them: what is known after each of the three, and each state is read behind what was read before it.
-use Rattle.std.specs.Prelude.{ℕ, ◌≡◌, refl, length, get_or}
+use Rattle.std.specs.Prelude.{ℕ, ◌≡◌, refl, Result, Ok, length, get_or}
 use Rattle.std.proofs.Common.{sym, ap, ◌∙◌, arith}
 use mathlib.Core.List.{List, [], ◌++◌, append-nil, append_assoc}
 use Rattle.std.proofs.Math.ListN.{length-append}
@@ -14,8 +14,7 @@ use Rattle.theory.specs.Numbering.{atoms-room}
 use Rattle.theory.specs.Parts.{header-said, values-said, number-said, feature-list-said}
 use Rattle.theory.specs.Contents.{sizes_in}
 use Rattle.layout.specs.Parts.{sizes_part}
-use Rattle.number.specs.declared.Step.{Step}
-use Rattle.number.specs.declared.Step.TheVariants.{Next}
+use Rattle.number.specs.declared.Fault.{Fault}
 use Rattle.reader.specs.Answer.{written, begun, sized_words, ReadsInto, reads-map}
 use Rattle.reader.specs.After.{After, after, begun_more}
 use Rattle.reader.specs.Front.{started_with, start_of, start_words, States, states_with, states_of, state_words, Front, behind_states}
@@ -48,7 +47,7 @@ Ends sizes words at a = InLimits (sizes a) × (length (words a) ≡ at (length (
 module _ {A B : Type 0} (first : Parser A) (sizes words : A → List ℕ) (at : ℕ → ℕ) (made : A → List ℕ → B) (others : B → List ℕ)
     (are : (a : A) (state : List ℕ) → words a ++ state ≡ others (made a state)) where
   state-behind : (bytes : List ℕ) (from : ℕ) (old new : List ℕ) (next : ℕ) → After (first bytes from) (Ends sizes words at) sizes words old new next
-      → (answer : Step) (left : List ℕ) → ReadsInto (values_of (sizes_in new) bytes next) (written new (at (get_or new 0 0))) answer left
+      → (answer : Result ℕ Fault) (left : List ℕ) → ReadsInto (values_of (sizes_in new) bytes next) (written new (at (get_or new 0 0))) answer left
       → ReadsInto (then first (λ a. then (values_of (sizes a)) (λ state. give (made a state))) bytes from) (λ b. begun old (others b)) answer left
   state-behind bytes from old new next known answer left read =
       rw known.is (
@@ -67,11 +66,11 @@ states-end states h k = omega (arith, length-append states.sizes (states.start +
 abbrev pub AfterStates : Parser States → List ℕ → ℕ → List ℕ → List ℕ → ℕ → Type 0
 AfterStates read bytes from = After (read bytes from) (Ends (λ states. states.sizes) state_words pairs_at) (λ states. states.sizes) state_words
 
-pub after-states : (read : Parser States) (bytes : List ℕ) (from : ℕ) (old : List ℕ) (answer : Step) (left : List ℕ) (next : ℕ)
+pub after-states : (read : Parser States) (bytes : List ℕ) (from : ℕ) (old left : List ℕ) (next : ℕ)
     → ((states : States) → read bytes from ≡ got states next → Ends (λ states. states.sizes) state_words pairs_at states)
-    → ReadsInto (read bytes from) (λ states. begun old (state_words states)) answer left → answer ≡ Next next → AfterStates read bytes from old left next
+    → ReadsInto (read bytes from) (λ states. begun old (state_words states)) (Ok next) left → AfterStates read bytes from old left next
 unfolding state_words
-after-states read bytes from old answer left next = after _ _ _ state_words (λ states. (states.start ++ states.goal, refl)) old answer left next
+after-states read bytes from old left next = after _ _ _ state_words (λ states. (states.start ++ states.goal, refl)) old left next
 
 module _ (bytes : List ℕ) (from : ℕ) (old : List ℕ) where
   abbrev pub AfterSizes : List ℕ → ℕ → Type 0
@@ -80,27 +79,27 @@ module _ (bytes : List ℕ) (from : ℕ) (old : List ℕ) where
   abbrev pub AfterStart : List ℕ → ℕ → Type 0
   AfterStart = After (start_of bytes from) (Ends (λ started. started.sizes) start_words goal_at) (λ started. started.sizes) start_words old
 
-  module _ (answer : Step) (left : List ℕ) (next : ℕ) where
-    pub after-header : ReadsInto (header least_size most_size bytes from) (λ sizes. begun old (sized_words sizes)) answer left → answer ≡ Next next → AfterSizes left next
-    after-header = after _ _ _ sized_words (λ sizes. ([], sym (append-nil (sized_words sizes)))) old answer left next
+  module _ (left : List ℕ) (next : ℕ) where
+    pub after-header : ReadsInto (header least_size most_size bytes from) (λ sizes. begun old (sized_words sizes)) (Ok next) left → AfterSizes left next
+    after-header = after _ _ _ sized_words (λ sizes. ([], sym (append-nil (sized_words sizes)))) old left next
         (λ sizes r. (((header-said bytes).gives from sizes next r).known.0, omega arith))
 
-    pub after-start : ReadsInto (start_of bytes from) (λ started. begun old (start_words started)) answer left → answer ≡ Next next → AfterStart left next
+    pub after-start : ReadsInto (start_of bytes from) (λ started. begun old (start_words started)) (Ok next) left → AfterStart left next
     unfolding start_words
-    after-start = after _ _ _ start_words (λ started. (started.start, refl)) old answer left next
+    after-start = after _ _ _ start_words (λ started. (started.start, refl)) old left next
         (λ started r. let said = ((start-said bytes).gives from started next r).known in (said.0, omega (arith, length-append started.sizes started.start, said.1.full)))
 
-    pub after-goal : ReadsInto (states_of bytes from) (λ states. begun old (state_words states)) answer left → answer ≡ Next next → AfterStates states_of bytes from old left next
-    after-goal = after-states states_of bytes from old answer left next
+    pub after-goal : ReadsInto (states_of bytes from) (λ states. begun old (state_words states)) (Ok next) left → AfterStates states_of bytes from old left next
+    after-goal = after-states states_of bytes from old left next
         (λ states r. let said = ((states-said bytes).gives from states next r).known in (said.0, states-end states said.1.full said.2.full))
 
   module _ (new : List ℕ) (next : ℕ) where
-    pub start-behind : AfterSizes new next → (answer : Step) (left : List ℕ) → ReadsInto (values_of (sizes_in new) bytes next) (written new (start_at (get_or new 0 0))) answer left
+    pub start-behind : AfterSizes new next → (answer : Result ℕ Fault) (left : List ℕ) → ReadsInto (values_of (sizes_in new) bytes next) (written new (start_at (get_or new 0 0))) answer left
         → ReadsInto (start_of bytes from) (λ started. begun old (start_words started)) answer left
     unfolding start_of start_words
     start-behind = state-behind (header least_size most_size) (λ sizes. sizes) sized_words start_at started_with start_words (λ sizes start. refl) bytes from old new next
 
-    pub goal-behind : AfterStart new next → (v : ℕ) → v ≡ get_or new 0 0 → (answer : Step) (left : List ℕ)
+    pub goal-behind : AfterStart new next → (v : ℕ) → v ≡ get_or new 0 0 → (answer : Result ℕ Fault) (left : List ℕ)
         → ReadsInto (values_of (sizes_part v new) bytes next) (written new (goal_at v)) answer left → ReadsInto (states_of bytes from) (λ states. begun old (state_words states)) answer left
     unfolding states_of start_words state_words sizes_in
     goal-behind known v e answer left read = state-behind start_of (λ started. started.sizes) start_words goal_at states_with state_words

@@ -2,34 +2,30 @@
 
 #![tactic(auto)]
 
-ghost use Rattle.std.specs.Prelude.{◌≡◌, ◌+◌, ◌*◌, ◌≤◌, length, get_or, take, drop, replicate};
+ghost use Rattle.std.specs.Prelude.{ℕ, List, ◌≡◌, ◌+◌, ◌*◌, ◌≤◌, length, get_or, take, drop, replicate};
 ghost use Rattle.meaning.specs.Limits.{word_bits, most_variables, most_size, most_features};
-ghost use Rattle.meaning.specs.File.{header as header_of, items_of, size_list, kind_if, mark_of, features_of, feature_list, judged_weights_as};
+ghost use Rattle.meaning.specs.File.{items_of, size_list, kind_if, mark_of, features_of, feature_list, judged_weights_as};
 ghost use Rattle.meaning.specs.Workspace.{start_at, pairs_at, slots_at, words_for};
 ghost use Rattle.meaning.specs.Feature.{atoms, features};
 ghost use Rattle.theory.specs.Contents.{sizes_in};
 ghost use Rattle.number.specs.Answers.{reason_of, place_of};
 ghost use Rattle.reader.specs.Lists.{Apart};
-ghost use Rattle.reader.specs.Header.{features_judged, whole_list};
+ghost use Rattle.reader.specs.Header.{Counts, limited_by, features_judged, whole_list};
 ghost use Rattle.reader.specs.Answer.{written, feature_words, begun, sized_words, ReadsInto};
 ghost use Rattle.words.specs.Toggled.{toggled_all};
 ghost use Rattle.reader.specs.Front.{states_of, state_words, front_of, HeaderInto};
 ghost use Rattle.reader.specs.Pairs.{Cleared, BehindInto};
 
 use limits::{LEAST_SIZE, LEAST_VARIABLES, MOST_FEATURES, MOST_SIZE, MOST_VARIABLES, SIZES_AT};
-use number::{Number, Reason, Step};
+use number::{Fault, Reason};
 
-// What stands before the operators of a task file: how many variables, features and operators there are, and the place after it; or the
-// first fault.
+// What stands before the operators of a task file: how many variables, features and operators there are, and the place after it.
 #[derive(Clone, Copy)]
-pub enum Header {
-    Got {
-        variables: usize,
-        features: usize,
-        operators: usize,
-        next: usize,
-    },
-    Fault(Reason, usize),
+pub struct Header {
+    pub variables: usize,
+    pub features: usize,
+    pub operators: usize,
+    pub next: usize,
 }
 
 // Reads so many numbers from `low` on, each below its bound, into the words from `to` on. The bounds stand in the words from `bounds` on; a number may be
@@ -43,26 +39,18 @@ pub fn items_at(
     count: usize,
     low: usize,
     reason: Reason,
-) -> Step
+) -> Result<usize, Fault>
     requires { (bounds + count ≤ length words.old) × (to + count ≤ length words.old) × Apart bounds to count }
     ensures { ReadsInto (items_of low (reason_of reason) (take count (drop bounds words.old)) bytes.now at) (written words.old to) result words.new }
 {
     let mut next = at;
-    let mut i = 0;
-    while i < count {
+    for i in 0..count {
         let bound = words[bounds + i] as usize;
-        match number::item_at(bytes, next, low, bound, reason) {
-            Number::Got(n, after) => {
-                words[to + i] = n as u64;
-                next = after;
-            }
-            Number::Fault(found, place) => {
-                return Step::Fault(found, place);
-            }
-        }
-        i += 1;
+        let number = number::item_at(bytes, next, low, bound, reason)?;
+        words[to + i] = number.value as u64;
+        next = number.next;
     }
-    Step::Next(next)
+    Ok(next)
 }
 
 // Reads so many numbers from `low` on, all below one bound, into the words from `to` on.
@@ -75,7 +63,7 @@ pub fn items_below(
     low: usize,
     bound: usize,
     reason: Reason,
-) -> Step
+) -> Result<usize, Fault>
     requires { (count ≤ most_variables) × (to + count ≤ length words.old) }
     ensures { ReadsInto (items_of low (reason_of reason) (replicate count bound) bytes.now at) (written words.old to) result words.new }
 {
@@ -85,94 +73,93 @@ pub fn items_below(
 }
 
 // Reads v and v sizes, each from `least` to `most`; N is not judged yet.
-pub fn read_sizes(bytes: &[u8], at: usize, header: &mut [u64], least: usize, most: usize) -> Step
+fn read_sizes(
+    bytes: &[u8],
+    at: usize,
+    header: &mut [u64],
+    least: usize,
+    most: usize,
+) -> Result<usize, Fault>
     requires { (start_at most_variables ≤ length header.old) × (most ≤ most_size) }
     ensures { ReadsInto (size_list least most bytes.now at) (λ sizes. begun header.old (sized_words sizes)) result header.new }
 {
-    match number::item_at(
+    let count = number::item_at(
         bytes,
         at,
         LEAST_VARIABLES,
         MOST_VARIABLES + 1,
         Reason::Limit,
-    ) {
-        Number::Got(v, next) => {
-            header[0] = v as u64;
-            items_below(
-                bytes,
-                next,
-                header,
-                SIZES_AT,
-                v,
-                least,
-                most + 1,
-                Reason::Limit,
-            )
-        }
-        Number::Fault(reason, place) => Step::Fault(reason, place),
-    }
+    )?;
+    let v = count.value;
+    header[0] = v as u64;
+    items_below(
+        bytes,
+        count.next,
+        header,
+        SIZES_AT,
+        v,
+        least,
+        most + 1,
+        Reason::Limit,
+    )
 }
 
 // Judges N behind v sizes that were read from a place on: `next` is the place after them, and a fault is placed at the last of them.
-pub fn judge_features(bytes: &[u8], at: usize, v: usize, n: usize, next: usize) -> Step
+fn judge_features(bytes: &[u8], at: usize, v: usize, n: usize, next: usize) -> Result<usize, Fault>
     ensures { result ≡ place_of (features_judged bytes.now at v n next) }
 {
     if MOST_FEATURES < n {
-        return Step::Fault(Reason::Limit, number::numbers_on(bytes, at, v));
+        return Err(Fault(Reason::Limit, number::numbers_on(bytes, at, v)));
     }
-    Step::Next(next)
+    Ok(next)
 }
 
-// Reads v and the sizes, and judges N.
-fn read_limited(bytes: &[u8], at: usize, header: &mut [u64], least: usize, most: usize) -> Step
-    requires { (start_at most_variables ≤ length header.old) × (most ≤ most_size) }
-    ensures { ReadsInto (header_of least most bytes.now at) (λ sizes. begun header.old (sized_words sizes)) result header.new }
+// Reads v and the sizes, and judges N, which is counted by the sizes.
+pub fn read_limited<F: FnOnce(&[u64]) -> usize>(
+    bytes: &[u8],
+    at: usize,
+    header: &mut [u64],
+    least: usize,
+    most: usize,
+    count: F,
+) -> Result<usize, Fault>
+    ghost total: { List ℕ → ℕ }
+    requires { (start_at most_variables ≤ length header.old) × (most ≤ most_size) × Counts most total (F.pre count) (F.post count) }
+    ensures { ReadsInto (limited_by least most total bytes.now at) (λ sizes. begun header.old (sized_words sizes)) result header.new }
 {
-    match read_sizes(bytes, at, &mut *header, least, most) {
-        Step::Next(next) => {
-            let v = header[0] as usize;
-            let n = numbering::features(layout::sizes(header, v));
-            judge_features(bytes, at, v, n, next)
-        }
-        Step::Fault(reason, place) => Step::Fault(reason, place),
-    }
+    let next = read_sizes(bytes, at, &mut *header, least, most)?;
+    let v = header[0] as usize;
+    let n = count(layout::sizes(header, v));
+    judge_features(bytes, at, v, n, next)
 }
 
 // Reads sizes, start and goal.
-fn read_states(bytes: &[u8], at: usize, header: &mut [u64]) -> Step
+fn read_states(bytes: &[u8], at: usize, header: &mut [u64]) -> Result<usize, Fault>
     requires { pairs_at most_variables ≤ length header.old }
     ensures { ReadsInto (states_of bytes.now at) (λ states. begun header.old (state_words states)) result header.new }
 {
-    match read_limited(bytes, at, &mut *header, LEAST_SIZE, MOST_SIZE) {
-        Step::Next(next) => {
-            let v = header[0] as usize;
-            let start = layout::start_at(v);
-            let goal = layout::goal_at(v);
-            match items_at(
-                bytes,
-                next,
-                &mut *header,
-                SIZES_AT,
-                start,
-                v,
-                0,
-                Reason::Range,
-            ) {
-                Step::Next(after) => items_at(
-                    bytes,
-                    after,
-                    &mut *header,
-                    SIZES_AT,
-                    goal,
-                    v,
-                    0,
-                    Reason::Range,
-                ),
-                Step::Fault(reason, place) => Step::Fault(reason, place),
-            }
-        }
-        Step::Fault(reason, place) => Step::Fault(reason, place),
-    }
+    let next = read_limited(
+        bytes,
+        at,
+        &mut *header,
+        LEAST_SIZE,
+        MOST_SIZE,
+        numbering::features,
+    )?;
+    let v = header[0] as usize;
+    let start = layout::start_at(v);
+    let goal = layout::goal_at(v);
+    let after = items_at(
+        bytes,
+        next,
+        &mut *header,
+        SIZES_AT,
+        start,
+        v,
+        0,
+        Reason::Range,
+    )?;
+    items_at(bytes, after, header, SIZES_AT, goal, v, 0, Reason::Range)
 }
 
 // Reads so many features, from `low` on and below `high`, and toggles each in the words.
@@ -184,27 +171,19 @@ fn features_at(
     high: usize,
     words: &mut [u64],
     count: usize,
-) -> Step
+) -> Result<usize, Fault>
     requires { high ≤ word_bits * length words.old }
     ensures { ReadsInto (features_of (kind_if gapped) count low high 0 bytes.now at) (toggled_all words.old) result words.new }
 {
     let mut next = at;
     let mut least = 0;
-    let mut i = 0;
-    while i < count {
-        match number::feature_at(bytes, next, gapped, low, high, least) {
-            Number::Got(feature, after) => {
-                words::toggle(&mut *words, feature);
-                least = feature + 1;
-                next = after;
-            }
-            Number::Fault(reason, place) => {
-                return Step::Fault(reason, place);
-            }
-        }
-        i += 1;
+    for _ in 0..count {
+        let feature = number::feature_at(bytes, next, gapped, low, high, least)?;
+        words::toggle(&mut *words, feature.value);
+        least = feature.value + 1;
+        next = feature.next;
     }
-    Step::Next(next)
+    Ok(next)
 }
 
 // Reads a count and so many features, from `low` on and below `high`, into words that hold none yet.
@@ -215,18 +194,22 @@ pub fn read_features(
     low: usize,
     high: usize,
     words: &mut [u64],
-) -> Step
+) -> Result<usize, Fault>
     requires { (low ≤ high) × (words.old ≡ replicate (words_for high) 0) }
     ensures { ReadsInto (feature_list (kind_if gapped) low high bytes.now at) (feature_words high) result words.new }
 {
-    match number::number_at(bytes, at) {
-        Number::Got(count, next) => features_at(bytes, next, gapped, low, high, words, count),
-        Number::Fault(reason, place) => Step::Fault(reason, place),
-    }
+    let count = number::number_at(bytes, at)?;
+    features_at(bytes, count.next, gapped, low, high, words, count.value)
 }
 
 // Reads the pairs of a task with n features behind sizes, start and goal.
-fn read_pairs(bytes: &[u8], at: usize, gapped: bool, header: &mut [u64], n: usize) -> Step
+fn read_pairs(
+    bytes: &[u8],
+    at: usize,
+    gapped: bool,
+    header: &mut [u64],
+    n: usize,
+) -> Result<usize, Fault>
     requires { Cleared header.old n }
     ensures { ReadsInto (feature_list (kind_if gapped) (atoms (sizes_in header.old)) n bytes.now at) (λ pairs. written header.old (pairs_at (get_or header.old 0 0)) (feature_words n pairs)) result header.new }
 {
@@ -239,73 +222,75 @@ fn read_pairs(bytes: &[u8], at: usize, gapped: bool, header: &mut [u64], n: usiz
 }
 
 // Reads the mark that files of a kind begin with.
-pub fn read_mark(bytes: &[u8], at: usize, gapped: bool) -> Step
+pub fn read_mark(bytes: &[u8], at: usize, gapped: bool) -> Result<usize, Fault>
     ensures { result ≡ place_of (mark_of (kind_if gapped) bytes.now at) }
 {
     if !gapped {
-        return Step::Next(at);
+        return Ok(at);
     }
-    match number::item_at(bytes, at, 0, 1, Reason::Range) {
-        Number::Got(_, next) => Step::Next(next),
-        Number::Fault(reason, place) => Step::Fault(reason, place),
-    }
+    let mark = number::item_at(bytes, at, 0, 1, Reason::Range)?;
+    Ok(mark.next)
 }
 
 // Reads a list of features of a task with n features up to the end of the file, into words that hold none yet.
-fn read_list(bytes: &[u8], at: usize, gapped: bool, n: usize, words: &mut [u64]) -> Step
+fn read_list(
+    bytes: &[u8],
+    at: usize,
+    gapped: bool,
+    n: usize,
+    words: &mut [u64],
+) -> Result<usize, Fault>
     requires { words.old ≡ replicate (words_for n) 0 }
     ensures { ReadsInto (whole_list (kind_if gapped) n bytes.now at) (feature_words n) result words.new }
 {
-    match read_features(bytes, at, gapped, 0, n, words) {
-        Step::Next(next) => {
-            if next < bytes.len() {
-                return Step::Fault(Reason::LeftOver, next);
-            }
-            Step::Next(next)
-        }
-        Step::Fault(reason, place) => Step::Fault(reason, place),
+    let next = read_features(bytes, at, gapped, 0, n, words)?;
+    if next < bytes.len() {
+        return Err(Fault(Reason::LeftOver, next));
     }
+    Ok(next)
 }
 
 // Reads a whole weight file of a kind, of a task with n features, into words that hold none yet.
-pub fn read_weights(bytes: &[u8], gapped: bool, n: usize, words: &mut [u64]) -> Step
+pub fn read_weights(bytes: &[u8], gapped: bool, n: usize, words: &mut [u64]) -> Result<usize, Fault>
     requires { words.old ≡ replicate (words_for n) 0 }
     ensures { ReadsInto (judged_weights_as (kind_if gapped) n bytes.now) (feature_words n) result words.new }
 {
-    match read_mark(bytes, 0, gapped) {
-        Step::Next(at) => read_list(bytes, at, gapped, n, words),
-        Step::Fault(reason, place) => Step::Fault(reason, place),
-    }
+    let at = read_mark(bytes, 0, gapped)?;
+    read_list(bytes, at, gapped, n, words)
 }
 
 // Reads the pairs and the count of operators behind sizes, start and goal.
-pub fn read_behind(bytes: &[u8], at: usize, gapped: bool, header: &mut [u64]) -> Header
+pub fn read_behind(
+    bytes: &[u8],
+    at: usize,
+    gapped: bool,
+    header: &mut [u64],
+) -> Result<Header, Fault>
     requires { Cleared header.old (features (sizes_in header.old)) }
     ensures { BehindInto (kind_if gapped) bytes.now at header.old result header.new }
 {
     let v = header[0] as usize;
     let n = numbering::features(layout::sizes(header, v));
-    match read_pairs(bytes, at, gapped, &mut *header, n) {
-        Step::Next(next) => match number::number_at(bytes, next) {
-            Number::Got(operators, after) => Header::Got {
-                variables: v,
-                features: n,
-                operators: operators,
-                next: after,
-            },
-            Number::Fault(reason, place) => Header::Fault(reason, place),
-        },
-        Step::Fault(reason, place) => Header::Fault(reason, place),
-    }
+    let next = read_pairs(bytes, at, gapped, header, n)?;
+    let count = number::number_at(bytes, next)?;
+    Ok(Header {
+        variables: v,
+        features: n,
+        operators: count.value,
+        next: count.next,
+    })
 }
 
 // Reads what stands before the operators of a task file of a kind, from the place behind its mark on, into words that are all 0.
-pub fn read_header(bytes: &[u8], at: usize, gapped: bool, header: &mut [u64]) -> Header
+pub fn read_header(
+    bytes: &[u8],
+    at: usize,
+    gapped: bool,
+    header: &mut [u64],
+) -> Result<Header, Fault>
     requires { (slots_at most_variables most_features ≤ length header.old) × (header.old ≡ replicate (length header.old) 0) }
     ensures { HeaderInto (front_of (kind_if gapped) bytes.now at) header.old result header.new }
 {
-    match read_states(bytes, at, &mut *header) {
-        Step::Next(next) => read_behind(bytes, next, gapped, header),
-        Step::Fault(reason, place) => Header::Fault(reason, place),
-    }
+    let next = read_states(bytes, at, &mut *header)?;
+    read_behind(bytes, next, gapped, header)
 }

@@ -13,7 +13,7 @@ use Rattle.meaning.specs.Partial.{built_sizes, built_pairs}
 use Rattle.theory.specs.Flat.{take-replicate}
 use Rattle.theory.specs.Words.{length-packed}
 use Rattle.theory.specs.PartialPairs.{built-length}
-use Rattle.numbering.specs.Sizes.{SmallSizes, limits-small}
+use Rattle.numbering.specs.Sizes.{SmallSizes}
 use Rattle.layout.specs.declared.Places.{Places}
 use Rattle.layout.specs.Places.{places_of}
 use Rattle.layout.specs.Parts.{sizes_part, start_part, goal_part, pairs_part, Headed, length_part, lent-pairs}
@@ -57,13 +57,6 @@ module _ (v n : ℕ) (own : List ℕ) (headed : Headed v n own) where
   goal-long : length (goal_part v own) ≡ v
   goal-long = length_part (goal_at v) v own (omega (arith, headed.words))
 
-  -- There is room for each of the two states.
-  pub start-room : (start : List ℕ) (at k : ℕ) → start ≡ start_part v own → at ≡ start_at v → pairs_at v ≤ k → at + length start ≤ k
-  start-room start at k e q h = omega (arith, ap length e, start-long)
-
-  pub goal-room : (goal : List ℕ) (at k : ℕ) → goal ≡ goal_part v own → at ≡ goal_at v → pairs_at v ≤ k → at + length goal ≤ k
-  goal-room goal at k e q h = omega (arith, ap length e, goal-long)
-
   module _ (sizes : List ℕ) (long : length sizes ≡ v) where
     states-long : length (states_by v sizes own) ≡ pairs_at v
     unfolding states_by
@@ -94,9 +87,6 @@ module _ (v n : ℕ) (own : List ℕ) (headed : Headed v n own) where
 module _ (v n : ℕ) (words : List ℕ) (own : Own v n words) where
   pub own-small : (sizes : List ℕ) → sizes ≡ sizes_part v words → SmallSizes sizes
   own-small sizes e = rw e (small-old (sizes_part v words) own.limits)
-
-  pub wider-small : (wider : List ℕ) → wider ≡ built_sizes (sizes_part v words) → SmallSizes wider
-  wider-small wider e = rw e (limits-small (built_sizes (sizes_part v words)) own.limits)
 
   pub own-long : length (sizes_part v words) ≡ v
   own-long = length_part sizes_at v words (omega (arith, own.headed.words))

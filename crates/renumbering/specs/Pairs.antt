@@ -1,5 +1,5 @@
 -- The listed pairs of a partial file under their new numbers, in the turns in which they are found.
-use Rattle.std.specs.Prelude.{ℕ, ◌*◌, ◌^◌, ◌<◌, ◌≤◌, ◌≡◌, ◌≢◌, Bool, cond, List, [], ◌∷◌, ltb, length, replicate}
+use Rattle.std.specs.Prelude.{ℕ, ◌*◌, ◌<◌, ◌≤◌, ◌≡◌, ◌≢◌, Bool, cond, List, [], ◌∷◌, ltb, length, replicate}
 use Rattle.std.proofs.Math.Path.{refl}
 use Rattle.std.proofs.Common.{sym, ap, ◌∙◌, arith, ne_of_lt, lt-ltb, le-ltb}
 use Rattle.meaning.specs.Sets.{Set, flat, listed}
@@ -14,7 +14,7 @@ use Rattle.theory.specs.Numbering.{both_below, both-less}
 use Rattle.theory.specs.PartialPairs.{built-length, built-size, built-run}
 use Rattle.theory.specs.PartialParts.{features-built}
 use Rattle.numbering.specs.declared.Plane.{Plane}
-use Rattle.numbering.specs.Sizes.{SmallSizes, limits-small}
+use Rattle.numbering.specs.Sizes.{SmallSizes}
 use Rattle.numbering.specs.Planes.{number_in, Spans}
 use Rattle.words.specs.Toggled.{toggled_all, toggled-none, run-packed, length-all}
 
@@ -49,9 +49,6 @@ Inside words f = (f < word_bits * length words) × (f < most_features)
 abbrev pub LineRoom : List ℕ → List ℕ → Plane → Plane → ℕ → ℕ → Type 0
 LineRoom old new from to x end = (y : ℕ) → y < end → Inside old (number_in from x y) × Inside new (number_in to x y)
 
-pub small-fits : (f : ℕ) → f < most_features → f < 2 ^ 64
-small-fits f h = omega arith
-
 -- Sizes with one value more are within every limit, and there is room for the old numbers and for the new ones.
 pub record Renumbers (sizes old wider new : List ℕ) : Type 0 where
   pub built : wider ≡ built_sizes sizes
@@ -69,12 +66,9 @@ small-old sizes h = record {
 }
 
 module _ {sizes old wider new : List ℕ} (r : Renumbers sizes old wider new) (i j : ℕ) (l : i < j) (k : j < length sizes) where
-  -- What is asked to find where the features of two variables stand, before and after.
+  -- What is asked to find where the features of two variables stood before.
   pub old-asks : SmallSizes sizes × (i ≢ j) × (i < length sizes) × (j < length sizes)
   old-asks = (small-old sizes r.limits, ne_of_lt l, omega arith, k)
-
-  pub new-asks : SmallSizes wider × (i ≢ j) × (i < length wider) × (j < length wider)
-  new-asks = rw r.built (limits-small (built_sizes sizes) r.limits, ne_of_lt l, rw (built-length sizes) (omega arith), rw (built-length sizes) k)
 
   module _ (from to : Plane) (spans : Spans sizes i j (both sizes) from) (spanned : Spans wider i j (both wider) to) where
     -- An old value is one of the built task too.

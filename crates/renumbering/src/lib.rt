@@ -23,10 +23,8 @@ pub fn widen(sizes: &[u64], wider: &mut [u64])
     requires { SmallSizes sizes.now × (length wider.old ≡ length sizes.now) }
     ensures { wider.new ≡ built_sizes sizes.now }
 {
-    let mut i = 0;
-    while i < sizes.len() {
-        wider[i] = sizes[i] + 1;
-        i += 1;
+    for (i, wide) in wider.iter_mut().enumerate() {
+        *wide = sizes[i] + 1;
     }
 }
 
@@ -46,15 +44,13 @@ fn renumber_line(old: &[u64], from: Plane, new: &mut [u64], to: Plane, x: usize,
     requires { LineRoom old.now new.old from to x end }
     ensures { new.new ≡ toggled_all new.old (line_pairs (has old.now) from to x end) }
 {
-    let mut y = 0;
-    while y < end {
+    for y in 0..end {
         renumber_pair(
             old,
             numbering::number(from, x, y),
             new,
             numbering::number(to, x, y),
         );
-        y += 1;
     }
 }
 
@@ -68,12 +64,9 @@ fn renumber_block(sizes: &[u64], old: &[u64], wider: &[u64], i: usize, j: usize,
     }
     let from = numbering::plane_of(sizes, i, j);
     let to = numbering::plane_of(wider, i, j);
-    let lines = numbering::size(sizes, i);
     let end = numbering::size(sizes, j);
-    let mut x = 0;
-    while x < lines {
+    for x in 0..numbering::size(sizes, i) {
         renumber_line(old, from, new, to, x, end);
-        x += 1;
     }
 }
 
@@ -82,10 +75,8 @@ fn renumber_row(sizes: &[u64], old: &[u64], wider: &[u64], i: usize, new: &mut [
     requires { Renumbers sizes.now old.now wider.now new.old × (i < length sizes.now) }
     ensures { new.new ≡ toggled_all new.old (row_pairs sizes.now (has old.now) i) }
 {
-    let mut j = 0;
-    while j < sizes.len() {
+    for j in 0..sizes.len() {
         renumber_block(sizes, old, wider, i, j, new);
-        j += 1;
     }
 }
 
@@ -94,10 +85,8 @@ fn renumber(sizes: &[u64], old: &[u64], wider: &[u64], new: &mut [u64])
     requires { Renumbers sizes.now old.now wider.now new.old × (new.old ≡ replicate (words_for (features (built_sizes sizes.now))) 0) }
     ensures { new.new ≡ packed (features (built_sizes sizes.now)) (listed (built_pairs sizes.now (has old.now))) }
 {
-    let mut i = 0;
-    while i < sizes.len() {
+    for i in 0..sizes.len() {
         renumber_row(sizes, old, wider, i, new);
-        i += 1;
     }
 }
 

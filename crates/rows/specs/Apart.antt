@@ -1,6 +1,6 @@
 -- The order in which the difference rows come: variable by variable, value by value.
 use Prim.Native.Nat.{ℕ, zero, suc, ◌+◌, ◌-◌, ◌<◌, ◌≤◌}
-use Rattle.std.specs.Prelude.{◌≡◌, ◌≢◌, Bool, not, ◌&&◌, eqb, ltb}
+use Rattle.std.specs.Prelude.{◌≡◌, ◌≢◌, Bool, not, ◌&&◌, eqb, ltb, Option, Some, None}
 use Rattle.std.proofs.Math.Path.{refl, ap, sym}
 use Rattle.std.proofs.Common.{ap₂, ◌∙◌, add-zero, zero-add}
 use Rattle.std.proofs.Math.Logic.{inl, inr}
@@ -19,10 +19,9 @@ use Rattle.meaning.specs.Task.{value, size}
 use Rattle.theory.specs.Truth.{Test, on, off, test, less, same, more, order}
 use Rattle.theory.specs.Search.{and-none-left, and-none-right, and_both}
 use Rattle.theory.specs.Flat.{flat-cong}
-use Rattle.words.specs.Next.{Clear, Next}
-use Rattle.rows.specs.declared.Place.{Place}
-use Rattle.rows.specs.declared.Place.TheVariants.{At, Done}
-use Rattle.rows.specs.Base.{atoms_at}
+use Rattle.words.specs.Next.{Clear}
+use Rattle.rows.specs.declared.Value.{Value}
+use Rattle.rows.specs.Base.{atoms_at, Found, Least}
 
 -- A value in the set of possible atoms, other than in the base state.
 unfoldable pub wanted_by : List ℕ → Set → List ℕ → ℕ → Set
@@ -44,11 +43,14 @@ module _ (sizes : List ℕ) (wanted : ℕ → Set) where
   wanted_from u y = values_from u (size sizes u - y) y ++ variables_from (length sizes - suc u) (suc u)
 
   -- The same list from its first element, by the code's answer.
-  abbrev pub places_from : Place → List (ℕ × ℕ)
-  places_from (At u y) = (u, y) ∷ wanted_from u (y + 1)
-  places_from Done = []
+  abbrev pub values_on : Option Value → List (ℕ × ℕ)
+  values_on (Some first) = (first.variable, first.value) ∷ wanted_from first.variable (first.value + 1)
+  values_on None = []
 
 -- ---- the next wanted value of a variable, by its next possible values
+
+clear-join : (a : Set) (start x end : ℕ) → Clear a start x → Clear a x end → Clear a start end
+clear-join a start x end h k f i j = elim (test (ltb f x)) [ on e ↦ h f i (ltb-true f x e) | off e ↦ k f (ltb-false f x e) j ]
 
 module _ (sizes : List ℕ) (possible : Set) (base : List ℕ) (u : ℕ) where
   not-base : (y : ℕ) → y ≢ value base u → not (eqb y (value base u)) ≡ true
@@ -58,27 +60,36 @@ module _ (sizes : List ℕ) (possible : Set) (base : List ℕ) (u : ℕ) where
   unfolding wanted_by
   at_base y e = and-none-right (atoms_at sizes possible u y) (not (eqb y (value base u))) (rw (eq-eqb y (value base u) e))
 
-  pub next-other : (n y x : ℕ) → Next (atoms_at sizes possible u) n y x → x ≢ value base u → Next (wanted_by sizes possible base u) n y x
+  pub next-other : (n y x : ℕ) → Found (atoms_at sizes possible u) n y x → x ≢ value base u → Found (wanted_by sizes possible base u) n y x
   unfolding wanted_by
   next-other n y x h d = record {
     above = h.above;
-    within = h.within;
+    below = h.below;
     clear = λ f j k. and-none-left _ _ (h.clear f j k);
-    member = λ l. and_both _ _ (h.member l) (not-base x d);
+    member = and_both _ _ h.member (not-base x d);
   }
 
-  pub next-after : (n y x r : ℕ) → Next (atoms_at sizes possible u) n y x → x ≡ value base u → Next (atoms_at sizes possible u) n (x + 1) r → Next (wanted_by sizes possible base u) n y r
+  pub next-none : (n y : ℕ) → Clear (atoms_at sizes possible u) y n → Clear (wanted_by sizes possible base u) y n
   unfolding wanted_by
-  next-after n y x r h e k = record {
+  next-none n y h f j k = and-none-left _ _ (h f j k)
+
+  -- Up to a possible value that is the base value nothing is wanted.
+  clear-base : (n y x : ℕ) → Found (atoms_at sizes possible u) n y x → x ≡ value base u → Clear (wanted_by sizes possible base u) y (x + 1)
+  unfolding wanted_by
+  clear-base n y x h e f i j = elim (order f x) [
+    | less l ↦ and-none-left _ _ (h.clear f i l)
+    | same q ↦ at_base f (q ∙ e)
+    | more l ↦ absurd (omega arith)
+  ]
+
+  pub next-after : (n y x : ℕ) (r : Option ℕ) → Found (atoms_at sizes possible u) n y x → x ≡ value base u → Least (atoms_at sizes possible u) n (x + 1) r → Least (wanted_by sizes possible base u) n y r
+  next-after n y x (Some z) h e k = let other = next-other n (x + 1) z k (λ q. omega (arith, k.above)) in record {
     above = omega (arith, h.above, k.above);
-    within = k.within;
-    clear = λ f i j. elim (order f x) [
-      | less l ↦ and-none-left _ _ (h.clear f i l)
-      | same q ↦ at_base f (q ∙ e)
-      | more l ↦ and-none-left _ _ (k.clear f (omega arith) j)
-    ];
-    member = λ l. and_both _ _ (k.member l) (not-base r (λ z. omega (arith, k.above)));
+    below = k.below;
+    clear = clear-join (wanted_by sizes possible base u) y (x + 1) z (clear-base n y x h e) other.clear;
+    member = other.member;
   }
+  next-after n y x None h e k = clear-join (wanted_by sizes possible base u) y (x + 1) n (clear-base n y x h e) (next-none n (x + 1) k)
 
 -- ---- the list from its first element
 
@@ -100,19 +111,18 @@ module _ (sizes : List ℕ) (wanted : ℕ → Set) where
   skip u d (suc k) y r e l h = let q : d - y ≡ suc (d - suc y) = omega arith in
       rw (q, h y (omega arith) (omega arith)) (skip u d k (suc y) r (omega arith) l (λ f i j. h f (omega arith) j))
 
-  pub values-found : (u d y r : ℕ) → Next (wanted u) d y r → r < d → values_from sizes wanted u (d - y) y ≡ (u, r) ∷ values_from sizes wanted u (d - (r + 1)) (r + 1)
+  values-found : (u d y r : ℕ) → Found (wanted u) d y r → values_from sizes wanted u (d - y) y ≡ (u, r) ∷ values_from sizes wanted u (d - (r + 1)) (r + 1)
   unfolding values_from
-  values-found u d y r h l = skip u d (r - y) y r (omega (arith, h.above)) h.within h.clear
-      ∙ (let q : d - r ≡ suc (d - suc r) = omega arith in rw (q, h.member l, add-one) refl)
+  values-found u d y r h = skip u d (r - y) y r (omega (arith, h.above)) (omega (arith, h.below)) h.clear
+      ∙ (let q : d - r ≡ suc (d - suc r) = omega (arith, h.below) in rw (q, h.member, add-one) refl)
 
-  pub values-none : (u d y r : ℕ) → Next (wanted u) d y r → d ≤ r → values_from sizes wanted u (d - y) y ≡ []
+  values-none : (u d y : ℕ) → y ≤ d → Clear (wanted u) y d → values_from sizes wanted u (d - y) y ≡ []
   unfolding values_from
-  values-none u d y r h l = skip u d (r - y) y r (omega (arith, h.above)) h.within h.clear
-      ∙ (let q : d - r ≡ 0 = omega arith in rw q refl)
+  values-none u d y l h = skip u d (d - y) y d (omega arith) (omega arith) h ∙ (let q : d - d ≡ 0 = omega arith in rw q refl)
 
-  pub from_found : (u y r : ℕ) → Next (wanted u) (size sizes u) y r → r < size sizes u → wanted_from sizes wanted u y ≡ (u, r) ∷ wanted_from sizes wanted u (r + 1)
+  pub from_found : (u y r : ℕ) → Found (wanted u) (size sizes u) y r → wanted_from sizes wanted u y ≡ (u, r) ∷ wanted_from sizes wanted u (r + 1)
   unfolding wanted_from
-  from_found u y r h l = ap (λ l. l ++ variables_from sizes wanted (length sizes - suc u) (suc u)) (values-found u (size sizes u) y r h l)
+  from_found u y r h = ap (λ l. l ++ variables_from sizes wanted (length sizes - suc u) (suc u)) (values-found u (size sizes u) y r h)
 
   -- Past the last variable there is nothing.
   pub from_end : (u y : ℕ) → length sizes ≤ u → wanted_from sizes wanted u y ≡ []
@@ -126,9 +136,9 @@ module _ (sizes : List ℕ) (wanted : ℕ → Set) where
     | off e ↦ let l : length sizes ≤ u = ltb-false u (length sizes) e in let q : length sizes - u ≡ 0 = omega arith in rw q (sym (from_end u 0 l))
   ]
 
-  pub from_next : (u y r : ℕ) → Next (wanted u) (size sizes u) y r → size sizes u ≤ r → wanted_from sizes wanted u y ≡ wanted_from sizes wanted (u + 1) 0
+  pub from_next : (u y : ℕ) → y ≤ size sizes u → Clear (wanted u) y (size sizes u) → wanted_from sizes wanted u y ≡ wanted_from sizes wanted (u + 1) 0
   unfolding wanted_from
-  from_next u y r h l = ap (λ l. l ++ variables_from sizes wanted (length sizes - suc u) (suc u)) (values-none u (size sizes u) y r h l)
+  from_next u y l h = ap (λ l. l ++ variables_from sizes wanted (length sizes - suc u) (suc u)) (values-none u (size sizes u) y l h)
       ∙ rw add-one (from_start (suc u))
 
   -- ---- what stands in the list

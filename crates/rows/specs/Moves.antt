@@ -1,5 +1,5 @@
--- The code's kinds, atoms and moves in the words of the meaning, and what two of them change together by the grid.
-use Rattle.std.specs.Prelude.{ℕ, ◌*◌, ◌<◌, ◌≡◌, refl, ◌≢◌, true, false, length, get_or, replicate}
+-- The code's kinds and atoms in the words of the meaning, and what two of them change together by the grid.
+use Rattle.std.specs.Prelude.{ℕ, ◌*◌, ◌<◌, ◌≡◌, refl, ◌≢◌, true, false, length, replicate}
 use Rattle.std.proofs.Common.{ap, sym, ◌∙◌, arith, eq-eqb, ne_eqb}
 use mathlib.Core.List.{List, [], ◌∷◌, append-nil, flat_map}
 use Rattle.std.proofs.lemmas.List.{length-replicate}
@@ -7,7 +7,7 @@ use Rattle.meaning.specs.Limits.{word_bits}
 use Rattle.meaning.specs.Task.{Entry, size}
 use Rattle.meaning.specs.Feature.{features, single, both}
 use Rattle.meaning.specs.File.{InLimits}
-use Rattle.meaning.specs.Grid.{Kind, absent, kept, made, used, place}
+use Rattle.meaning.specs.Grid.{Kind, absent, kept, made, used}
 use Rattle.meaning.specs.Workspace.{words_for}
 use Rattle.theory.specs.GridRule.{turns, kinds_of, grid_features}
 use Rattle.numbering.specs.Sizes.{single-limit, both-limit}
@@ -16,7 +16,6 @@ use Rattle.words.specs.Toggled.{toggled_all, length-next, toggled-none, toggled-
 use Rattle.rows.specs.declared.Kind.{Kind as CodeKind}
 use Rattle.rows.specs.declared.Kind.TheVariants.{Absent, Kept, Made, Used}
 use Rattle.rows.specs.declared.Atom.{Atom}
-use Rattle.rows.specs.declared.Move.{Move}
 
 abbrev pub kind_of : CodeKind → Kind
 kind_of Absent = absent
@@ -28,18 +27,11 @@ kind_of Used = used
 abbrev pub atom_of : Atom → List (ℕ × Kind)
 atom_of a = (a.value, kind_of a.kind) ∷ []
 
-abbrev pub entry_of_move : Move → Entry
-entry_of_move m = record { variable = m.variable; before = m.before; after = m.after }
-
--- The entry at a place of three slices.
-abbrev pub move_at : List ℕ → List ℕ → List ℕ → ℕ → Move
-move_at variables befores afters k = record { variable = get_or variables k 0; before = get_or befores k 0; after = get_or afters k 0 }
-
 abbrev pub AtomIn : List ℕ → Atom → Type 0
 AtomIn sizes a = (a.variable < length sizes) × (a.value < size sizes a.variable)
 
-abbrev pub MoveIn : List ℕ → Move → Type 0
-MoveIn sizes m = (m.variable < length sizes) × (m.before < size sizes m.variable) × (m.after < size sizes m.variable)
+abbrev pub EntryIn : List ℕ → Entry → Type 0
+EntryIn sizes e = (e.variable < length sizes) × (e.before < size sizes e.variable) × (e.after < size sizes e.variable)
 
 -- Words for a set of features.
 pub record Room (sizes row : List ℕ) : Type 0 where
@@ -66,13 +58,7 @@ single-room sizes row i x r h = omega (arith, r.long, single-limit sizes r.limit
 pub both-room : (sizes row : List ℕ) (i x j y : ℕ) → Room sizes row → i ≢ j → x < size sizes i → y < size sizes j → both sizes i x j y < word_bits * length row
 both-room sizes row i x j y r d h k = omega (arith, r.long, both-limit sizes r.limits i x j y d h k)
 
--- ---- the grid's rows and columns, and its entries for two atoms
-
-pub place-small : (k : CodeKind) → place (kind_of k) < 4
-place-small Absent = omega arith
-place-small Kept = omega arith
-place-small Made = omega arith
-place-small Used = omega arith
+-- ---- the grid's entries for two atoms
 
 pub kinds-same : (b a : ℕ) → b ≡ a → kinds_of b a ≡ (b, kept) ∷ []
 unfolding kinds_of

@@ -1,6 +1,6 @@
 -- The rows that the code makes one after another are the rows of an operator.
 use Prim.Native.Nat.{ℕ, zero, suc, ◌+◌, ◌<◌}
-use Rattle.std.specs.Prelude.{◌≡◌, Bool, not, ◌&&◌, length}
+use Rattle.std.specs.Prelude.{◌≡◌, Bool, not, ◌&&◌, length, Option, Some, None}
 use Rattle.std.proofs.Math.Path.{refl, ap}
 use Rattle.std.proofs.Common.{sym, ◌∙◌}
 use Rattle.std.proofs.Math.Bool.{true, false, cond}
@@ -16,29 +16,28 @@ use Rattle.theory.specs.Flat.{flat-cong}
 use Rattle.theory.specs.Numbering.{single-below}
 use Rattle.theory.specs.Possible.{possible_atoms, possible-at}
 use Rattle.theory.specs.Rows.{change, base, base-value, apart, wanted, busy_rows, rows_of}
-use Rattle.rows.specs.declared.Place.{Place}
-use Rattle.rows.specs.declared.Place.TheVariants.{At, Done}
+use Rattle.rows.specs.declared.Value.{Value}
 use Rattle.rows.specs.Change.{difference}
 use Rattle.rows.specs.Base.{atoms_at}
-use Rattle.rows.specs.Apart.{wanted_by, wanted_from, places_from, from_in, wanted-all}
+use Rattle.rows.specs.Apart.{wanted_by, wanted_from, values_on, from_in, wanted-all}
 
 -- The difference rows from value y of variable u on.
 unfoldable pub aparts_from : List ℕ → Operator → Set → List ℕ → ℕ → ℕ → List Set
 aparts_from sizes o atoms s u y = map (λ p. difference sizes o s p.0 p.1) (wanted_from sizes (wanted_by sizes atoms s) u y)
 
 -- The same rows from the first one, by the code's answer.
-abbrev pub aparts_at : List ℕ → Operator → Set → List ℕ → Place → List Set
-aparts_at sizes o atoms s (At u y) = difference sizes o s u y ∷ aparts_from sizes o atoms s u (y + 1)
-aparts_at sizes o atoms s Done = []
+abbrev pub aparts_on : List ℕ → Operator → Set → List ℕ → Option Value → List Set
+aparts_on sizes o atoms s (Some first) = difference sizes o s first.variable first.value ∷ aparts_from sizes o atoms s first.variable (first.value + 1)
+aparts_on sizes o atoms s None = []
 
 module _ (sizes : List ℕ) (o : Operator) (atoms : Set) (s : List ℕ) (u y : ℕ) where
-  pub aparts-next : (r : Place) → wanted_from sizes (wanted_by sizes atoms s) u y ≡ places_from sizes (wanted_by sizes atoms s) r → aparts_from sizes o atoms s u y ≡ aparts_at sizes o atoms s r
+  pub aparts-next : (r : Option Value) → wanted_from sizes (wanted_by sizes atoms s) u y ≡ values_on sizes (wanted_by sizes atoms s) r → aparts_from sizes o atoms s u y ≡ aparts_on sizes o atoms s r
   unfolding aparts_from
   aparts-next r e = ap (map (λ p. difference sizes o s p.0 p.1)) e ∙ go r
     where
-      go : (r : Place) → map (λ p. difference sizes o s p.0 p.1) (places_from sizes (wanted_by sizes atoms s) r) ≡ aparts_at sizes o atoms s r
-      go (At u' y') = refl
-      go Done = refl
+      go : (r : Option Value) → map (λ p. difference sizes o s p.0 p.1) (values_on sizes (wanted_by sizes atoms s) r) ≡ aparts_on sizes o atoms s r
+      go (Some first) = refl
+      go None = refl
 
 map-flat : {A B : Type 0} (f : A → B) (n : ℕ) (g : ℕ → List A) → map f (flat n g) ≡ flat n (λ i. map f (g i))
 unfolding flat
@@ -50,12 +49,12 @@ module _ (sizes : List ℕ) (pairs : Set) (o : Operator) (possibles : Set) (agre
   atom-possible u y l k = agree _ (single-below sizes u y k) ∙ possible-at sizes pairs o u y l k
 
   -- A wanted value is in range, and its variable is not named.
-  pub apart_ready : (s : List ℕ) (u y u' y' : ℕ) → wanted_from sizes (wanted_by sizes possibles s) u y ≡ places_from sizes (wanted_by sizes possibles s) (At u' y')
-      → (u' < length sizes) × (y' < size sizes u') × (names o u' ≡ false)
+  pub apart_ready : (s : List ℕ) (u y : ℕ) (r : Value) → wanted_from sizes (wanted_by sizes possibles s) u y ≡ values_on sizes (wanted_by sizes possibles s) (Some r)
+      → (r.variable < length sizes) × (r.value < size sizes r.variable) × (names o r.variable ≡ false)
   unfolding wanted_by
-  apart_ready s u y u' y' e =
-      let (l, k, q) = from_in sizes (wanted_by sizes possibles s) u y (u', y') (rw e (here refl)) in
-      (l, k, not-true _ (and_left (not (names o u')) (possible sizes pairs o u' y') (sym (atom-possible u' y' l k) ∙ and_left (atoms_at sizes possibles u' y') _ q)))
+  apart_ready s u y r e =
+      let (l, k, q) = from_in sizes (wanted_by sizes possibles s) u y (r.variable, r.value) (rw e (here refl)) in
+      (l, k, not-true _ (and_left (not (names o r.variable)) (possible sizes pairs o r.variable r.value) (sym (atom-possible r.variable r.value l k) ∙ and_left (atoms_at sizes possibles r.variable r.value) _ q)))
 
   wanted-same : (u y : ℕ) → u < length sizes → y < size sizes u → wanted_by sizes possibles (base sizes pairs o) u y ≡ wanted sizes pairs o u y
   unfolding wanted_by wanted

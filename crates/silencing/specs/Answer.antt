@@ -127,8 +127,8 @@ module _ (bytes own : List ℕ) (count : ℕ) (sizes start goal pairs : List ℕ
     by-judged outcome q = rw parted.judged (q ∙ ap (λ j. silences_by j (silenced T marks) room) (ap (λ ds. judged_by ds marks) parted.sizes-are ∙ sym (marks-judged T marks)))
 
     -- Marks or sizes that are refused.
-    pub silence-refused : (outcome : Outcome ℕ) (reason : Reason) → judged_by sizes marks ≡ faulty reason → outcome ≡ refuses reason room → Silences bytes marks room outcome
-    silence-refused outcome reason e q = by-judged outcome (q ∙ sym (ap (λ j. silences_by j (silenced T marks) room) e))
+    pub silence-refused : (reason : Reason) → judged_by sizes marks ≡ faulty reason → Silences bytes marks room (refuses reason room)
+    silence-refused reason e = by-judged (refuses reason room) (sym (ap (λ j. silences_by j (silenced T marks) room) e))
 
     -- Marks of another number, a mark above 1, sizes without room for "unknown", more features with it than there may be.
     pub wrong-number : length marks ≢ length sizes → judged_by sizes marks ≡ faulty Range
@@ -161,5 +161,5 @@ module _ (bytes own : List ℕ) (count : ℕ) (sizes start goal pairs : List ℕ
           by-judged outcome (file ∙ ap (λ l. delivered l room) (sym (silenced-bytes T marks (rest_bytes pairs count own) a.goal ok rest)) ∙ sym (ap (λ j. silences_by j (silenced T marks) room) judged))
 
 -- A task that is refused.
-pub task-refused : (bytes marks room : List ℕ) (reason : Reason) (place : ℕ) (outcome : Outcome ℕ) → judged_task bytes ≡ fault reason place → outcome ≡ refuses reason room → Silences bytes marks room outcome
-task-refused bytes marks room reason place outcome e q = rw e q
+pub task-refused : (bytes marks room : List ℕ) (reason : Reason) (place : ℕ) → judged_task bytes ≡ fault reason place → Silences bytes marks room (refuses reason room)
+task-refused bytes marks room reason place e = rw e refl

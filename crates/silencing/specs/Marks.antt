@@ -1,8 +1,9 @@
 -- The marks: what is judged of them and of the sizes, element by element, and the goal values that they name.
 use Prim.Native.Nat.{ℕ, zero, suc, ◌+◌, ◌<◌, ◌≤◌}
-use Rattle.std.specs.Prelude.{◌≡◌, Bool, true, false, ◌&&◌, cond, eqb, leb, ltb, length, set, take, drop, replicate}
+use Rattle.std.specs.Prelude.{◌≡◌, Bool, true, ◌&&◌, cond, eqb, leb, length, set, take, drop, replicate}
+use Rattle.std.specs.List.{list_all}
 use Rattle.std.proofs.Math.Path.{refl, sym, ap}
-use Rattle.std.proofs.Common.{◌∙◌, inl, inr, arith, length-append, drop_of_length-le, drop-cons, length-take-le, take_at, eqb-true, leb-true, ltb-true}
+use Rattle.std.proofs.Common.{◌∙◌, inl, inr, arith, length-append, drop_of_length-le, drop-cons, length-take-le, take_at, eqb-true, lt-ltb, le-ltb, leb-true, leb-false}
 use mathlib.Core.List.Memᴰ.{append_cases}
 use mathlib.Core.List.Memᴰ.{eq_of_singleton}
 use mathlib.Core.List.Memᴰ.{head as here}
@@ -26,26 +27,18 @@ use Rattle.theory.specs.Flat.{in-when, get_d-in}
 
 -- ---- tests of each element
 
-unfoldable pub are_marks : List ℕ → Bool
-are_marks marks = all_of (λ m. ltb m 2) marks
+abbrev pub are_marks : List ℕ → Bool
+are_marks marks = list_all (λ m. leb m 1) marks
 
 -- Each size has room for "unknown".
-unfoldable pub are_roomy : List ℕ → Bool
-are_roomy sizes = all_of (λ d. leb d most_partial_size) sizes
+abbrev pub are_roomy : List ℕ → Bool
+are_roomy sizes = list_all (λ d. leb d most_partial_size) sizes
 
--- What is left of a list passes a test: one element more, or none.
-module _ {A : Type 0} (passes : A → Bool) (l : List A) (i : ℕ) where
-  pub all-next : (d : A) → i < length l → passes (get_or l i d) ≡ true → all_of passes (drop i l) ≡ all_of passes (drop (i + 1) l)
-  unfolding all_of
-  all-next d h e = rw (drop-cons l i d h, add-one i, e) refl
-
-  pub all-stop : (d : A) → i < length l → passes (get_or l i d) ≡ false → all_of passes (drop i l) ≡ false
-  unfolding all_of
-  all-stop d h e = rw (drop-cons l i d h, e) refl
-
-  pub all_end : length l ≤ i → all_of passes (drop i l) ≡ true
-  unfolding all_of
-  all_end h = rw (drop_of_length-le l {i = i} h) refl
+-- The meaning's test of each element.
+all-listed : {A : Type 0} (p : A → Bool) (l : List A) → list_all p l ≡ all_of p l
+unfolding all_of
+all-listed p [] = refl
+all-listed p (a ∷ l) = ap (λ b. p a && b) (all-listed p l)
 
 -- ---- what is judged
 
@@ -55,12 +48,10 @@ pub record Marked (v : ℕ) (marks : List ℕ) : Type 0 where
   pub each : (i : ℕ) → i < length marks → get_or marks i 0 < 2
 
 pub are-marked : (v : ℕ) (marks : List ℕ) → length marks ≡ v → are_marks marks ≡ true → Marked v marks
-unfolding are_marks
-are-marked v marks e h = record { long = e; each = λ i l. ltb-true _ _ (all-at (λ m. ltb m 2) marks h (get_or marks i 0) (get_d-in marks i 0 l)) }
+are-marked v marks e h = record { long = e; each = λ i l. omega (arith, leb-true _ _ (all-at (λ m. leb m 1) marks (sym (all-listed _ marks) ∙ h) (get_or marks i 0) (get_d-in marks i 0 l))) }
 
 pub are-roomy : (sizes : List ℕ) → are_roomy sizes ≡ true → (i : ℕ) → i < length sizes → get_or sizes i 0 ≤ most_partial_size
-unfolding are_roomy
-are-roomy sizes h i l = leb-true _ _ (all-at (λ d. leb d most_partial_size) sizes h (get_or sizes i 0) (get_d-in sizes i 0 l))
+are-roomy sizes h i l = leb-true _ _ (all-at (λ d. leb d most_partial_size) sizes (sym (all-listed _ sizes) ∙ h) (get_or sizes i 0) (get_d-in sizes i 0 l))
 
 -- Number, marks, sizes, and N with "unknown".
 unfoldable pub judged_by : List ℕ → List ℕ → Judged
@@ -69,16 +60,19 @@ judged_by sizes marks =
     (need (are_marks marks) Range (need (are_roomy sizes && leb (features (built_sizes sizes)) most_features) Outgrown fine))
 
 values-marks : (v : ℕ) (marks : List ℕ) (rest : Judged) → length marks ≡ v → values_judged (replicate v 2) marks rest ≡ need (are_marks marks) Range rest
-unfolding values_judged are_marks all_of
+unfolding values_judged
 values-marks zero [] rest e = refl
 values-marks zero (m ∷ ms) rest e = absurd (omega arith)
 values-marks (suc v) [] rest e = absurd (omega arith)
-values-marks (suc v) (m ∷ ms) rest e = elim (test (ltb m 2)) [ on q ↦ rw q (values-marks v ms rest (omega arith)) | off q ↦ rw q refl ]
+values-marks (suc v) (m ∷ ms) rest e = elim (test (leb m 1)) [
+  | on q ↦ rw (lt-ltb m 2 (omega (arith, leb-true m 1 q)), q) (values-marks v ms rest (omega arith))
+  | off q ↦ rw (le-ltb m 2 (omega (arith, leb-false m 1 q)), q) refl
+]
 
 pub marks-judged : (T : Task) (marks : List ℕ) → marks_judged T marks ≡ judged_by T.sizes marks
-unfolding marks_judged judged_by are_roomy
+unfolding marks_judged judged_by
 marks-judged T marks = elim (test (eqb (length marks) (length T.sizes))) [
-  | on q ↦ rw q (values-marks (length T.sizes) marks _ (eqb-true _ _ q))
+  | on q ↦ rw (q, all-listed (λ d. leb d most_partial_size) T.sizes) (values-marks (length T.sizes) marks _ (eqb-true _ _ q))
   | off q ↦ rw q refl
 ]
 

@@ -1,5 +1,5 @@
 -- The parts of the partial file of a task: the front and the pairs anew, and the operators as in the task's file.
-use Rattle.std.specs.Prelude.{ℕ, suc, ◌+◌, ◌*◌, ◌<◌, ◌≤◌, ◌≡◌, Bool, true, false, cond, eqb, ltb, length, take, drop}
+use Rattle.std.specs.Prelude.{Ok, ℕ, suc, ◌+◌, ◌*◌, ◌<◌, ◌≤◌, ◌≡◌, Bool, true, false, cond, eqb, ltb, length, take, drop}
 use Rattle.std.proofs.Math.Path.{refl}
 use Rattle.std.proofs.Common.{sym, ap, ap₂, eqb-true, lt-ltb, le-ltb}
 use mathlib.Core.List.{List, [], ◌∷◌, ◌++◌, append-nil}
@@ -17,7 +17,6 @@ use Rattle.meaning.specs.Partial.{marks_in, named_in, partial_bytes, silenced}
 use Rattle.theory.specs.Truth.{on, off, test}
 use Rattle.theory.specs.NumberBack.{number-bytes-length}
 use Rattle.words.specs.Members.{members_in, members-few}
-use Rattle.writer.specs.declared.Written.TheVariants.{Done}
 use Rattle.writer.specs.Answer.{outcome_of}
 use Rattle.writer.specs.Parts.{Countable, FewWords}
 use Rattle.writer.specs.Widths.{four_lists, numbers-few, list-few, features-few}
@@ -74,7 +73,7 @@ module _ (sizes marks start named rest : List ℕ) where
         → (fourth ≡ third + length (bytes_of number_bytes start)) × (room₃ ≡ take third room₂ ++ (bytes_of number_bytes start ++ drop fourth room₂))
         → (fifth ≡ fourth + length (bytes_of number_bytes named)) × (room₄ ≡ take fourth room₃ ++ (bytes_of number_bytes named ++ drop fifth room₃))
         → (end ≡ fifth + length rest) × (room₅ ≡ take fifth room₄ ++ (rest ++ drop end room₄))
-        → outcome_of (Done end) room₅ ≡ delivered (parts_bytes sizes marks start named rest) room
+        → outcome_of (Ok end) room₅ ≡ delivered (parts_bytes sizes marks start named rest) room
     unfolding parts_bytes
     partial-delivered fit a b c d e =
         let file = parts_bytes sizes marks start named rest in

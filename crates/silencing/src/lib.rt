@@ -14,35 +14,19 @@ ghost use Rattle.silencing.specs.Answer.{Parted, Silent};
 
 use limits::{HEADER_WORDS, MOST_FEATURES, MOST_PARTIAL_SIZE, MOST_VARIABLES};
 use number::Reason;
-use task::Judged;
-use writer::Written;
 
 // Whether each mark is 0 or 1.
 fn are_marks(marks: &[u8]) -> bool
     ensures { result ≡ are_marks marks.now }
 {
-    let mut i = 0;
-    while i < marks.len() {
-        if 1 < marks[i] {
-            return false;
-        }
-        i += 1;
-    }
-    true
+    marks.iter().all(|mark| *mark <= 1)
 }
 
 // Whether each size has room for "unknown".
 fn are_roomy(sizes: &[u64]) -> bool
     ensures { result ≡ are_roomy sizes.now }
 {
-    let mut i = 0;
-    while i < sizes.len() {
-        if MOST_PARTIAL_SIZE < numbering::size(sizes, i) {
-            return false;
-        }
-        i += 1;
-    }
-    true
+    sizes.iter().all(|size| *size as usize <= MOST_PARTIAL_SIZE)
 }
 
 // Puts the goal values that are named in front of a table, and answers how many they are. Each value is put behind them, and stays where its mark counts it.
@@ -51,11 +35,9 @@ fn fill_named(goal: &[u64], marks: &[u8], named: &mut [u64]) -> usize
     ensures { (result ≤ length marks.now) × (take result named.new ≡ picked marks.now goal.now) }
 {
     let mut count = 0;
-    let mut i = 0;
-    while i < marks.len() {
-        named[count] = goal[i];
-        count += marks[i] as usize;
-        i += 1;
+    for (value, mark) in goal.iter().zip(marks) {
+        named[count] = *value;
+        count += *mark as usize;
     }
     count
 }
@@ -89,7 +71,7 @@ fn write_partial(
     count: usize,
     own: &[u8],
     room: &mut [u8],
-) -> Written
+) -> Result<usize, Reason>
     requires { PartialFront sizes.now marks.now start.now named.now × FewWords pairs.now × (count < number_end) }
     ensures { outcome_of result room.new
         ≡ delivered (parts_bytes sizes.now marks.now start.now named.now (rest_bytes pairs.now count own.now)) room.old }
@@ -99,13 +81,13 @@ fn write_partial(
         + writer::numbers_width(start)
         + writer::numbers_width(named);
     if room.len() < front + rest_width(pairs, count, own) {
-        return writer::refuse(Reason::Small);
+        return Err(Reason::Small);
     }
     let second = writer::write_list(room, 0, sizes);
     let third = writer::write_bytes(room, second, marks);
     let fourth = writer::write_numbers(room, third, start);
     let fifth = writer::write_numbers(room, fourth, named);
-    Written::Done(write_rest(room, fifth, pairs, count, own))
+    Ok(write_rest(room, fifth, pairs, count, own))
 }
 
 // Writes the partial file of a task and marks that were judged: so many operators as they stand in the task's file.
@@ -118,7 +100,7 @@ fn deliver(
     pairs: &[u64],
     marks: &[u8],
     room: &mut [u8],
-) -> Written
+) -> Result<usize, Reason>
     requires { Silent sizes.now start.now goal.now marks.now × FewWords pairs.now × (count < number_end) }
     ensures { outcome_of result room.new
         ≡ delivered (parts_bytes sizes.now marks.now start.now (picked marks.now goal.now)
@@ -139,50 +121,42 @@ fn silence_judged(
     pairs: &[u64],
     marks: &[u8],
     room: &mut [u8],
-) -> Written
+) -> Result<usize, Reason>
     requires { (task : List ℕ) × Parted task own.now count sizes.now start.now goal.now pairs.now }
     ensures { (task : List ℕ) → Parted task own.now count sizes.now start.now goal.now pairs.now
         → Silences task marks.now room.old (outcome_of result room.new) }
 {
     if marks.len() != sizes.len() {
-        return writer::refuse(Reason::Range);
+        return Err(Reason::Range);
     }
     if !are_marks(marks) {
-        return writer::refuse(Reason::Range);
+        return Err(Reason::Range);
     }
     if !are_roomy(sizes) {
-        return writer::refuse(Reason::Outgrown);
+        return Err(Reason::Outgrown);
     }
     if MOST_FEATURES < partial::built_features(sizes) {
-        return writer::refuse(Reason::Outgrown);
+        return Err(Reason::Outgrown);
     }
     deliver(own, count, sizes, start, goal, pairs, marks, room)
 }
 
 // Makes the partial file that names of a task's goal what the marks say.
-pub fn silence(task: &[u8], marks: &[u8], room: &mut [u8]) -> Written
+pub fn silence(task: &[u8], marks: &[u8], room: &mut [u8]) -> Result<usize, Reason>
     ensures { Silences task.now marks.now room.old (outcome_of result room.new) }
 {
-    let mut header = [0u64; HEADER_WORDS];
-    match task::judge(task, &mut header) {
-        Judged::Accepted {
-            variables,
-            features,
-            operators,
-            at,
-        } => {
-            let words = &header[..];
-            silence_judged(
-                &task[at..],
-                operators,
-                layout::sizes(words, variables),
-                layout::start(words, variables, features),
-                layout::goal(words, variables, features),
-                layout::pairs(words, variables, features),
-                marks,
-                room,
-            )
-        }
-        Judged::Refused(reason, _) => writer::refuse(reason),
-    }
+    let mut words = [0u64; HEADER_WORDS];
+    let header = task::judge(task, &mut words)?;
+    let v = header.variables;
+    let n = header.features;
+    silence_judged(
+        &task[header.next..],
+        header.operators,
+        layout::sizes(&words, v),
+        layout::start(&words, v, n),
+        layout::goal(&words, v, n),
+        layout::pairs(&words, v, n),
+        marks,
+        room,
+    )
 }

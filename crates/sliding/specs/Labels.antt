@@ -1,21 +1,29 @@
--- Lots that are compared label by label: the turns of the code's loop.
-use Rattle.std.specs.Prelude.{ℕ, ◌+◌, ◌<◌, ◌≡◌, ◌≢◌, true, false, List}
-use Rattle.std.proofs.Math.Path.{refl}
-use Rattle.std.proofs.Common.{add-one, eq-eqb, ne_eqb}
+-- Lots that are compared label by label.
+use Rattle.std.specs.Prelude.{ℕ, ◌<◌, ◌≡◌, ◌≢◌, Bool, true, false, List, length}
+use Rattle.std.specs.Bool.{MatchBool}
+use Rattle.std.specs.List.{range_with_len, AllWithin, HoldsAt}
+use Rattle.std.proofs.Common.{sym, arith, zero-add, eq-eqb, ne_eqb}
+use Rattle.std.proofs.lemmas.List.FromFn.{length-range_with_len, get_or-range_with_len}
 use Rattle.std.proofs.Math.Dec.{eqb}
-use Rattle.meaning.specs.Sets.{every}
 use Rattle.meaning.specs.Bay.{occurrences, equal_lots}
-use Rattle.theory.specs.Search.{and_both, every-not}
+use Rattle.theory.specs.Search.{every-each, every-not}
 
 module _ (start goal : List ℕ) where
-  pub equal-none : equal_lots 0 start goal ≡ true
-  unfolding equal_lots every
-  equal-none = refl
+  -- A label stands as often in both lists, or not.
+  abbrev pub Alike : ℕ → Type 0
+  Alike label = occurrences label start ≡ occurrences label goal
 
-  pub equal-more : (k : ℕ) → equal_lots k start goal ≡ true → occurrences k start ≡ occurrences k goal → equal_lots (k + 1) start goal ≡ true
-  unfolding equal_lots every
-  equal-more k e q = rw (add-one k) (and_both (equal_lots k start goal) (eqb (occurrences k start) (occurrences k goal)) e (eq-eqb (occurrences k start) (occurrences k goal) q))
+  abbrev pub Unlike : ℕ → Type 0
+  Unlike label = occurrences label start ≢ occurrences label goal
 
-  pub equal-not : (n k : ℕ) → k < n → occurrences k start ≢ occurrences k goal → equal_lots n start goal ≡ false
+  -- What a walk over the labels below n tells: all are alike, or one is not.
+  pub equal-told : (n : ℕ) (told : Bool) → let labels = range_with_len 0 n in
+      MatchBool told (AllWithin Alike labels 0 (length labels)) ((k : ℕ) × (k < length labels) × HoldsAt Unlike labels k) → told ≡ equal_lots n start goal
   unfolding equal_lots
-  equal-not n k h d = every-not n (λ label. eqb (occurrences label start) (occurrences label goal)) k h (ne_eqb (occurrences k start) (occurrences k goal) d)
+  equal-told n true each =
+      sym (every-each n _ (λ i l. let known : Alike i = rw (get_or-range_with_len 0 n i 0 l, zero-add) at (each i 0 (omega arith) (omega (arith, length-range_with_len 0 n))) in
+      eq-eqb (occurrences i start) (occurrences i goal) known))
+  equal-told n false (k, l, differs) =
+      let below : k < n = omega (arith, l, length-range_with_len 0 n) in
+      let known : Unlike k = rw (get_or-range_with_len 0 n k 0 below, zero-add) at (differs 0) in
+      sym (every-not n (λ label. eqb (occurrences label start) (occurrences label goal)) k below (ne_eqb (occurrences k start) (occurrences k goal) known))

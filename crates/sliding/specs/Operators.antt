@@ -4,42 +4,49 @@ use Rattle.std.proofs.Math.Path.{refl, ap}
 use Rattle.std.proofs.Common.{sym, ◌∙◌, arith, add-one, lt-ltb, le-ltb}
 use Rattle.std.proofs.Math.Bool.{cond}
 use mathlib.Core.List.{List, [], ◌∷◌, ◌++◌, append-nil, Memᴰ as In}
-use Rattle.meaning.specs.Sets.{flat, table}
-use Rattle.meaning.specs.Limits.{group, most_slots, number_end}
+use Rattle.meaning.specs.Sets.{flat}
+use Rattle.meaning.specs.Limits.{group, most_slots}
 use Rattle.meaning.specs.Number.{group_bytes, number_bytes}
 use Rattle.meaning.specs.Task.{Operator}
 use Rattle.meaning.specs.File.{bytes_of, counted, entry_bytes, operator_bytes}
-use Rattle.meaning.specs.Answer.{operator_in}
 use Rattle.meaning.specs.Bay.{occurrences, occurs_in, exchange, slide, bay_operators}
 use Rattle.theory.specs.Flat.{flat-cong}
 use Rattle.theory.specs.BayMoves.{operator-slide}
 use Rattle.theory.specs.BytesOf.{bytes-each}
-use Rattle.theory.specs.Slices.{entries_in}
-use Rattle.writer.specs.Parts.{Numbers, Triples}
+use Rattle.theory.specs.Walk.{entry_at}
+use Rattle.writer.specs.Parts.{Numbered, Triples}
 use Rattle.writer.specs.Widths.{counted-length}
 use Rattle.sliding.specs.Parts.{Slots, near_in, operators_in, lot_bytes, slide_bytes, gap_bytes, walk_bytes}
 use Rattle.sliding.specs.Turns.{bytes-flat}
 
 -- ---- one operator
 
--- A slide is what three lists of two hold, entries by slot number.
 module _ (p q t : ℕ) where
-  pub slide-ordered : p < q → slide p q t ≡ entries_in (p ∷ q ∷ []) (0 ∷ t ∷ []) (t ∷ 0 ∷ [])
-  unfolding slide operator_in table
+  -- A slide has two entries, by slot number.
+  pub slide-ordered : p < q → slide p q t ≡ exchange p q 0 t
+  unfolding slide
   slide-ordered h = rw (lt-ltb p q h) refl
 
-  pub slide-turned : q ≤ p → slide p q t ≡ entries_in (q ∷ p ∷ []) (t ∷ 0 ∷ []) (0 ∷ t ∷ [])
-  unfolding slide operator_in table
+  pub slide-turned : q ≤ p → slide p q t ≡ exchange q p t 0
+  unfolding slide
   slide-turned h = rw (le-ltb p q h) refl
 
-two-numbers : (a b : ℕ) → a < number_end → b < number_end → Numbers (a ∷ b ∷ [])
-two-numbers a b h k zero l = h
-two-numbers a b h k (suc zero) l = k
-two-numbers a b h k (suc (suc i)) l = absurd (omega arith)
+  -- It can be written.
+  pub slide-written : p < most_slots → q < most_slots → t < most_slots → Triples (slide p q t)
+  unfolding slide
+  slide-written hp hq ht = by (ltb p q)
+    where
+      two : (i j a b : ℕ) → i < most_slots → j < most_slots → a < most_slots → b < most_slots → Triples (exchange i j a b)
+      two i j a b hi hj ha hb = (omega arith, λ k l. each k l)
+        where
+          each : (k : ℕ) → k < 2 → Numbered (entry_at (exchange i j a b) k)
+          each zero l = (omega arith, omega arith, omega arith)
+          each (suc zero) l = (omega arith, omega arith, omega arith)
+          each (suc (suc k)) l = absurd (omega arith)
 
-pub two-triples : (a b c d e f : ℕ) → a < number_end → b < number_end → c < number_end → d < number_end → e < number_end → f < number_end
-    → Triples (a ∷ b ∷ []) (c ∷ d ∷ []) (e ∷ f ∷ [])
-two-triples a b c d e f ha hb hc hd he hf = ((omega arith, two-numbers a b ha hb), refl, refl, two-numbers c d hc hd, two-numbers e f he hf)
+      by : (b : Bool) → Triples (cond b (exchange p q 0 t) (exchange q p t 0))
+      by true = two p q 0 t hp hq (omega arith) ht
+      by false = two q p t 0 hq hp ht (omega arith)
 
 -- ---- how many bytes
 
@@ -60,8 +67,8 @@ slide-width p q t hp hq ht = by (ltb p q)
     by false = exchange-width q p t 0 (omega arith) (omega arith) (omega arith) (omega arith)
 
 -- So has the one that is measured.
-pub one_width : length (operator_bytes (entries_in (0 ∷ 1 ∷ []) (0 ∷ 1 ∷ []) (1 ∷ 0 ∷ []))) ≡ operator_width
-one_width = ap (λ o. length (operator_bytes o)) (sym (slide-ordered 0 1 1 (omega arith))) ∙ slide-width 0 1 1 (omega arith) (omega arith) (omega arith)
+pub one_width : length (operator_bytes (slide 0 1 1)) ≡ operator_width
+one_width = slide-width 0 1 1 (omega arith) (omega arith) (omega arith)
 
 pub operators-length : (near start : List ℕ) → Slots near start
     → length (counted operator_bytes (operators_in near start)) ≡ length (number_bytes (length (operators_in near start))) + operator_width * length (operators_in near start)

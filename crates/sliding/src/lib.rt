@@ -15,36 +15,24 @@ ghost use Rattle.sliding.specs.Parts.{Slots, Uniform, TaskParts, operators_in, t
 ghost use Rattle.sliding.specs.Parts.{places_in, lots_in, lot_bytes, slide_bytes, gap_bytes, walk_bytes};
 
 use limits::{MOST_SLOTS, MOST_WORDS};
+use meaning::Entry;
 use number::Reason;
-use writer::Written;
 
 // How often a label stands in a list.
 fn occurrences(label: usize, labels: &[u64]) -> usize
     ensures { result ≡ occurrences label labels.now }
 {
-    let mut count = 0;
-    let mut i = 0;
-    while i < labels.len() {
-        if labels[i] as usize == label {
-            count += 1;
-        }
-        i += 1;
-    }
-    count
+    labels
+        .iter()
+        .filter(|other| **other as usize == label)
+        .count()
 }
 
 // Two lists hold each label, of as many as the first has slots, equally often.
 fn are_equal(start: &[u64], goal: &[u64]) -> bool
     ensures { result ≡ equal_lots (length start.now) start.now goal.now }
 {
-    let mut label = 0;
-    while label < start.len() {
-        if occurrences(label, start) != occurrences(label, goal) {
-            return false;
-        }
-        label += 1;
-    }
-    true
+    (0..start.len()).all(|label| occurrences(label, start) == occurrences(label, goal))
 }
 
 // Marks in words, by a toggle, the feature that puts a label in the slots i < j, if the label occurs once.
@@ -66,10 +54,8 @@ fn mark_labels(pairs: &mut [u64], sizes: &[u64], start: &[u64], i: usize, j: usi
     if j <= i {
         return;
     }
-    let mut label = 0;
-    while label < sizes.len() {
+    for label in 0..sizes.len() {
         mark_label(pairs, sizes, start, i, j, label);
-        label += 1;
     }
 }
 
@@ -78,10 +64,8 @@ fn mark_slots(pairs: &mut [u64], sizes: &[u64], start: &[u64], i: usize)
     requires { Uniform sizes.now × (features sizes.now ≤ word_bits * length pairs.old) }
     ensures { pairs.new ≡ toggled_all pairs.old (slot_pairs (length sizes.now) start.now i) }
 {
-    let mut j = 0;
-    while j < sizes.len() {
+    for j in 0..sizes.len() {
         mark_labels(pairs, sizes, start, i, j);
-        j += 1;
     }
 }
 
@@ -90,26 +74,32 @@ fn mark_pairs(pairs: &mut [u64], sizes: &[u64], start: &[u64])
     requires { Uniform sizes.now × (features sizes.now ≤ word_bits * length pairs.old) }
     ensures { pairs.new ≡ toggled_all pairs.old (bay_pairs (length sizes.now) (once_in start.now)) }
 {
-    let mut i = 0;
-    while i < sizes.len() {
+    for i in 0..sizes.len() {
         mark_slots(pairs, sizes, start, i);
-        i += 1;
     }
 }
 
-// Writes the operator that slides the pallet t from q into the gap at p, entries by slot number.
-fn write_slide(room: &mut [u8], at: usize, p: usize, q: usize, t: usize) -> usize
-    requires { (p < most_slots) × (q < most_slots) × (t < most_slots) × (at + length (operator_bytes (slide p q t)) ≤ length room.old) }
-    ensures after { result ≡ at + length (operator_bytes (slide p q t)) }
-    ensures written { room.new ≡ take at room.old ++ (operator_bytes (slide p q t) ++ drop result room.old) }
+// The operator that slides the pallet t from q into the gap at p: p goes from 0 to t, q from t to 0, entries by slot number.
+fn slide(p: usize, q: usize, t: usize) -> [Entry; 2]
+    ensures { result ≡ slide p q t }
 {
+    let gap = Entry {
+        variable: p,
+        before: 0,
+        after: t,
+    };
+    let pallet = Entry {
+        variable: q,
+        before: t,
+        after: 0,
+    };
     if p < q {
-        return writer::write_operator(room, at, &[p, q], &[0, t], &[t, 0]);
+        return [gap, pallet];
     }
-    writer::write_operator(room, at, &[q, p], &[t, 0], &[0, t])
+    [pallet, gap]
 }
 
-// Writes it if the label occurs.
+// Writes the operator that slides the pallet t from q into the gap at p, if the label occurs.
 fn write_lot(room: &mut [u8], at: usize, start: &[u64], p: usize, q: usize, t: usize) -> usize
     requires { (p < most_slots) × (q < most_slots) × (t < most_slots) × (at + length (lot_bytes start.now p q t) ≤ length room.old) }
     ensures after { result ≡ at + length (lot_bytes start.now p q t) }
@@ -118,7 +108,7 @@ fn write_lot(room: &mut [u8], at: usize, start: &[u64], p: usize, q: usize, t: u
     if occurrences(t, start) == 0 {
         return at;
     }
-    write_slide(room, at, p, q, t)
+    writer::write_operator(room, at, &slide(p, q, t))
 }
 
 // Writes the operators that slide a pallet from q into the gap at p, for each label from 1 that occurs, if the two are neighbours.
@@ -132,10 +122,8 @@ fn write_slides(room: &mut [u8], at: usize, near: &[u8], start: &[u64], p: usize
         return at;
     }
     let mut next = at;
-    let mut k = 0;
-    while k < n - 1 {
-        next = write_lot(room, next, start, p, q, k + 1);
-        k += 1;
+    for label in 1..n {
+        next = write_lot(room, next, start, p, q, label);
     }
     next
 }
@@ -147,10 +135,8 @@ fn write_gap(room: &mut [u8], at: usize, near: &[u8], start: &[u64], p: usize) -
     ensures written { room.new ≡ take at room.old ++ (gap_bytes near.now start.now p ++ drop result room.old) }
 {
     let mut next = at;
-    let mut q = 0;
-    while q < start.len() {
+    for q in 0..start.len() {
         next = write_slides(room, next, near, start, p, q);
-        q += 1;
     }
     next
 }
@@ -162,10 +148,8 @@ fn write_walk(room: &mut [u8], at: usize, near: &[u8], start: &[u64]) -> usize
     ensures written { room.new ≡ take at room.old ++ (walk_bytes near.now start.now ++ drop result room.old) }
 {
     let mut next = at;
-    let mut p = 0;
-    while p < start.len() {
+    for p in 0..start.len() {
         next = write_gap(room, next, near, start, p);
-        p += 1;
     }
     next
 }
@@ -174,31 +158,16 @@ fn write_walk(room: &mut [u8], at: usize, near: &[u8], start: &[u64]) -> usize
 fn count_places(near: &[u8]) -> usize
     ensures { result ≡ places_in near.now }
 {
-    let mut count = 0;
-    let mut place = 0;
-    while place < near.len() {
-        if near[place] == 1 {
-            count += 1;
-        }
-        place += 1;
-    }
-    count
+    near.iter().filter(|mark| **mark == 1).count()
 }
 
 // How many labels from 1 on occur.
 fn count_lots(start: &[u64]) -> usize
-    requires { 1 ≤ length start.now }
     ensures { result ≡ lots_in start.now }
 {
-    let mut count = 0;
-    let mut k = 0;
-    while k < start.len() - 1 {
-        if occurrences(k + 1, start) != 0 {
-            count += 1;
-        }
-        k += 1;
-    }
-    count
+    (1..start.len())
+        .filter(|label| occurrences(*label, start) != 0)
+        .count()
 }
 
 // How many operators there are: one for each place and each label that slides.
@@ -225,7 +194,7 @@ fn operators_width(near: &[u8], start: &[u64]) -> usize
     ensures { result ≡ length (counted operator_bytes (operators_in near.now start.now)) }
 {
     let count = count_operators(near, start);
-    let each = writer::operator_width(&[0, 1], &[0, 1], &[1, 0]);
+    let each = writer::operator_width(&slide(0, 1, 1));
     number::width(count) + each * count
 }
 
@@ -237,20 +206,20 @@ fn write_task(
     goal: &[u64],
     pairs: &[u64],
     room: &mut [u8],
-) -> Written
+) -> Result<usize, Reason>
     requires { TaskParts near.now sizes.now start.now goal.now pairs.now }
     ensures { outcome_of result room.new ≡ delivered (task_bytes (task_in near.now start.now goal.now)) room.old }
 {
     let front = writer::front_width(false, sizes, start, goal, pairs);
     if room.len() < front + operators_width(near, start) {
-        return writer::refuse(Reason::Small);
+        return Err(Reason::Small);
     }
     let next = writer::write_front(room, false, sizes, start, goal, pairs);
-    Written::Done(write_operators(room, next, near, start))
+    Ok(write_operators(room, next, near, start))
 }
 
 // Writes the task file of slots whose labels were accepted.
-fn deliver(near: &[u8], start: &[u64], goal: &[u64], room: &mut [u8]) -> Written
+fn deliver(near: &[u8], start: &[u64], goal: &[u64], room: &mut [u8]) -> Result<usize, Reason>
     requires { Slots near.now start.now × State (bay_sizes (length start.now)) goal.now }
     ensures { outcome_of result room.new ≡ delivered (task_bytes (task_in near.now start.now goal.now)) room.old }
 {
@@ -262,18 +231,18 @@ fn deliver(near: &[u8], start: &[u64], goal: &[u64], room: &mut [u8]) -> Written
 }
 
 // Judges the labels, the gap of the start first, and writes the task file.
-pub fn build(near: &[u8], start: &[u64], goal: &[u64], room: &mut [u8]) -> Written
+pub fn build(near: &[u8], start: &[u64], goal: &[u64], room: &mut [u8]) -> Result<usize, Reason>
     requires { Slots near.now start.now × State (bay_sizes (length start.now)) goal.now }
     ensures { outcome_of result room.new ≡ built_in near.now start.now goal.now room.old }
 {
     if occurrences(0, start) != 1 {
-        return writer::refuse(Reason::Gaps);
+        return Err(Reason::Gaps);
     }
     if occurrences(0, goal) != 1 {
-        return writer::refuse(Reason::Gaps);
+        return Err(Reason::Gaps);
     }
     if !are_equal(start, goal) {
-        return writer::refuse(Reason::Unequal);
+        return Err(Reason::Unequal);
     }
     deliver(near, start, goal, room)
 }

@@ -27,9 +27,6 @@ slots_in n area i f = ltb i n && has (slot_at (words_for n) area i) f
 pub slot-in : (w i n : ℕ) → i < n → i * w + w ≤ n * w
 slot-in w i n l = omega (arith, mul-le-mul_right w l)
 
-pub slot-upto : (w i m : ℕ) → i ≤ m → i * w + w ≤ m * w + w
-slot-upto w i m l = omega (arith, mul-le-mul_right w l)
-
 pub length-slot : (w i : ℕ) (area : List ℕ) → i * w + w ≤ length area → length (slot_at w area i) ≡ w
 length-slot w i area l = length-take-le w (drop (i * w) area) (rw (length-drop (i * w) area) (omega arith))
 

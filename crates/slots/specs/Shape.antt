@@ -155,20 +155,13 @@ module _ (n i : ℕ) (full slot : List ℕ) where
 
 -- ---- all slots
 
--- The slots below k are all in shape, beside the indices of all.
-abbrev pub AllShaped : ℕ → List ℕ → List ℕ → ℕ → Type 0
-AllShaped n area full k = (i : ℕ) → i < k → Shaped n i (has full) (has (slot_at (words_for n) area i))
-
-module _ (n i : ℕ) (area full : List ℕ) {b : Bool} (t : Tells b (Shaped n i (has full) (has (slot_at (words_for n) area i)))) where
-  pub all-next : b ≡ true → AllShaped n area full i → AllShaped n area full (i + 1)
-  all-next e h j l = elim (order j i) [ less k ↦ h j k | same q ↦ rw q (t.yes e) | more k ↦ absurd (omega arith) ]
-
-  pub all-not : b ≡ false → i < n → Tells false (AllShaped n area full n)
-  all-not e l = never (λ h. clash (t.back (h i l)) e)
+-- The slots are all in shape, beside the indices of all.
+abbrev pub AllShaped : ℕ → List ℕ → List ℕ → Type 0
+AllShaped n area full = (i : ℕ) → i < n → Shaped n i (has full) (has (slot_at (words_for n) area i))
 
 -- The reduced shape is that of each slot beside the indices of those that have their own.
 pub shaped-reduced : {b : Bool} (n : ℕ) (area full : List ℕ) → ((f : ℕ) → has full f ≡ (ltb f n && has (slot_at (words_for n) area f) f))
-    → Tells b (AllShaped n area full n) → Tells b (Reduced n (slots_in n area))
+    → Tells b (AllShaped n area full) → Tells b (Reduced n (slots_in n area))
 unfolding slots_in
 shaped-reduced {b} n area full index = tells-map to from
   where
@@ -179,7 +172,7 @@ shaped-reduced {b} n area full index = tells-map to from
     beyond : (i f : ℕ) → n ≤ i → slots_in n area i f ≡ false
     beyond i f l = elim (test (slots_in n area i f)) [ on e ↦ absurd (omega (arith, inside i f e)) | off e ↦ e ]
 
-    to : AllShaped n area full n → Reduced n (slots_in n area)
+    to : AllShaped n area full → Reduced n (slots_in n area)
     to h = record {
       within = λ i f e. let l = inside i f e in (l, (h i l).within f (sym (slot_has n i area f l) ∙ e));
       low = λ i f j. elim (test (ltb i n)) [ on t ↦ let l = ltb-true i n t in slot_has n i area f l ∙ (h i l).low f j | off t ↦ beyond i f (ltb-false i n t) ];
@@ -187,7 +180,7 @@ shaped-reduced {b} n area full index = tells-map to from
       clear = λ i j e d. elim (test (ltb i n)) [ on t ↦ let l = ltb-true i n t in slot_has n i area j l ∙ (h i l).clear j (index j ∙ e) d | off t ↦ beyond i j (ltb-false i n t) ];
     }
 
-    from : Reduced n (slots_in n area) → AllShaped n area full n
+    from : Reduced n (slots_in n area) → AllShaped n area full
     from R i l = record {
       within = λ f e. (R.within i f (slot_has n i area f l ∙ e)).1;
       low = λ f j. sym (slot_has n i area f l) ∙ R.low i f j;

@@ -19,13 +19,13 @@ ghost use Rattle.slots.specs.Area.{slot_at, slot_put, slots_in, LedArea};
 ghost use Rattle.slots.specs.Waiting.{Indexes, Waiting, settled_in};
 ghost use Rattle.slots.specs.Inserting.{slot_cleared, slot_after};
 ghost use Rattle.slots.specs.Settling.{settled_slot};
-ghost use Rattle.slots.specs.Find.{found};
+ghost use Rattle.slots.specs.Find.{found, Collected};
 ghost use Rattle.slots.specs.Shape.{Apart, Shaped, AllShaped};
 
 use limits::MOST_WORDS;
 
 // Slot i, where slots are w words long.
-fn slot_of<'a>(area: &'a [u64], w: usize, i: usize) -> &'a [u64]
+fn slot_of(area: &[u64], w: usize, i: usize) -> &[u64]
     requires { i * w + w ≤ length area.now }
     ensures { (result.now ≡ slot_at w area.now i) × (length result.now ≡ w) }
 {
@@ -69,6 +69,7 @@ fn add_slots(area: &[u64], n: usize, own: &[u64], chosen: &[u64], start: usize, 
         × (start ≤ n) × ((f : ℕ) → f < start → has own.now f ≡ false) }
     ensures { (f : ℕ) → has row.new f ≡ added (slots_in n area.now) (λ i. has own.now i && has chosen.now i) n (has row.old) f }
 {
+    // A walk and no count: an iterator over the members would be this same walk behind a type of its own.
     let mut p = words::next_shared(own, chosen, start);
     while p < n {
         add_slot(area, n, p, row);
@@ -82,6 +83,7 @@ pub fn reduce(area: &[u64], n: usize, row: &mut [u64])
         × ((f : ℕ) → n ≤ f → has row.old f ≡ false) }
     ensures { row.new ≡ packed n (red (slots_in n area.now) n (has row.old)) }
 {
+    // A walk and no count: the row changes under it, so no iterator can hold it.
     let mut p = words::next_member(row, 0);
     while p < n {
         add_slot(area, n, p, row);
@@ -94,6 +96,7 @@ fn reduce_upward(area: &[u64], n: usize, full: &[u64], row: &mut [u64])
     requires { LedArea n area.now × Indexes (slots_in n area.now) full.now × (length full.now ≡ words_for n) × (length row.old ≡ words_for n) }
     ensures { (f : ℕ) → has row.new f ≡ red (slots_in n area.now) n (has row.old) f }
 {
+    // A walk and no count: the row changes under it, so no iterator can hold it.
     let mut p = words::next_shared(row, full, 0);
     while p < n {
         add_slot(area, n, p, row);
@@ -117,6 +120,7 @@ fn clear_pending(area: &mut [u64], p: usize, pending: &[u64], row: &[u64])
     ensures { (i : ℕ) → slot_at (length row.now) area.new i ≡ slot_cleared (has pending.now) p row.now area.old p i }
 {
     let w = row.len();
+    // A walk and no count: an iterator over the members would be this same walk behind a type of its own.
     let mut i = words::next_member(pending, 0);
     while i < p {
         let base = i * w;
@@ -179,10 +183,8 @@ fn settle_slots(area: &mut [u64], n: usize, full: &[u64], pending: &[u64], row: 
     requires { Waiting n full.now pending.now area.old × (length row.old ≡ words_for n) }
     ensures { area.new ≡ slot_words n (settled_in n pending.now area.old) }
 {
-    let mut i = 0;
-    while i < n {
+    for i in 0..n {
         settle_slot(area, n, full, pending, i, row);
-        i += 1;
     }
 }
 
@@ -209,19 +211,28 @@ fn mark(set: &mut [u64], area: &[u64], w: usize, i: usize, m: usize)
     }
 }
 
+// Marks each of the first `count` slots that has the feature which a closure gives for it.
+fn mark_slots<F: Fn(usize) -> usize>(set: &mut [u64], area: &[u64], count: usize, feature: F)
+    ghost of: { ℕ → ℕ }
+    requires room { (count * length set.old ≤ length area.now) × (count ≤ word_bits * length set.old) }
+    requires callable { (i : ℕ) → i < count → F.pre feature i }
+    requires features { (i m : ℕ) → i < count → F.post feature i m → (m ≡ of i) × (m < word_bits * length set.old) }
+    ensures { Collected (λ i. has (slot_at (length set.old) area.now i) (of i)) (has set.old) count set.new }
+{
+    let w = set.len();
+    for i in 0..count {
+        mark(set, area, w, i, feature(i));
+    }
+}
+
 // The index m and each slot that has it; only the slots up to m can.
 fn witness(area: &[u64], m: usize, set: &mut [u64])
     requires { (m * length set.old + length set.old ≤ length area.now) × (m < word_bits * length set.old) × (m < most_features) }
     ensures { (f : ℕ) → has set.new f ≡ (ltb f (m + 1) && has (slot_at (length set.old) area.now f) m) ⊕ eqb f m }
 {
-    let w = set.len();
     words::clear(set);
     words::toggle(set, m);
-    let mut i = 0;
-    while i <= m {
-        mark(set, area, w, i, m);
-        i += 1;
-    }
+    mark_slots(set, area, m + 1, |_| m);
 }
 
 // The least weights that meet every slot evenly and oddly a set, of which `left` is left: none where nothing is left.
@@ -244,13 +255,8 @@ pub fn indices(area: &[u64], n: usize, full: &mut [u64])
     requires { (length area.now ≡ n * length full.old) × (n ≤ word_bits * length full.old) }
     ensures { (f : ℕ) → has full.new f ≡ (ltb f n && has (slot_at (length full.old) area.now f) f) }
 {
-    let w = full.len();
     words::clear(full);
-    let mut i = 0;
-    while i < n {
-        mark(full, area, w, i, i);
-        i += 1;
-    }
+    mark_slots(full, area, n, |i| i);
 }
 
 // Whether two sets share no feature above i.
@@ -260,10 +266,8 @@ fn apart(a: &[u64], b: &[u64], i: usize) -> bool
 {
     let k = i / words::WORD_BITS;
     let mut common = ((a[k] & b[k]) >> (i % words::WORD_BITS)) >> 1;
-    let mut j = k + 1;
-    while j < a.len() {
-        common = common | (a[j] & b[j]);
-        j += 1;
+    for j in k + 1..a.len() {
+        common |= a[j] & b[j];
     }
     common == 0
 }
@@ -287,20 +291,20 @@ fn is_shaped(slot: &[u64], n: usize, i: usize, full: &[u64]) -> bool
     apart(slot, full, i)
 }
 
+// The same of slot i of an area.
+fn is_slot_shaped(area: &[u64], n: usize, i: usize, full: &[u64]) -> bool
+    requires { (length area.now ≡ n * words_for n) × (length full.now ≡ words_for n) × (n ≤ most_features) × (i < n) }
+    ensures { Tells result (Shaped n i (has full.now) (has (slot_at (words_for n) area.now i))) }
+{
+    is_shaped(slot_of(area, full.len(), i), n, i, full)
+}
+
 // Each slot beside the indices of all.
 fn all_shaped(area: &[u64], n: usize, full: &[u64]) -> bool
     requires { (length area.now ≡ n * words_for n) × (length full.now ≡ words_for n) × (n ≤ most_features) }
-    ensures { Tells result (AllShaped n area.now full.now n) }
+    ensures { Tells result (AllShaped n area.now full.now) }
 {
-    let w = full.len();
-    let mut i = 0;
-    while i < n {
-        if !is_shaped(slot_of(area, w, i), n, i, full) {
-            return false;
-        }
-        i += 1;
-    }
-    true
+    (0..n).all(|i| is_slot_shaped(area, n, i, full))
 }
 
 fn is_reduced_by(area: &[u64], n: usize, full: &mut [u64]) -> bool

@@ -1,5 +1,5 @@
 -- What the judge's answer and the words that it leaves say of a task file; what an answer tells, and what makes one.
-use Rattle.std.specs.Prelude.{ℕ, Bool, take}
+use Rattle.std.specs.Prelude.{ℕ, Bool, take, Result, Ok, Err}
 use Rattle.std.proofs.Math.Path.{◌≡◌, refl, sym, ap}
 use Rattle.std.proofs.Common.{◌∙◌, arith}
 use mathlib.Core.List.{List, []}
@@ -13,34 +13,32 @@ use Rattle.meaning.specs.Workspace.{slots_at, has}
 use Rattle.theory.specs.Parts.{operators-said}
 use Rattle.theory.specs.Accepted.{Readable, writable-readable, read_known, accepted}
 use Rattle.theory.specs.Mending.{ReadAs}
-use Rattle.number.specs.Answers.{reason_of, declared_of, declared-reason, place_of, place-next, place-faulted}
-use Rattle.number.specs.declared.Reason.{Reason}
-use Rattle.number.specs.declared.Step.{Step}
-use Rattle.number.specs.declared.Step.TheVariants as step
-use Rattle.number.specs.declared.Step.TheVariants.{Next}
+use Rattle.number.specs.Answers.{declared-reason, fault_of, faulted, place_of, place-next, place-faulted}
+use Rattle.number.specs.declared.Fault.{Fault}
 use Rattle.layout.specs.Parts as layout
 use Rattle.layout.specs.Parts.{sizes_part, start_part, goal_part, pairs_part}
 use Rattle.reader.specs.declared.Header.{Header}
-use Rattle.reader.specs.declared.Header.TheVariants.{Got, Fault}
 use Rattle.reader.specs.Answer.{begun}
-use Rattle.reader.specs.Front.{Front, front_of, front_words, HeaderInto, task_with}
+use Rattle.reader.specs.Front.{Front, front_of, front_words, header_of, HeaderInto, task_with}
 use Rattle.pairs.specs.Ready.{Listed}
-use Rattle.task.specs.declared.Judged.{Judged}
-use Rattle.task.specs.declared.Judged.TheVariants.{Accepted, Refused}
 use Rattle.task.specs.Header.{header_words, Headed, readable-headed, front-header, front-headed, header-front, header-room, header-parts, header-ready, header-has}
 use Rattle.task.specs.Rest.{judged_by, file_by, rest_of, behind, front-unread, judged-behind, rest-operators, file-marked, file-unmarked}
 
+-- The counts of a task, with a place.
+abbrev pub counts_of : Task → ℕ → Header
+counts_of T at = record { variables = length T.sizes; features = features T.sizes; operators = length T.operators; next = at }
+
 -- An accepted task: the answer has its counts and the place after its front, where its operators are read, and the words left begin with its header.
-pub record AcceptedInto (bytes words : List ℕ) (T : Task) (next : ℕ) (answer : Judged) (left : List ℕ) : Type 0 where
+pub record AcceptedInto (bytes words : List ℕ) (T : Task) (next : ℕ) (answer : Result Header Fault) (left : List ℕ) : Type 0 where
   pub at : ℕ
-  pub counts : answer ≡ Accepted (length T.sizes) (features T.sizes) (length T.operators) at
+  pub counts : answer ≡ Ok (counts_of T at)
   pub operators : operators_of T.sizes (length T.operators) bytes at ≡ got T.operators next
   pub header : left ≡ begun words (header_words T)
 
 -- Where a task is accepted, that; otherwise the answer is the fault, and nothing is said of the words.
-unfoldable pub JudgedInto : Read Task → List ℕ → List ℕ → Judged → List ℕ → Type 0
+unfoldable pub JudgedInto : Read Task → List ℕ → List ℕ → Result Header Fault → List ℕ → Type 0
 JudgedInto (got T next) bytes words answer left = AcceptedInto bytes words T next answer left
-JudgedInto (fault reason place) bytes words answer left = answer ≡ Refused (declared_of reason) place
+JudgedInto (fault reason place) bytes words answer left = answer ≡ Err (fault_of reason place)
 
 -- ---- what an answer tells
 
@@ -111,35 +109,37 @@ pub record AcceptedAs (judging : Read Task) (bytes words left : List ℕ) (v n c
   pub operators : operators_of task.sizes count bytes at ≡ got task.operators next
   pub header : left ≡ begun words (header_words task)
 
-module _ {judging : Read Task} (bytes words : List ℕ) (answer : Judged) (left : List ℕ) where
-  pub judged-told : (v n count at : ℕ) → JudgedInto judging bytes words answer left → answer ≡ Accepted v n count at → AcceptedAs judging bytes words left v n count at
+module _ {judging : Read Task} (bytes words left : List ℕ) where
+  pub judged-told : (h : Header) → JudgedInto judging bytes words (Ok h) left → AcceptedAs judging bytes words left h.variables h.features h.operators h.next
   unfolding JudgedInto
-  judged-told v n count at h e = by judging refl h
+  judged-told h into = by judging refl into
     where
-      by : (read : Read Task) → judging ≡ read → JudgedInto read bytes words answer left → AcceptedAs judging bytes words left v n count at
+      by : (read : Read Task) → judging ≡ read → JudgedInto read bytes words (Ok h) left → AcceptedAs judging bytes words left h.variables h.features h.operators h.next
       by (got T next) q k =
-          let same : Accepted (length T.sizes) (features T.sizes) (length T.operators) k.at ≡ Accepted v n count at = sym k.counts ∙ e in
-          let third : count ≡ length T.operators = cc in
-          let fourth : k.at ≡ at = cc in
-          record { task = T; next = next; judged = q; variables = cc; total = cc; many = third; operators = rw (third, ← fourth) k.operators; header = k.header }
-      by (fault reason place) q k = absurd (let same : Refused (declared_of reason) place ≡ Accepted v n count at = sym k ∙ e in let z : ◌≡◌ {A = ℕ} 0 1 = cc in omega arith)
+          let same : h ≡ counts_of T k.at = cc in
+          record {
+            task = T;
+            next = next;
+            judged = q;
+            variables = ap (λ x. x.variables) same;
+            total = ap (λ x. x.features) same;
+            many = ap (λ x. x.operators) same;
+            operators = rw same k.operators;
+            header = k.header;
+          }
+      by (fault reason place) q k = absurd (let z : ◌≡◌ {A = ℕ} 0 1 = cc in omega arith)
 
-  pub judged-refused : (reason : Reason) (place : ℕ) → JudgedInto judging bytes words answer left → answer ≡ Refused reason place → judging ≡ fault (reason_of reason) place
+  pub judged-refused : (f : Fault) → JudgedInto judging bytes words (Err f) left → judging ≡ faulted f
   unfolding JudgedInto
-  judged-refused reason place h e = by judging h
+  judged-refused f into = by judging into
     where
-      by : (read : Read Task) → JudgedInto read bytes words answer left → read ≡ fault (reason_of reason) place
-      by (got T next) k = absurd (let same : Accepted (length T.sizes) (features T.sizes) (length T.operators) k.at ≡ Refused reason place = sym k.counts ∙ e in
-          let z : ◌≡◌ {A = ℕ} 0 1 = cc in omega arith)
-      by (fault other there) k =
-          let same : Refused (declared_of other) there ≡ Refused reason place = sym k ∙ e in
-          let found : step.Fault (declared_of other) there ≡ step.Fault reason place = cc in
-          place-faulted (fault other there) reason place found
+      by : (read : Read Task) → JudgedInto read bytes words (Err f) left → read ≡ faulted f
+      by (got T next) k = absurd (let z : ◌≡◌ {A = ℕ} 0 1 = cc in omega arith)
+      by (fault other there) k = place-faulted {A = Task} (fault other there) f cc
 
 -- A task file that was judged wholly.
-pub judged-accepted : (bytes words : List ℕ) (answer : Judged) (left : List ℕ) (v n count at : ℕ) → JudgedInto (judged_task bytes) bytes words answer left → answer ≡ Accepted v n count at
-    → Known bytes words left v n count at
-judged-accepted bytes words answer left v n count at h e = let told = judged-told bytes words answer left v n count at h e in record {
+pub judged-accepted : (bytes words left : List ℕ) (h : Header) → JudgedInto (judged_task bytes) bytes words (Ok h) left → Known bytes words left h.variables h.features h.operators h.next
+judged-accepted bytes words left h into = let told = judged-told bytes words left h into in record {
   accepted = record {
     task = told.task;
     next = told.next;
@@ -195,56 +195,49 @@ abbrev pub Fronted : Kind → List ℕ → ℕ → List ℕ → List ℕ → ℕ
 Fronted kind bytes from = FrontedAs (front_of kind bytes from)
 
 -- What the reader of a front tells.
-module _ (reading : Read Front) (words : List ℕ) (answer : Header) (left : List ℕ) (h : HeaderInto reading words answer left) where
-  pub front-told : (v n count at : ℕ) → answer ≡ Got v n count at → FrontedAs reading words left v n count at
+module _ (reading : Read Front) (words left : List ℕ) where
+  pub front-told : (h : Header) → HeaderInto reading words (Ok h) left → FrontedAs reading words left h.variables h.features h.operators h.next
   unfolding HeaderInto
-  front-told v n count at e = by reading refl h
+  front-told h into = by reading refl into
     where
-      by : (read : Read Front) → reading ≡ read → HeaderInto read words answer left → FrontedAs reading words left v n count at
+      by : (read : Read Front) → reading ≡ read → HeaderInto read words (Ok h) left → FrontedAs reading words left h.variables h.features h.operators h.next
       by (got front next) q k =
-          let same : Got (length front.states.sizes) (features front.states.sizes) front.count next ≡ Got v n count at = sym k.0 ∙ e in
-          let fourth : next ≡ at = cc in
-          record { front = front; read = q ∙ ap (got front) fourth; variables = cc; total = cc; many = cc; words_are = k.1 }
-      by (fault reason place) q k = absurd (let same : Fault (declared_of reason) place ≡ Got v n count at = sym k ∙ e in let z : ◌≡◌ {A = ℕ} 0 1 = cc in omega arith)
+          let same : h ≡ header_of front next = cc in
+          record {
+            front = front;
+            read = q ∙ ap (got front) (sym (ap (λ x. x.next) same));
+            variables = ap (λ x. x.variables) same;
+            total = ap (λ x. x.features) same;
+            many = ap (λ x. x.operators) same;
+            words_are = k.1;
+          }
+      by (fault reason place) q k = absurd (let z : ◌≡◌ {A = ℕ} 0 1 = cc in omega arith)
 
-  pub front-faulted : (reason : Reason) (place : ℕ) → answer ≡ Fault reason place → reading ≡ fault (reason_of reason) place
+  pub front-faulted : (f : Fault) → HeaderInto reading words (Err f) left → reading ≡ faulted f
   unfolding HeaderInto
-  front-faulted reason place e = by reading h
+  front-faulted f into = by reading into
     where
-      by : (read : Read Front) → HeaderInto read words answer left → read ≡ fault (reason_of reason) place
-      by (got front next) k =
-          absurd (let same : Got (length front.states.sizes) (features front.states.sizes) front.count next ≡ Fault reason place = sym k.0 ∙ e in
-          let z : ◌≡◌ {A = ℕ} 0 1 = cc in omega arith)
-      by (fault other there) k =
-          let same : Fault (declared_of other) there ≡ Fault reason place = sym k ∙ e in
-          let found : step.Fault (declared_of other) there ≡ step.Fault reason place = cc in
-          place-faulted (fault other there) reason place found
+      by : (read : Read Front) → HeaderInto read words (Err f) left → read ≡ faulted f
+      by (got front next) k = absurd (let e = k.0 in let z : ◌≡◌ {A = ℕ} 0 1 = cc in omega arith)
+      by (fault other there) k = place-faulted {A = Front} (fault other there) f cc
 
 -- A fault, whatever was judged.
-answer-refused : (judging : Read Task) (bytes words left : List ℕ) (reason : Reason) (place : ℕ) → judging ≡ fault (reason_of reason) place
-    → JudgedInto judging bytes words (Refused reason place) left
+answer-refused : (judging : Read Task) (bytes words left : List ℕ) (f : Fault) → judging ≡ faulted f → JudgedInto judging bytes words (Err f) left
 unfolding JudgedInto
-answer-refused judging bytes words left reason place e = rw e (ap (λ r. Refused r place) (sym (declared-reason reason)))
-
--- What is the same, judged, is answered so.
-pub answer-same : {judging asked : Read Task} (bytes words left : List ℕ) (answer : Judged) → judging ≡ asked → JudgedInto judging bytes words answer left
-    → JudgedInto asked bytes words answer left
-answer-same bytes words left answer e judged = rw (← e) judged
+answer-refused judging bytes words left f e = rw e (ap (λ r. Err (record { 0 = r; 1 = f.1 })) (sym (declared-reason f.0)))
 
 -- A file by its mark.
 module _ (kind : Kind) (wholly : Bool) (bytes words left : List ℕ) where
-  pub marked-judged : (at : ℕ) (answer : Judged) → Next at ≡ place_of (mark_of kind bytes 0) → JudgedInto (judged_by kind wholly bytes at) bytes words answer left
+  pub marked-judged : (at : ℕ) (answer : Result Header Fault) → Ok at ≡ place_of (mark_of kind bytes 0) → JudgedInto (judged_by kind wholly bytes at) bytes words answer left
       → JudgedInto (file_by kind wholly bytes) bytes words answer left
   marked-judged at answer e judged = let (mark, read) = place-next (mark_of kind bytes 0) at (sym e) in rw (file-marked kind bytes wholly mark at read) judged
 
-  pub unmarked-judged : (reason : Reason) (place : ℕ) → step.Fault reason place ≡ place_of (mark_of kind bytes 0) → JudgedInto (file_by kind wholly bytes) bytes words (Refused reason place) left
-  unmarked-judged reason place e =
-      answer-refused _ bytes words left reason place (file-unmarked kind bytes wholly (reason_of reason) place (place-faulted (mark_of kind bytes 0) reason place (sym e)))
+  pub unmarked-judged : (f : Fault) → Err f ≡ place_of (mark_of kind bytes 0) → JudgedInto (file_by kind wholly bytes) bytes words (Err f) left
+  unmarked-judged f e = answer-refused _ bytes words left f (file-unmarked kind bytes wholly _ _ (place-faulted (mark_of kind bytes 0) f (sym e)))
 
 module _ (kind : Kind) (bytes : List ℕ) (from : ℕ) (words left : List ℕ) where
-  pub front-refused : (wholly : Bool) (reason : Reason) (place : ℕ) → front_of kind bytes from ≡ fault (reason_of reason) place
-      → JudgedInto (judged_by kind wholly bytes from) bytes words (Refused reason place) left
-  front-refused wholly reason place e = answer-refused _ bytes words left reason place (front-unread kind bytes from wholly (reason_of reason) place e)
+  pub front-refused : (wholly : Bool) (f : Fault) → front_of kind bytes from ≡ faulted f → JudgedInto (judged_by kind wholly bytes from) bytes words (Err f) left
+  front-refused wholly f e = answer-refused _ bytes words left f (front-unread kind bytes from wholly _ _ e)
 
   module _ (v n count at : ℕ) (known : Fronted kind bytes from words left v n count at) where
     -- A task with this front, and its header.
@@ -273,28 +266,31 @@ module _ (kind : Kind) (bytes : List ℕ) (from : ℕ) (words left : List ℕ) w
         lent-behind : rest ≡ behind kind bytes from known.front at wholly
         lent-behind = let parts = left-parts fronted-left in rw (sizes-are ∙ parts.0, start_is ∙ parts.1, ap has pairs-are ∙ parts.3, known.many)
 
-        module _ (answer : Step) (told : answer ≡ place_of rest) where
-          pub rest-refused : (reason : Reason) (place : ℕ) → answer ≡ step.Fault reason place → JudgedInto (judged_by kind wholly bytes from) bytes words (Refused reason place) left
-          rest-refused reason place e =
-              let found : behind kind bytes from known.front at wholly ≡ fault (reason_of reason) place = sym lent-behind ∙ place-faulted rest reason place (sym told ∙ e) in
-              answer-refused _ bytes words left reason place (judged-behind kind bytes from known.front at wholly known.read ∙ rw found)
+        pub rest-refused : (f : Fault) → Err f ≡ place_of rest → JudgedInto (judged_by kind wholly bytes from) bytes words (Err f) left
+        rest-refused f told =
+            let found : behind kind bytes from known.front at wholly ≡ faulted f = sym lent-behind ∙ place-faulted rest f (sym told) in
+            answer-refused _ bytes words left f (judged-behind kind bytes from known.front at wholly known.read ∙ rw found)
 
-          pub rest-accepted : (next : ℕ) → answer ≡ Next next → JudgedInto (judged_by kind wholly bytes from) bytes words (Accepted v n count at) left
-          unfolding JudgedInto
-          rest-accepted next e = let (operators, read) = place-next rest next (sym told ∙ e) in passed operators (sym lent-behind ∙ read)
-            where
-              made : (operators : List Operator) → operators_of known.front.states.sizes known.front.count bytes at ≡ got operators next → length operators ≡ known.front.count
-                  → AcceptedInto bytes words (begins operators) next (Accepted v n count at) left
-              made operators read long = record {
-                at = at;
-                counts = rw (known.variables, known.total, known.many, long) refl;
-                operators = rw long read;
-                header = header-words operators;
-              }
+        -- The counts, and the place where the operators begin.
+        abbrev accepted-counts : Header
+        accepted-counts = record { variables = v; features = n; operators = count; next = at }
 
-              passed : (operators : List Operator) → behind kind bytes from known.front at wholly ≡ got operators next
-                  → JudgedInto (judged_by kind wholly bytes from) bytes words (Accepted v n count at) left
-              passed operators found =
-                  let all : judged_by kind wholly bytes from ≡ got (begins operators) next = judged-behind kind bytes from known.front at wholly known.read ∙ rw found in
-                  let read = rest-operators wholly known.front.states.sizes (listed known.front.pairs) known.front.states.start known.front.count bytes at operators next found in
-                  rw all (made operators read ((operators-said bytes known.front.states.sizes known.front.count).gives at operators next read).known.0)
+        pub rest-accepted : (next : ℕ) → Ok next ≡ place_of rest → JudgedInto (judged_by kind wholly bytes from) bytes words (Ok accepted-counts) left
+        unfolding JudgedInto
+        rest-accepted next told = let (operators, read) = place-next rest next (sym told) in passed operators (sym lent-behind ∙ read)
+          where
+            made : (operators : List Operator) → operators_of known.front.states.sizes known.front.count bytes at ≡ got operators next → length operators ≡ known.front.count
+                → AcceptedInto bytes words (begins operators) next (Ok accepted-counts) left
+            made operators read long = record {
+              at = at;
+              counts = rw (known.variables, known.total, known.many, long) refl;
+              operators = rw long read;
+              header = header-words operators;
+            }
+
+            passed : (operators : List Operator) → behind kind bytes from known.front at wholly ≡ got operators next
+                → JudgedInto (judged_by kind wholly bytes from) bytes words (Ok accepted-counts) left
+            passed operators found =
+                let all : judged_by kind wholly bytes from ≡ got (begins operators) next = judged-behind kind bytes from known.front at wholly known.read ∙ rw found in
+                let read = rest-operators wholly known.front.states.sizes (listed known.front.pairs) known.front.states.start known.front.count bytes at operators next found in
+                rw all (made operators read ((operators-said bytes known.front.states.sizes known.front.count).gives at operators next read).known.0)

@@ -1,23 +1,22 @@
 -- What a call that delivers a line answers; that it has one outcome; and that a line which fits is written, and ends within the room.
-use Rattle.std.specs.Prelude.{ℕ, ◌≤◌, ◌≡◌, List, [], ◌++◌, ltb, length, take, drop}
+use Rattle.std.specs.Prelude.{ℕ, ◌≤◌, ◌≡◌, List, [], ◌++◌, ltb, length, take, drop, Result, Ok, Err}
 use Rattle.std.proofs.Common.{sym, ap, ◌∙◌, arith, length-append, ltb-true, ltb-false}
 use Rattle.meaning.specs.Answer.{Answer, done, Outcome, writes, delivered}
 use Rattle.theory.specs.Determined.{AtMostOne}
 use Rattle.theory.specs.Truth.{on, off, test}
 use Rattle.writer.specs.Answer.{outcome_of}
 use Rattle.writer.specs.Remains.{delivered-small, delivered-whole}
-use Rattle.writer.specs.declared.Written.{Written}
-use Rattle.writer.specs.declared.Written.TheVariants.{Done, Refused}
+use Rattle.number.specs.declared.Reason.{Reason}
 
 -- A line, if it was written, ends within so many bytes.
-abbrev pub EndsWithin : ℕ → Written → Type 0
-EndsWithin bytes (Done end) = end ≤ bytes
-EndsWithin bytes (Refused number) = Unit {0}
+abbrev pub EndsWithin : ℕ → Result ℕ Reason → Type 0
+EndsWithin bytes (Ok end) = end ≤ bytes
+EndsWithin bytes (Err reason) = Unit {0}
 
 -- The line that stands in front of a room; nothing where it was refused.
-abbrev pub line_in : Written → List ℕ → List ℕ
-line_in (Done end) room = take end room
-line_in (Refused number) room = []
+abbrev pub line_in : Result ℕ Reason → List ℕ → List ℕ
+line_in (Ok end) room = take end room
+line_in (Err reason) room = []
 
 module _ {A : Type 0} (Allows : Answer A → Type 0) (line_of : Answer A → List ℕ) (room : List ℕ) where
   -- The line of an allowed answer goes to the front of the room; 8 where the room is too short for it.
@@ -28,9 +27,9 @@ module _ {A : Type 0} (Allows : Answer A → Type 0) (line_of : Answer A → Lis
   line-of-only only a b (x, p, e) (y, q, f) = e ∙ ap (λ answer. delivered (line_of answer) room) (only x y p q) ∙ sym f
 
   -- A line that was written ends within the room.
-  pub line-of-ends : (left : List ℕ) (result : Written) → LineOf (outcome_of result left) → EndsWithin (length left) result
-  line-of-ends left (Refused number) lines = tt
-  line-of-ends left (Done end) (answer, allowed, e) = elim (test (ltb (length room) (length (line_of answer)))) [
+  pub line-of-ends : (left : List ℕ) (result : Result ℕ Reason) → LineOf (outcome_of result left) → EndsWithin (length left) result
+  line-of-ends left (Err reason) lines = tt
+  line-of-ends left (Ok end) (answer, allowed, e) = elim (test (ltb (length room) (length (line_of answer)))) [
     | on t ↦ absurd (let z : ◌≡◌ {A = ℕ} 0 1 = cc (ap (λ (o : Outcome ℕ). o.answer) (e ∙ delivered-small (line_of answer) room (ltb-true _ _ t))) in omega arith)
     | off t ↦
         let q = e ∙ delivered-whole (line_of answer) room (ltb-false _ _ t) in

@@ -1,6 +1,5 @@
 -- The parts of a line one behind the other, and how long a refusal's line is.
 use Rattle.std.specs.Prelude.{ℕ, ◌+◌, ◌^◌, ◌<◌, ◌≤◌, ◌≡◌, List, [], ◌∷◌, ◌++◌, length, take, drop}
-use Rattle.std.proofs.Math.Path.{refl}
 use Rattle.std.proofs.Common.{ap, ◌∙◌, length-append, take_at}
 use native.Mathlib.Omega.{arith}
 use Rattle.meaning.specs.Number.{Reason, Ends, Padded, Endless, Limit, Range, Unordered, LeftOver, Outgrown, Held, Unclosed}
@@ -10,9 +9,6 @@ use Rattle.meaning.specs.Place.{Spot, nowhere, in_task, in_weights}
 use Rattle.meaning.specs.Line.{word, at_place, spot_text, refused_line}
 use Rattle.theory.specs.Refusals.{Faulty}
 use Rattle.theory.specs.Shown.{SpotWithin}
-use Rattle.placing.specs.Answers.{spot_of}
-use Rattle.placing.specs.declared.Spot as code
-use Rattle.placing.specs.declared.Spot.TheVariants.{Nowhere, InTask, InWeights}
 use Rattle.decimal.specs.Decimal.{word_width, word-few}
 use Rattle.decimal.specs.Put.{Put, put-behind}
 
@@ -49,20 +45,6 @@ pub place-put : (place : ℕ) (file : List ℕ) {at : ℕ} {text line₁ line₂
     → Put text at (32 ∷ 97 ∷ 116 ∷ []) first line₁ → Put line₁ first (word place) second line₂ → Put line₂ second file end line₃ → Put text at (at_place place ++ file) end line₃
 unfolding at_place
 place-put place file h a b c = put-behind h (put-behind h a b) c
-
--- What is put for each spot of the code.
-module _ (task weights : List ℕ) (spot : code.Spot) where
-  pub spot-none : spot ≡ Nowhere → spot_text task weights (spot_of spot) ≡ []
-  unfolding spot_text
-  spot-none e = rw e refl
-
-  pub spot-task : (place : ℕ) → spot ≡ InTask place → spot_text task weights (spot_of spot) ≡ at_place place ++ task
-  unfolding spot_text
-  spot-task place e = rw e refl
-
-  pub spot-weights : (place : ℕ) → spot ≡ InWeights place → spot_text task weights (spot_of spot) ≡ at_place place ++ weights
-  unfolding spot_text
-  spot-weights place e = rw e refl
 
 -- How long a refusal's line is by what stands behind its number, and what stands there by its place.
 pub refused-long : (number : ℕ) (behind : List ℕ) → length (refused_line number behind) ≡ 7 + length (word number) + length behind + 1

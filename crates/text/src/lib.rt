@@ -12,7 +12,6 @@ ghost use Rattle.text.specs.Answer.{EndsWithin, line_in};
 
 use number::Reason;
 use placing::Spot;
-use writer::Written;
 
 // Seven decimal digits hold every number of the lines but a place.
 const MOST_DIGITS: usize = 7;
@@ -52,19 +51,25 @@ fn put_place(text: &mut [u8], at: usize, place: usize, file: &[u8]) -> usize
 }
 
 // Puts where a fault stands, with the names of the two files.
-fn put_spot(text: &mut [u8], at: usize, spot: Spot, task: &[u8], weights: &[u8]) -> usize
+fn put_spot(text: &mut [u8], at: usize, spot: Option<Spot>, task: &[u8], weights: &[u8]) -> usize
     requires { at + length (spot_text task.now weights.now (spot_of spot)) ≤ length text.old }
     ensures { Put text.old at (spot_text task.now weights.now (spot_of spot)) result text.new }
 {
     match spot {
-        Spot::Nowhere => at,
-        Spot::InTask(place) => put_place(text, at, place, task),
-        Spot::InWeights(place) => put_place(text, at, place, weights),
+        None => at,
+        Some(Spot::InTask(place)) => put_place(text, at, place, task),
+        Some(Spot::InWeights(place)) => put_place(text, at, place, weights),
     }
 }
 
 // Puts the line for a refusal, with the names of the two files.
-pub fn put_refused(text: &mut [u8], number: u64, spot: Spot, task: &[u8], weights: &[u8]) -> usize
+pub fn put_refused(
+    text: &mut [u8],
+    number: u64,
+    spot: Option<Spot>,
+    task: &[u8],
+    weights: &[u8],
+) -> usize
     requires { length (refused_line number (spot_text task.now weights.now (spot_of spot))) ≤ length text.old }
     ensures { Put text.old 0 (refused_line number (spot_text task.now weights.now (spot_of spot))) result text.new }
 {
@@ -75,22 +80,22 @@ pub fn put_refused(text: &mut [u8], number: u64, spot: Spot, task: &[u8], weight
 }
 
 // Puts a text in front of a room that is long enough for it.
-pub fn deliver(text: &[u8], room: &mut [u8]) -> Written
+pub fn deliver(text: &[u8], room: &mut [u8]) -> Result<usize, Reason>
     ensures { outcome_of result room.new ≡ delivered text.now room.old }
 {
     if room.len() < text.len() {
-        return writer::refuse(Reason::Small);
+        return Err(Reason::Small);
     }
-    Written::Done(put(room, 0, text))
+    Ok(put(room, 0, text))
 }
 
 // The line that stands in front of a room; nothing where the room was too short for it.
-pub fn line_in<'a>(written: Written, room: &'a [u8]) -> &'a [u8]
+pub fn line_in(written: Result<usize, Reason>, room: &[u8]) -> &[u8]
     requires { EndsWithin (length room.now) written }
     ensures { result.now ≡ line_in written room.now }
 {
     match written {
-        Written::Done(end) => &room[..end],
-        Written::Refused(_) => &room[..0],
+        Ok(end) => &room[..end],
+        Err(_) => &room[..0],
     }
 }

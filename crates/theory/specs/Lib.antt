@@ -27,7 +27,7 @@ pub mod Possible
 pub mod Closed
 pub mod Rows
 pub mod Walk
-pub mod Slices
+pub mod Given
 pub mod Sound
 pub mod Conditions
 pub mod Words

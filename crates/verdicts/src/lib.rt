@@ -15,8 +15,6 @@ ghost use Rattle.verdicts.specs.Fits.{Short, verdict_bytes};
 
 use checking::Verdict;
 use number::Reason;
-use placing::Spot;
-use writer::Written;
 
 // The most bytes of a task file and of a weight file that the program takes.
 pub const MOST_TASK: usize = 1048576;
@@ -46,7 +44,7 @@ fn put_verdict(text: &mut [u8], verdict: Verdict, task: &[u8], weights: &[u8]) -
 }
 
 // The line for a task file and a weight file goes to the front of a room that is long enough for it. Any bytes are taken.
-pub fn line(task: &[u8], weights: &[u8], room: &mut [u8]) -> Written
+pub fn line(task: &[u8], weights: &[u8], room: &mut [u8]) -> Result<usize, Reason>
     ensures { VerdictLines task.now weights.now room.old (outcome_of result room.new) }
 {
     let verdict = checking::check(task, weights);
@@ -63,22 +61,16 @@ pub fn are_long(task: &[u8], weights: &[u8]) -> bool
 }
 
 // The line where a file is too long.
-fn refuse_long(room: &mut [u8]) -> Written
+fn refuse_long(room: &mut [u8]) -> Result<usize, Reason>
     ensures { outcome_of result room.new ≡ delivered (verdict_line nowhere (refused (refusal Small))) room.old }
 {
     let mut text = [0u8; VERDICT_BYTES];
-    let end = text::put_refused(
-        &mut text,
-        number::refusal(Reason::Small),
-        Spot::Nowhere,
-        b"",
-        b"",
-    );
+    let end = text::put_refused(&mut text, u64::from(Reason::Small), None, b"", b"");
     text::deliver(&text[..end], room)
 }
 
 // The program's line: as `line`, but a longer file gives 8 before anything is judged.
-pub fn program_line(task: &[u8], weights: &[u8], room: &mut [u8]) -> Written
+pub fn program_line(task: &[u8], weights: &[u8], room: &mut [u8]) -> Result<usize, Reason>
     ensures { FileLines task.now weights.now room.old (outcome_of result room.new) }
 {
     if are_long(task, weights) {

@@ -1,15 +1,16 @@
 -- The bits of a word under the code's operations: exclusive or, and, shifts, the count of ones, the zeros below the lowest one.
 use Rattle.std.specs.Prelude.{ℕ, zero, suc, ◌+◌, ◌/◌, ◌%◌, ◌^◌, ◌<◌, ◌≡◌, refl, ◌≢◌, Bool, true, false, ◌&&◌, cond, eqb}
-use Rattle.std.proofs.Common.{ap, ap₂, sym, ◌∙◌, arith, div-one, add-zero, zero-add, add-suc, shr-shr, pow_pos, eqb-true, eq-eqb, ne_eqb}
+use Rattle.std.proofs.Common.{ap, ap₂, sym, ◌∙◌, arith, div-one, add-zero, add-suc, shr-shr, pow_pos, eqb-true}
 use Rattle.std.proofs.Math.Dec.{eqb-zero-suc, eqb-suc-zero, eqb-suc-suc}
 use Rattle.std.specs.Int.Bits.{bit_xor, bit_and}
 use Rattle.std.proofs.lemmas.Nat.{xor_shr, xor_mod, and_shr, and_mod}
 use Rattle.std.specs.Int.Count.{ones, ones_step, ones-ones, count_trailing_zeros}
 use Rattle.std.proofs.lemmas.Bool.{eqb-false}
-use Rattle.meaning.specs.Sets.{◌⊕◌, Set, odd}
+use Rattle.meaning.specs.Sets.{◌⊕◌, Set, odd, count}
 use Rattle.meaning.specs.Workspace.{bit}
 use Rattle.theory.specs.Truth.{Test, on, off, test, xor_assoc, xor-false}
-use Rattle.theory.specs.Parity.{par, par-cong}
+use Rattle.theory.specs.Count.{count-cong, count-front}
+use Rattle.theory.specs.Parity.{par, odd-count}
 use Rattle.theory.specs.Words.{bit_past}
 
 -- The lowest digit as a number.
@@ -74,21 +75,17 @@ unfolding par
 par-add n zero a = rw add-zero (sym (xor-false (par n a)))
 par-add n (suc m) a = rw (add-suc n m) (rw (par-add n m a) (xor_assoc (par n a) (par m (λ k. a (n + k))) (a (n + m))))
 
-odd-next : (b : Bool) (x : ℕ) → odd (cond b 1 0 + x) ≡ b ⊕ odd x
-odd-next true x = elim (test (odd x)) [
-  | on e ↦ let q : x % 2 ≡ 1 = eqb-true (x % 2) 1 e in rw e (ne_eqb ((1 + x) % 2) 1 (omega arith))
-  | off e ↦ let d : x % 2 ≢ 1 = eqb-false (x % 2) 1 e in rw e (eq-eqb ((1 + x) % 2) 1 (omega arith))
-]
-odd-next false x = ap odd (zero-add x)
+-- The ones of a number are its bits ..
+pub ones-count : (n x : ℕ) → x < 2 ^ n → ones x ≡ count n (bit x)
+unfolding count
+ones-count zero x l = let z : x ≡ 0 = omega arith in rw z (ones-ones 0)
+ones-count (suc n) x l =
+    ones_step x ∙ ap₂ ◌+◌ (low x ∙ ap (λ b. cond b 1 0) (sym (bit-first x))) (ones-count n (x / 2) (omega arith) ∙ count-cong n _ _ (λ k j. sym (bit-half x k)))
+    ∙ sym (count-front n (bit x))
 
--- The parity of the count of ones is that of the bits.
+-- .. so the parity of their count is that of the bits.
 pub odd-ones : (n x : ℕ) → x < 2 ^ n → odd (ones x) ≡ par n (bit x)
-unfolding par
-odd-ones zero x l = let z : x ≡ 0 = omega arith in rw z (ap odd (ones-ones 0))
-odd-ones (suc n) x l = let e : 1 + n ≡ suc n = omega arith in
-    ap odd (ones_step x) ∙ (ap (λ d. odd (d + ones (x / 2))) (low x) ∙ odd-next (odd x) (ones (x / 2)))
-    ∙ ap₂ ◌⊕◌ (sym (bit-first x)) (odd-ones n (x / 2) (omega arith) ∙ par-cong n _ _ (λ k j. bit-shift x 1 k))
-    ∙ (sym (par-add 1 n (bit x)) ∙ ap (λ m. par m (bit x)) e)
+odd-ones n x l = ap odd (ones-count n x l) ∙ odd-count n (bit x)
 
 -- Below its lowest one a number has no bit.
 pub trailing_below : (n x k : ℕ) → k < count_trailing_zeros n x → bit x k ≡ false

@@ -5,6 +5,5 @@ pub mod Part
 pub mod Written
 pub mod Parity
 pub mod Next
-pub mod Share
 pub mod Members
 pub mod Toggled

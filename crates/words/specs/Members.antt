@@ -1,20 +1,25 @@
 -- The members of a set, increasing, found one after the other by the next member; and the members of a set in words.
 use Prim.Native.Nat.{ℕ, zero, suc, ◌+◌, ◌*◌, ◌<◌, ◌≤◌}
-use Rattle.std.specs.Prelude.{◌≡◌, true, false, ltb, length, get_or, take, drop}
-use Rattle.std.proofs.Math.Path.{refl, ap, fun_ext}
+use Rattle.std.specs.Prelude.{◌≡◌, Bool, true, false, ltb, length, get_or, take, drop}
+use Rattle.std.proofs.Math.Path.{refl, ap, ap₂, fun_ext}
 use Rattle.std.proofs.Common.{sym, ◌∙◌, add-zero, add-one, length-append, get_or-append-add, ltb-false}
 use Rattle.std.proofs.Math.Bool.{cond}
 use mathlib.Core.List.{List, [], ◌∷◌, ◌++◌, append-nil, append_assoc}
 use native.Mathlib.Omega.{arith}
-use Rattle.meaning.specs.Sets.{Set, flat, listed}
+use Rattle.std.specs.List.{sum_by}
+use Rattle.std.specs.Int.Count.{ones}
+use Rattle.std.proofs.lemmas.List.Sums.{sum_by-cons}
+use Rattle.meaning.specs.Sets.{Set, flat, listed, count}
 use Rattle.meaning.specs.Limits.{word_bits}
 use Rattle.meaning.specs.Task.{Run}
-use Rattle.meaning.specs.Workspace.{has, packed}
+use Rattle.meaning.specs.Workspace.{bit, has, packed}
 use Rattle.theory.specs.Truth.{on, off, test, less, same, more, order}
 use Rattle.theory.specs.Run.{members, run-members, run_in, run_length, run-same, listed-members}
 use Rattle.theory.specs.Search.{listed_in}
-use Rattle.theory.specs.Words.{packed-holds}
-use Rattle.words.specs.Part.{has-past}
+use Rattle.theory.specs.Count.{count-cong, count-split}
+use Rattle.theory.specs.Words.{Words, has-at, packed-holds}
+use Rattle.words.specs.Bits.{ones-count}
+use Rattle.words.specs.Part.{has-past, has-drop}
 use Rattle.words.specs.Next.{Next, Clear, Empty, has-take}
 
 module _ (a : Set) where
@@ -109,3 +114,31 @@ members-below n words h = members-same n (has words) words (λ f. listed-members
 -- Words behind which nothing is a member have the members of all.
 pub members-front : (k : ℕ) (words : List ℕ) → Empty (drop k words) → members_in (take k words) ≡ members_in words
 members-front k words h = members-same (word_bits * length (take k words)) (has (take k words)) words (λ f. listed-in-words (take k words) f ∙ has-take k words h f)
+
+-- ---- how many there are
+
+length-members : (n : ℕ) (a : Set) → length (members n a) ≡ count n a
+unfolding members flat count
+length-members zero a = refl
+length-members (suc n) a = length-append (members n a) (cond (a n) (n ∷ []) []) ∙ ap₂ ◌+◌ (length-members n a) (one (a n))
+  where
+    one : (b : Bool) → length (cond b (n ∷ []) []) ≡ cond b 1 0
+    one true = refl
+    one false = refl
+
+ones-count_in : (l : List ℕ) → Words l → sum_by ones l ≡ count (word_bits * length l) (has l)
+unfolding count
+ones-count_in [] w = refl
+ones-count_in (x ∷ l) w = let e : 64 * length (x ∷ l) ≡ 64 + 64 * length l = omega arith in
+    sum_by-cons ones x l ∙ ap₂ ◌+◌ (ones-count 64 x (w 0 (omega arith)) ∙ count-cong 64 _ _ here) (ones-count_in l behind ∙ count-cong (64 * length l) _ _ (λ k j. has-drop 1 (x ∷ l) k))
+    ∙ sym (ap (λ n. count n (has (x ∷ l))) e ∙ count-split 64 (64 * length l) (has (x ∷ l)))
+  where
+    here : (k : ℕ) → k < 64 → bit x k ≡ has (x ∷ l) k
+    here k j = let q : 0 * 64 + k ≡ k = omega arith in sym (has-at (x ∷ l) 0 k j) ∙ ap (has (x ∷ l)) q
+
+    behind : Words l
+    behind i k = let p : suc i < length (x ∷ l) = omega arith in w (suc i) p
+
+-- The ones of all words are the members.
+pub ones-members : (l : List ℕ) → Words l → sum_by ones l ≡ length (members_in l)
+ones-members l w = ones-count_in l w ∙ sym (length-members (word_bits * length l) (has l))

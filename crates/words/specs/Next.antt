@@ -60,36 +60,43 @@ lowest a n start base m x l c room small below some bits = record { above = omeg
           ap a (sym q) ∙ bits (f - base) (omega (arith, inside)) ∙ trailing_below 64 x (f - base) (omega arith)
     ]
 
--- What stands in the word of `start` from there on.
-abbrev pub rest_of : List ℕ → ℕ → ℕ
-rest_of l start = get_or l (start / word_bits) 0 / 2 ^ (start % word_bits)
+-- What words hold that a function gives one at a time.
+abbrev pub held : (ℕ → ℕ) → Set
+held word f = bit (word (f / word_bits)) (f % word_bits)
 
-rest-bits : (l : List ℕ) (start k : ℕ) → k < word_bits - start % word_bits → has l (start + k) ≡ bit (rest_of l start) k
-unfolding has
-rest-bits l start k h = let p : (start + k) / 64 ≡ start / 64 = omega arith in let q : (start + k) % 64 ≡ start % 64 + k = omega arith in
-    rw (p, q) (sym (bit-shift (get_or l (start / 64) 0) (start % 64) k))
+module _ (word : ℕ → ℕ) where
+  held-at : (i k : ℕ) → k < word_bits → held word (i * word_bits + k) ≡ bit (word i) k
+  held-at i k h = let p : (i * 64 + k) / 64 ≡ i = omega arith in let q : (i * 64 + k) % 64 ≡ k = omega arith in rw (p, q)
 
-pub next-rest : (l : List ℕ) (start : ℕ) → start / word_bits < length l → get_or l (start / word_bits) 0 < 2 ^ word_bits → rest_of l start ≢ 0
-    → Next (has l) (word_bits * length l) start (start + count_trailing_zeros word_bits (rest_of l start))
-next-rest l start h b d = lowest (has l) (64 * length l) start start (64 - start % 64) (rest_of l start)
-    (omega arith) (λ f j k. absurd (omega arith)) (omega arith) (omega arith) small d (rest-bits l start)
-  where
-    small : rest_of l start < 2 ^ (64 - start % 64)
-    small = let e : 64 - start % 64 + start % 64 ≡ 64 = omega arith in shr_lt (64 - start % 64) (start % 64) (rw e b)
+  -- What stands in the word of `start` from there on.
+  abbrev pub rest_of : ℕ → ℕ
+  rest_of start = word (start / word_bits) / 2 ^ (start % word_bits)
 
-pub clear-rest : (l : List ℕ) (start : ℕ) → rest_of l start ≡ 0 → Clear (has l) start ((start / word_bits + 1) * word_bits)
-clear-rest l start e f j k = let q : start + (f - start) ≡ f = omega arith in ap (has l) (sym q) ∙ rest-bits l start (f - start) (omega arith) ∙ rw e (bit-none (f - start))
+  rest-bits : (start k : ℕ) → k < word_bits - start % word_bits → held word (start + k) ≡ bit (rest_of start) k
+  rest-bits start k h = let p : (start + k) / 64 ≡ start / 64 = omega arith in let q : (start + k) % 64 ≡ start % 64 + k = omega arith in
+      rw (p, q) (sym (bit-shift (word (start / 64)) (start % 64) k))
 
-pub next_word : (l : List ℕ) (start i : ℕ) → start ≤ i * word_bits → i < length l → Clear (has l) start (i * word_bits) → get_or l i 0 < 2 ^ word_bits → get_or l i 0 ≢ 0
-    → Next (has l) (word_bits * length l) start (i * word_bits + count_trailing_zeros word_bits (get_or l i 0))
-next_word l start i h k c b d = lowest (has l) (64 * length l) start (i * 64) 64 (get_or l i 0) h c (omega arith) (omega arith) b d (has-at l i)
+  pub next-rest : (count start : ℕ) → start / word_bits < count → word (start / word_bits) < 2 ^ word_bits → rest_of start ≢ 0
+      → Next (held word) (word_bits * count) start (start + count_trailing_zeros word_bits (rest_of start))
+  next-rest count start h b d = lowest (held word) (64 * count) start start (64 - start % 64) (rest_of start)
+      (omega arith) (λ f j k. absurd (omega arith)) (omega arith) (omega arith) small d (rest-bits start)
+    where
+      small : rest_of start < 2 ^ (64 - start % 64)
+      small = let e : 64 - start % 64 + start % 64 ≡ 64 = omega arith in shr_lt (64 - start % 64) (start % 64) (rw e b)
 
-pub clear-word : (l : List ℕ) (start i : ℕ) → Clear (has l) start (i * word_bits) → get_or l i 0 ≡ 0 → Clear (has l) start ((i + 1) * word_bits)
-clear-word l start i c e f j k = elim (test (ltb f (i * 64))) [
-  | on t ↦ c f j (ltb-true f (i * 64) t)
-  | off t ↦ let b : i * 64 ≤ f = ltb-false f (i * 64) t in let q : i * 64 + (f - i * 64) ≡ f = omega arith in
-      ap (has l) (sym q) ∙ has-at l i (f - i * 64) (omega arith) ∙ rw e (bit-none (f - i * 64))
-]
+  pub clear-rest : (start : ℕ) → rest_of start ≡ 0 → Clear (held word) start ((start / word_bits + 1) * word_bits)
+  clear-rest start e f j k = let q : start + (f - start) ≡ f = omega arith in ap (held word) (sym q) ∙ rest-bits start (f - start) (omega arith) ∙ rw e (bit-none (f - start))
+
+  pub next_word : (count start i : ℕ) → start ≤ i * word_bits → i < count → Clear (held word) start (i * word_bits) → word i < 2 ^ word_bits → word i ≢ 0
+      → Next (held word) (word_bits * count) start (i * word_bits + count_trailing_zeros word_bits (word i))
+  next_word count start i h k c b d = lowest (held word) (64 * count) start (i * 64) 64 (word i) h c (omega arith) (omega arith) b d (held-at i)
+
+  pub clear-word : (start i : ℕ) → Clear (held word) start (i * word_bits) → word i ≡ 0 → Clear (held word) start ((i + 1) * word_bits)
+  clear-word start i c e f j k = elim (test (ltb f (i * 64))) [
+    | on t ↦ c f j (ltb-true f (i * 64) t)
+    | off t ↦ let b : i * 64 ≤ f = ltb-false f (i * 64) t in let q : i * 64 + (f - i * 64) ≡ f = omega arith in
+        ap (held word) (sym q) ∙ held-at i (f - i * 64) (omega arith) ∙ rw e (bit-none (f - i * 64))
+  ]
 
 -- ---- no member at all
 
@@ -103,10 +110,11 @@ not-empty l i b d h =
     let small : count_trailing_zeros word_bits x < word_bits = trailing-within word_bits x b d in
     clash (has-at l i (count_trailing_zeros word_bits x) small ∙ trailing_at word_bits x small) (h (i * word_bits + count_trailing_zeros word_bits x))
 
-pub all-clear : (l : List ℕ) (i : ℕ) → length l ≤ i → Clear (has l) 0 (i * word_bits) → Empty l
-all-clear l i h c f = elim (test (ltb f (i * word_bits))) [
-  | on e ↦ c f (omega arith) (ltb-true f (i * word_bits) e)
-  | off e ↦ has-past l f (omega (arith, ltb-false f (i * word_bits) e))
+pub all-clear : (l : List ℕ) → ((i : ℕ) → i < length l → get_or l i 0 ≡ 0) → Empty l
+unfolding has
+all-clear l h f = elim (test (ltb (f / word_bits) (length l))) [
+  | on e ↦ rw (h (f / word_bits) (ltb-true (f / word_bits) (length l) e)) (bit-none (f % word_bits))
+  | off e ↦ has-past l f (omega (arith, ltb-false (f / word_bits) (length l) e))
 ]
 
 -- The first words have what all have, where the others have no member.

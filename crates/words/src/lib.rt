@@ -2,13 +2,13 @@
 
 #![tactic(auto)]
 
-ghost use Rattle.std.specs.Prelude.{◌≡◌, ◌&&◌, ◌*◌, ◌^◌, ◌≤◌, ◌<◌, length, replicate};
+ghost use Rattle.std.specs.Prelude.{◌≡◌, ◌&&◌, ◌*◌, ◌^◌, ◌≤◌, ◌<◌, ℕ, length, replicate};
 ghost use Rattle.meaning.specs.Limits.{word_bits};
 ghost use Rattle.meaning.specs.Sets.{odd, shared};
 ghost use Rattle.meaning.specs.Workspace.{has};
 ghost use Rattle.words.specs.Change.{toggled, Includes, summed};
 ghost use Rattle.theory.specs.Tells.{Tells};
-ghost use Rattle.words.specs.Next.{Next, Empty};
+ghost use Rattle.words.specs.Next.{Next, Empty, held};
 ghost use Rattle.words.specs.Members.{members_in};
 
 pub const WORD_BITS: usize = 64;
@@ -26,8 +26,7 @@ pub fn toggle(words: &mut [u64], f: usize)
     requires { f < word_bits * length words.old }
     ensures { words.new ≡ toggled words.old f }
 {
-    let k = f / WORD_BITS;
-    words[k] = words[k] ^ (1u64 << (f % WORD_BITS));
+    words[f / WORD_BITS] ^= 1 << (f % WORD_BITS);
 }
 
 // Puts a feature in, where it is no member yet.
@@ -35,10 +34,9 @@ pub fn include(words: &mut [u64], f: usize)
     requires { f < word_bits * length words.old }
     ensures { Includes words.old f words.new }
 {
-    if has(words, f) {
-        return;
+    if !has(words, f) {
+        toggle(words, f);
     }
-    toggle(words, f);
 }
 
 // Adds a set to another: what exactly one of the two has.
@@ -46,10 +44,8 @@ pub fn add(into: &mut [u64], from: &[u64])
     requires { length into.old ≡ length from.now }
     ensures { into.new ≡ summed into.old from.now }
 {
-    let mut i = 0;
-    while i < into.len() {
-        into[i] = into[i] ^ from[i];
-        i += 1;
+    for (i, word) in into.iter_mut().enumerate() {
+        *word ^= from[i];
     }
 }
 
@@ -59,36 +55,44 @@ pub fn odd_shared(a: &[u64], b: &[u64]) -> bool
     ensures { result ≡ odd (shared (word_bits * length a.now) (has a.now) (has b.now)) }
 {
     let mut sum = 0u64;
-    let mut i = 0;
-    while i < a.len() {
-        sum = sum ^ (a[i] & b[i]);
-        i += 1;
+    for (x, y) in a.iter().zip(b) {
+        sum ^= x & y;
     }
-    u64::count_ones(sum) % 2 == 1
+    sum.count_ones() % 2 == 1
 }
 
-// The least member at `start` or above it; the number of bits of all words where there is none.
+// The least number at `start` or above it that `count` words hold, each of which a closure gives; the number of bits of all words where there is none.
+fn next_held<F: Fn(usize) -> u64>(word: F, count: usize, start: usize) -> usize
+    ghost at: { ℕ → ℕ }
+    requires room { (start ≤ word_bits * count) × (word_bits * count < 2 ^ 64) }
+    requires callable { (i : ℕ) → i < count → F.pre word i }
+    requires words { (i x : ℕ) → i < count → F.post word i x → x ≡ at i }
+    ensures { Next (held at) (word_bits * count) start result }
+{
+    let first = start / WORD_BITS;
+    if count <= first {
+        return start;
+    }
+    let rest = word(first) >> (start % WORD_BITS);
+    if rest != 0 {
+        return start + rest.trailing_zeros() as usize;
+    }
+    for i in first + 1..count {
+        let here = word(i);
+        if here != 0 {
+            return i * WORD_BITS + here.trailing_zeros() as usize;
+        }
+    }
+    count * WORD_BITS
+}
+
+// The least member at `start` or above it; the number of bits of all words where there is none. No Option, as the walks compare this number with where they end, which may lie
+// below it, in the same test.
 pub fn next_member(words: &[u64], start: usize) -> usize
     requires { (start ≤ word_bits * length words.now) × (word_bits * length words.now < 2 ^ 64) }
     ensures { Next (has words.now) (word_bits * length words.now) start result }
 {
-    let first = start / WORD_BITS;
-    if words.len() <= first {
-        return start;
-    }
-    let rest = words[first] >> (start % WORD_BITS);
-    if rest != 0 {
-        return start + (u64::trailing_zeros(rest) as usize);
-    }
-    let mut i = first + 1;
-    while i < words.len() {
-        let word = words[i];
-        if word != 0 {
-            return i * WORD_BITS + (u64::trailing_zeros(word) as usize);
-        }
-        i += 1;
-    }
-    words.len() * WORD_BITS
+    next_held(|i| words[i], words.len(), start)
 }
 
 // The least number at `start` or above it that two sets share; the number of bits of all words where there is none.
@@ -96,62 +100,29 @@ pub fn next_shared(a: &[u64], b: &[u64], start: usize) -> usize
     requires { (length a.now ≡ length b.now) × (start ≤ word_bits * length a.now) × (word_bits * length a.now < 2 ^ 64) }
     ensures { Next (λ f. has a.now f && has b.now f) (word_bits * length a.now) start result }
 {
-    let first = start / WORD_BITS;
-    if a.len() <= first {
-        return start;
-    }
-    let rest = (a[first] & b[first]) >> (start % WORD_BITS);
-    if rest != 0 {
-        return start + (u64::trailing_zeros(rest) as usize);
-    }
-    let mut i = first + 1;
-    while i < a.len() {
-        let word = a[i] & b[i];
-        if word != 0 {
-            return i * WORD_BITS + (u64::trailing_zeros(word) as usize);
-        }
-        i += 1;
-    }
-    a.len() * WORD_BITS
+    next_held(|i| a[i] & b[i], a.len(), start)
 }
 
-// How many members a set has, going from member to member.
+// How many members a set has.
 pub fn count(words: &[u64]) -> usize
     requires { word_bits * length words.now < 2 ^ 64 }
     ensures { result ≡ length (members_in words.now) }
 {
-    let mut sum = 0;
-    let mut f = next_member(words, 0);
-    while f < words.len() * WORD_BITS {
-        sum += 1;
-        f = next_member(words, f + 1);
-    }
-    sum
+    words.iter().map(|word| word.count_ones() as usize).sum()
 }
 
 // Whether a set has no member. Any number of words is taken.
 pub fn is_empty(words: &[u64]) -> bool
     ensures { Tells result (Empty words.now) }
 {
-    let mut i = 0;
-    while i < words.len() {
-        if words[i] != 0 {
-            return false;
-        }
-        i += 1;
-    }
-    true
+    words.iter().all(|word| *word == 0)
 }
 
 // Takes every member out.
 pub fn clear(words: &mut [u64])
     ensures { words.new ≡ replicate (length words.old) 0 }
 {
-    let mut i = 0;
-    while i < words.len() {
-        words[i] = 0;
-        i += 1;
-    }
+    words.fill(0);
 }
 
 // Makes a set the same as another.
@@ -159,9 +130,5 @@ pub fn copy(into: &mut [u64], from: &[u64])
     requires { length into.old ≡ length from.now }
     ensures { into.new ≡ from.now }
 {
-    let mut i = 0;
-    while i < into.len() {
-        into[i] = from[i];
-        i += 1;
-    }
+    into.copy_from_slice(from);
 }

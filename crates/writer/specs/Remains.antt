@@ -1,12 +1,11 @@
 -- How a room is filled part after part: what remains to be written, from the start to the end, and when a whole file is delivered.
-use Rattle.std.specs.Prelude.{ℕ, suc, ◌+◌, ◌<◌, ◌≤◌, ◌≡◌, refl, List, [], ◌∷◌, ◌++◌, length, set, take, drop}
+use Rattle.std.specs.Prelude.{ℕ, suc, ◌+◌, ◌<◌, ◌≤◌, ◌≡◌, refl, List, [], ◌∷◌, ◌++◌, length, set, take, drop, Ok}
 use Rattle.std.proofs.Common.{sym, ap, ap₂, ◌∙◌, append-nil, arith, add-zero, lt-ltb, le-ltb}
 use Rattle.std.proofs.lemmas.List.Edits.{sets}
 use Rattle.std.proofs.Math.Seq.{length-sets}
 use Rattle.meaning.specs.Number.{Small}
 use Rattle.meaning.specs.Answer.{refuses, writes, delivered}
 use Rattle.number.specs.Laws.{sets-all}
-use Rattle.writer.specs.declared.Written.TheVariants.{Done}
 use Rattle.writer.specs.Answer.{outcome_of}
 use Rattle.writer.specs.Widths.{part_length}
 
@@ -61,15 +60,15 @@ module _ (file room : List ℕ) where
 
   -- A file that was written from the front of a room on is delivered.
   pub delivered-done : (room' : List ℕ) (n : ℕ) → length file ≤ length room → n ≡ 0 + length file → room' ≡ take 0 room ++ (file ++ drop n room)
-      → outcome_of (Done n) room' ≡ delivered file room
+      → outcome_of (Ok n) room' ≡ delivered file room
   delivered-done room' n h p w =
       let q : n ≡ length file = omega arith in
-      ap₂ (λ k l. outcome_of (Done k) l) q (w ∙ ap (λ k. file ++ drop k room) q) ∙ sym (delivered-whole h)
+      ap₂ (λ k l. outcome_of (Ok k) l) q (w ∙ ap (λ k. file ++ drop k room) q) ∙ sym (delivered-whole h)
 
 -- A file of two parts that were written one after the other is delivered: what stands before the operators of a task, and the operators.
 pub parts-delivered : (file front last room room₁ room₂ : List ℕ) (next end : ℕ) → file ≡ front ++ last → length file ≤ length room
     → next ≡ length front → room₁ ≡ front ++ drop next room → end ≡ next + length last → room₂ ≡ take next room₁ ++ (last ++ drop end room₁)
-    → outcome_of (Done end) room₂ ≡ delivered file room
+    → outcome_of (Ok end) room₂ ≡ delivered file room
 parts-delivered file front last room room₁ room₂ next end split fit p₁ w₁ p₂ w₂ =
     let one = remains-after (remains-all room 0 file (omega arith)) front last room₁ next split (omega arith) w₁ in
     let all = remains-none (remains-after one last [] room₂ end (sym (append-nil last)) p₂ w₂) refl in

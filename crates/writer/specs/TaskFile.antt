@@ -1,5 +1,5 @@
 -- A task file of a kind from its parts: its front anew, and its operators as they stand in another file.
-use Rattle.std.specs.Prelude.{ℕ, ◌+◌, ◌*◌, ◌≤◌, ◌≡◌, length, take, drop}
+use Rattle.std.specs.Prelude.{ℕ, ◌+◌, ◌*◌, ◌≤◌, ◌≡◌, length, take, drop, Ok}
 use Rattle.std.proofs.Math.Path.{refl}
 use Rattle.std.proofs.Common.{sym, arith}
 use mathlib.Core.List.{List, [], ◌++◌, append-nil}
@@ -11,7 +11,6 @@ use Rattle.meaning.specs.Answer.{delivered}
 use Rattle.theory.specs.NumberBack.{number-bytes-length}
 use Rattle.words.specs.Members.{members_in}
 use Rattle.writer.specs.Widths.{four_lists}
-use Rattle.writer.specs.declared.Written.TheVariants.{Done}
 use Rattle.writer.specs.Answer.{outcome_of}
 use Rattle.writer.specs.Front.{Front, front_bytes, front-few, task-front}
 use Rattle.writer.specs.Remains.{remains-all, remains-after, remains-none, delivered-done}
@@ -36,7 +35,7 @@ module _ (kind : Kind) (count : ℕ) (own sizes start goal pairs : List ℕ) whe
   pub file-delivered : (room : List ℕ) → length file_bytes ≤ length room
       → (room₁ : List ℕ) (second : ℕ) → second ≡ length front → room₁ ≡ front ++ drop second room
       → (room₂ : List ℕ) (third : ℕ) → third ≡ second + length (number_bytes count) → room₂ ≡ take second room₁ ++ (number_bytes count ++ drop third room₁)
-      → (room₃ : List ℕ) (end : ℕ) → end ≡ third + length own → room₃ ≡ take third room₂ ++ (own ++ drop end room₂) → outcome_of (Done end) room₃ ≡ delivered file_bytes room
+      → (room₃ : List ℕ) (end : ℕ) → end ≡ third + length own → room₃ ≡ take third room₂ ++ (own ++ drop end room₂) → outcome_of (Ok end) room₃ ≡ delivered file_bytes room
   unfolding file_bytes
   file-delivered room fit room₁ second p₁ w₁ room₂ third p₂ w₂ room₃ end p₃ w₃ =
       let one = remains-after (remains-all room 0 file_bytes (omega arith)) front _ room₁ second refl (omega arith) w₁ in

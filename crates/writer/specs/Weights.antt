@@ -1,12 +1,11 @@
 -- What the calls that write a weight file answer, and what they leave in the lent bytes.
-use Rattle.std.specs.Prelude.{ℕ, suc, ◌≡◌, List, [], ◌∷◌, leb, ltb}
+use Rattle.std.specs.Prelude.{ℕ, suc, ◌≡◌, List, [], ◌∷◌, leb, ltb, Result, Ok, Err}
 use Rattle.meaning.specs.Limits.{most_features}
 use Rattle.meaning.specs.Number.{Range, Unordered}
 use Rattle.meaning.specs.File.{weight_bytes}
 use Rattle.meaning.specs.Answer as meaning
 use Rattle.number.specs.Answers.{reason_of}
-use Rattle.writer.specs.declared.Judged.{Judged}
-use Rattle.writer.specs.declared.Judged.TheVariants.{Fine, Faulty}
+use Rattle.number.specs.declared.Reason as code
 
 -- Features "strictly increasing", from `least` on: range before order, and the first fault decides.
 unfoldable pub weights_judged : ℕ → List ℕ → meaning.Judged
@@ -28,6 +27,6 @@ abbrev pub Writes : List ℕ → List ℕ → meaning.Outcome ℕ → Type 0
 Writes weights room outcome = outcome ≡ weights_written weights room
 
 -- What the judgement of the code says in the words of the meaning.
-abbrev pub judged_of : Judged → meaning.Judged
-judged_of Fine = meaning.fine
-judged_of (Faulty reason) = meaning.faulty (reason_of reason)
+abbrev pub judged_of : {A : Type 0} → Result A code.Reason → meaning.Judged
+judged_of (Ok _) = meaning.fine
+judged_of (Err reason) = meaning.faulty (reason_of reason)

@@ -1,4 +1,6 @@
 -- The parts of a file, one after another, and how many bytes they have.
+use Rattle.std.specs.List.{sum_by}
+use Rattle.std.proofs.lemmas.List.Sums.{sum_by-cons}
 use Rattle.std.specs.Prelude.{ℕ, ◌+◌, ◌*◌, ◌<◌, ◌≤◌, ◌≡◌, refl, length, get_or, drop}
 use Rattle.std.proofs.Common.{sym, ◌∙◌, add-one, drop_of_length-le, drop-cons}
 use Rattle.std.proofs.Math.Path.{ap}
@@ -10,14 +12,10 @@ use Rattle.std.proofs.Math.Nat.{mul-suc}
 use Rattle.std.proofs.Math.ListN.{length-append}
 use Rattle.meaning.specs.Limits.{most_groups, number_end}
 use Rattle.meaning.specs.Number.{group_bytes, number_bytes}
-use Rattle.meaning.specs.Task.{Entry}
+use Rattle.meaning.specs.Task.{Entry, Operator}
 use Rattle.meaning.specs.File.{Kind, plain, gapped, bytes_of, counted, entry_bytes, operator_bytes, weight_bytes, numbers_for, list_bytes, mark_bytes}
-use Rattle.meaning.specs.Answer.{operator_in}
-use Rattle.theory.specs.Flat.{get_d-table}
 use Rattle.theory.specs.ReadBack.{numbers-length}
 use Rattle.theory.specs.NumberBack.{number-bytes-length}
-use Rattle.theory.specs.Slices.{entry_in, entries_in, length-held}
-use Rattle.writer.specs.Parts.{Triples}
 
 pub part_length : {l : List ℕ} (part others : List ℕ) → l ≡ part ++ others → length l ≡ length part + length others
 part_length part others e = ap length e ∙ length-append part others
@@ -27,13 +25,15 @@ module _ {A : Type 0} (write : A → List ℕ) where
   unfolding bytes_of
   bytes-more l i d h = ap (bytes_of write) (drop-cons l i d h) ∙ ap (λ k. write (get_or l i d) ++ bytes_of write (drop k l)) (sym (add-one i))
 
-  pub width-more : (l : List A) (i : ℕ) (d : A) → i < length l
-      → length (bytes_of write (drop i l)) ≡ length (write (get_or l i d)) + length (bytes_of write (drop (i + 1) l))
-  width-more l i d h = part_length (write (get_or l i d)) (bytes_of write (drop (i + 1) l)) (bytes-more l i d h)
-
   pub bytes-none : (l : List A) (i : ℕ) → length l ≤ i → bytes_of write (drop i l) ≡ []
   unfolding bytes_of
   bytes-none l i h = ap (bytes_of write) (drop_of_length-le l h)
+
+  -- The bytes of all things are those of each, added up.
+  pub bytes-summed : (l : List A) → sum_by (λ a. length (write a)) l ≡ length (bytes_of write l)
+  unfolding bytes_of
+  bytes-summed [] = refl
+  bytes-summed (a ∷ l) = sum_by-cons _ a l ∙ ap (λ k. length (write a) + k) (bytes-summed l) ∙ sym (length-append (write a) (bytes_of write l))
 
   -- Things of at most k bytes each.
   pub bytes-few : (k : ℕ) (l : List A) → ((a : A) → In a l → length (write a) ≤ k) → length (bytes_of write l) ≤ k * length l
@@ -84,32 +84,10 @@ entries-few o = bytes-few entry_bytes (3 * most_groups) o (λ e _. few e)
     few : (e : Entry) → length (entry_bytes e) ≤ 3 * most_groups
     few e = omega (arith, entry_length e, number-bytes-length e.variable, number-bytes-length e.before, number-bytes-length e.after)
 
-module _ (variables befores afters : List ℕ) where
-  pub operator-split : operator_bytes (entries_in variables befores afters) ≡ number_bytes (length variables) ++ bytes_of entry_bytes (entries_in variables befores afters)
-  unfolding operator_bytes counted
-  operator-split = ap (λ n. number_bytes n ++ bytes_of entry_bytes (entries_in variables befores afters)) (length-held (length variables) variables befores afters)
+module _ (o : Operator) where
+  pub operator-length : length (operator_bytes o) ≡ length (number_bytes (length o)) + length (bytes_of entry_bytes o)
+  unfolding operator_bytes
+  operator-length = counted-length entry_bytes o
 
-  pub operator-length : length (operator_bytes (entries_in variables befores afters))
-      ≡ length (number_bytes (length variables)) + length (bytes_of entry_bytes (entries_in variables befores afters))
-  operator-length = part_length (number_bytes (length variables)) (bytes_of entry_bytes (entries_in variables befores afters)) operator-split
-
-  pub operator-few : length (operator_bytes (entries_in variables befores afters)) ≤ most_groups + 3 * most_groups * length variables
-  operator-few = omega (arith, operator-length, length-held (length variables) variables befores afters, number-bytes-length (length variables), entries-few (entries_in variables befores afters))
-
-  module _ (i : ℕ) (h : i < length variables) where
-    -- The entry at an index is made of numbers of a file.
-    pub triple-at : Triples variables befores afters → (get_or variables i 0 < number_end) × (get_or befores i 0 < number_end) × (get_or afters i 0 < number_end)
-    triple-at (few, b, a, bs, us) = (few.1 i h, bs i (omega arith), us i (omega arith))
-
-    pub entries-more : bytes_of entry_bytes (drop i (entries_in variables befores afters))
-        ≡ entry_bytes (entry_in variables befores afters i) ++ bytes_of entry_bytes (drop (i + 1) (entries_in variables befores afters))
-    unfolding operator_in
-    entries-more =
-        let o = entries_in variables befores afters in
-        let e = entry_in variables befores afters i in
-        bytes-more entry_bytes o i e (omega (arith, length-held (length variables) variables befores afters))
-        ∙ ap (λ a. entry_bytes a ++ bytes_of entry_bytes (drop (i + 1) o)) (get_d-table (length variables) (entry_in variables befores afters) i e h)
-
-    pub entry-width-more : length (bytes_of entry_bytes (drop i (entries_in variables befores afters)))
-        ≡ length (entry_bytes (entry_in variables befores afters i)) + length (bytes_of entry_bytes (drop (i + 1) (entries_in variables befores afters)))
-    entry-width-more = part_length (entry_bytes (entry_in variables befores afters i)) (bytes_of entry_bytes (drop (i + 1) (entries_in variables befores afters))) entries-more
+  pub operator-few : length (operator_bytes o) ≤ most_groups + 3 * most_groups * length o
+  operator-few = omega (arith, operator-length, number-bytes-length (length o), entries-few o)

@@ -5,56 +5,31 @@
 
 ghost use Rattle.std.specs.Prelude.{◌≡◌, ◌++◌, ◌+◌, ◌<◌, ◌≤◌, length, take, drop};
 ghost use Rattle.meaning.specs.Limits.{number_end};
-ghost use Rattle.meaning.specs.Number.{refusal as refusal_number, number_bytes};
+ghost use Rattle.meaning.specs.Number.{number_bytes};
 ghost use Rattle.meaning.specs.File.{kind_if, bytes_of, counted, entry_bytes, operator_bytes, numbers_for, list_bytes, mark_bytes, weight_bytes_as};
-ghost use Rattle.meaning.specs.Answer.{refused, delivered};
+ghost use Rattle.meaning.specs.Answer.{delivered};
 ghost use Rattle.theory.specs.ReadBack.{said_as};
-ghost use Rattle.theory.specs.Slices.{entry_of, entries_in};
-ghost use Rattle.number.specs.Answers.{reason_of};
 ghost use Rattle.words.specs.Members.{members_in};
-ghost use Rattle.writer.specs.Answer.{written_of, outcome_of};
-ghost use Rattle.writer.specs.Parts.{Numbers, Countable, Triples, FewWords};
+ghost use Rattle.writer.specs.Answer.{outcome_of};
+ghost use Rattle.writer.specs.Parts.{Numbers, Countable, Numbered, Triples, FewWords};
 ghost use Rattle.writer.specs.Front.{Front, front_bytes};
 ghost use Rattle.writer.specs.TaskFile.{file_bytes};
 ghost use Rattle.writer.specs.Weights.{judged_of, weights_judged, weights_written};
 
 use limits::{MOST_FEATURES, MOST_WORDS};
+use meaning::Entry;
 use number::Reason;
 use words::WORD_BITS;
-
-// What is wrong with a list of features: the first fault, or nothing.
-#[derive(Clone, Copy)]
-enum Judged {
-    Fine,
-    Faulty(Reason),
-}
-
-// What a call that writes a file or a line answers: its length; or the paper's number of a refusal.
-#[derive(Clone, Copy)]
-pub enum Written {
-    Done(usize),
-    Refused(u64),
-}
-
-// The refusal for a reason.
-pub fn refuse(reason: Reason) -> Written
-    ensures { written_of result ≡ refused (refusal_number (reason_of reason)) }
-{
-    Written::Refused(number::refusal(reason))
-}
 
 // How many bytes a list of numbers has, without its count.
 pub fn numbers_width(values: &[u64]) -> usize
     requires { Numbers values.now }
     ensures { result ≡ length (bytes_of number_bytes values.now) }
 {
-    let mut sum = 0;
-    let mut i = 0;
-    while i < values.len() {
-        sum += number::width(values[i] as usize);
-        i += 1;
-    }
-    sum
+    values
+        .iter()
+        .map(|value| number::width(*value as usize))
+        .sum()
 }
 
 // How many bytes a list of numbers has, with its count.
@@ -66,25 +41,20 @@ pub fn list_width(values: &[u64]) -> usize
 }
 
 // How many bytes an entry has.
-fn entry_width(variable: usize, before: usize, after: usize) -> usize
-    requires { (variable < number_end) × (before < number_end) × (after < number_end) }
-    ensures { result ≡ length (entry_bytes (entry_of variable before after)) }
+fn entry_width(entry: Entry) -> usize
+    requires { Numbered entry }
+    ensures { result ≡ length (entry_bytes entry) }
 {
-    number::width(variable) + number::width(before) + number::width(after)
+    number::width(entry.variable) + number::width(entry.before) + number::width(entry.after)
 }
 
 // How many bytes an operator has.
-pub fn operator_width(variables: &[usize], befores: &[usize], afters: &[usize]) -> usize
-    requires { Triples variables.now befores.now afters.now }
-    ensures { result ≡ length (operator_bytes (entries_in variables.now befores.now afters.now)) }
+pub fn operator_width(entries: &[Entry]) -> usize
+    requires { Triples entries.now }
+    ensures { result ≡ length (operator_bytes entries.now) }
 {
-    let mut sum = number::width(variables.len());
-    let mut i = 0;
-    while i < variables.len() {
-        sum += entry_width(variables[i], befores[i], afters[i]);
-        i += 1;
-    }
-    sum
+    let width: usize = entries.iter().map(|entry| entry_width(*entry)).sum();
+    number::width(entries.len()) + width
 }
 
 // Writes bytes from a place on, and answers the place after them.
@@ -93,12 +63,9 @@ pub fn write_bytes(room: &mut [u8], at: usize, bytes: &[u8]) -> usize
     ensures after { result ≡ at + length bytes.now }
     ensures written { room.new ≡ take at room.old ++ (bytes.now ++ drop result room.old) }
 {
-    let mut i = 0;
-    while i < bytes.len() {
-        room[at + i] = bytes[i];
-        i += 1;
-    }
-    at + i
+    let after = at + bytes.len();
+    room[at..after].copy_from_slice(bytes);
+    after
 }
 
 // Writes a list of numbers from a place on, without its count, and answers the place after it.
@@ -108,10 +75,8 @@ pub fn write_numbers(room: &mut [u8], at: usize, values: &[u64]) -> usize
     ensures written { room.new ≡ take at room.old ++ (bytes_of number_bytes values.now ++ drop result room.old) }
 {
     let mut next = at;
-    let mut i = 0;
-    while i < values.len() {
-        next = number::write_number(room, next, values[i] as usize);
-        i += 1;
+    for value in values {
+        next = number::write_number(room, next, *value as usize);
     }
     next
 }
@@ -127,34 +92,25 @@ pub fn write_list(room: &mut [u8], at: usize, values: &[u64]) -> usize
 }
 
 // Writes an entry from a place on, and answers the place after it.
-fn write_entry(room: &mut [u8], at: usize, variable: usize, before: usize, after: usize) -> usize
-    requires { (variable < number_end) × (before < number_end) × (after < number_end) × (at + length (entry_bytes (entry_of variable before after)) ≤ length room.old) }
-    ensures after { result ≡ at + length (entry_bytes (entry_of variable before after)) }
-    ensures written { room.new ≡ take at room.old ++ (entry_bytes (entry_of variable before after) ++ drop result room.old) }
+fn write_entry(room: &mut [u8], at: usize, entry: Entry) -> usize
+    requires { Numbered entry × (at + length (entry_bytes entry) ≤ length room.old) }
+    ensures after { result ≡ at + length (entry_bytes entry) }
+    ensures written { room.new ≡ take at room.old ++ (entry_bytes entry ++ drop result room.old) }
 {
-    let second = number::write_number(room, at, variable);
-    let third = number::write_number(room, second, before);
-    number::write_number(room, third, after)
+    let second = number::write_number(room, at, entry.variable);
+    let third = number::write_number(room, second, entry.before);
+    number::write_number(room, third, entry.after)
 }
 
 // Writes an operator from a place on, and answers the place after it.
-pub fn write_operator(
-    room: &mut [u8],
-    at: usize,
-    variables: &[usize],
-    befores: &[usize],
-    afters: &[usize],
-) -> usize
-    requires { Triples variables.now befores.now afters.now × (at + length (operator_bytes (entries_in variables.now befores.now afters.now)) ≤ length room.old) }
-    ensures after { result ≡ at + length (operator_bytes (entries_in variables.now befores.now afters.now)) }
-    ensures written { room.new
-        ≡ take at room.old ++ (operator_bytes (entries_in variables.now befores.now afters.now) ++ drop result room.old) }
+pub fn write_operator(room: &mut [u8], at: usize, entries: &[Entry]) -> usize
+    requires { Triples entries.now × (at + length (operator_bytes entries.now) ≤ length room.old) }
+    ensures after { result ≡ at + length (operator_bytes entries.now) }
+    ensures written { room.new ≡ take at room.old ++ (operator_bytes entries.now ++ drop result room.old) }
 {
-    let mut next = number::write_number(room, at, variables.len());
-    let mut i = 0;
-    while i < variables.len() {
-        next = write_entry(room, next, variables[i], befores[i], afters[i]);
-        i += 1;
+    let mut next = number::write_number(room, at, entries.len());
+    for entry in entries {
+        next = write_entry(room, next, *entry);
     }
     next
 }
@@ -177,6 +133,7 @@ fn members_width(gapped: bool, words: &[u64]) -> usize
 {
     let mut sum = 0;
     let mut least = 0;
+    // A `while`: where the next member stands is known only from the last one, so a `for` would need an iterator of its own, and be no plainer.
     let mut f = words::next_member(words, 0);
     while f < words.len() * WORD_BITS {
         sum += number::width(number_for(gapped, f, least));
@@ -195,6 +152,7 @@ fn write_members(room: &mut [u8], at: usize, gapped: bool, words: &[u64]) -> usi
 {
     let mut next = at;
     let mut least = 0;
+    // A `while`: where the next member stands is known only from the last one, so a `for` would need an iterator of its own, and be no plainer.
     let mut f = words::next_member(words, 0);
     while f < words.len() * WORD_BITS {
         next = number::write_number(room, next, number_for(gapped, f, least));
@@ -288,7 +246,7 @@ pub fn write_task(
     goal: &[u64],
     pairs: &[u64],
     room: &mut [u8],
-) -> Written
+) -> Result<usize, Reason>
     requires { Front sizes.now start.now goal.now pairs.now × (count < number_end) }
     ensures { outcome_of result room.new
         ≡ delivered (file_bytes (kind_if gapped) count own.now sizes.now start.now goal.now pairs.now) room.old }
@@ -296,69 +254,63 @@ pub fn write_task(
     let front = front_width(gapped, sizes, start, goal, pairs);
     let operators = number::width(count) + own.len();
     if room.len() < front + operators {
-        return refuse(Reason::Small);
+        return Err(Reason::Small);
     }
     let second = write_front(room, gapped, sizes, start, goal, pairs);
     let third = number::write_number(room, second, count);
-    Written::Done(write_bytes(room, third, own))
+    Ok(write_bytes(room, third, own))
 }
 
 // Judges a list of features in list order: each feature's range, then its order.
-fn judge(weights: &[u64]) -> Judged
+fn judge(weights: &[u64]) -> Result<(), Reason>
     ensures { judged_of result ≡ weights_judged 0 weights.now }
 {
     let mut least = 0;
-    let mut i = 0;
-    while i < weights.len() {
-        let feature = weights[i] as usize;
+    for weight in weights {
+        let feature = *weight as usize;
         if MOST_FEATURES <= feature {
-            return Judged::Faulty(Reason::Range);
+            return Err(Reason::Range);
         }
         if feature < least {
-            return Judged::Faulty(Reason::Unordered);
+            return Err(Reason::Unordered);
         }
         least = feature + 1;
-        i += 1;
     }
-    Judged::Fine
+    Ok(())
 }
 
 // Writes a weight file: features that are in range and increase, and that have room.
-pub fn write_weights(weights: &[u64], room: &mut [u8]) -> Written
+pub fn write_weights(weights: &[u64], room: &mut [u8]) -> Result<usize, Reason>
     ensures { outcome_of result room.new ≡ weights_written weights.now room.old }
 {
-    match judge(weights) {
-        Judged::Faulty(reason) => refuse(reason),
-        Judged::Fine => {
-            if room.len() < list_width(weights) {
-                return refuse(Reason::Small);
-            }
-            Written::Done(write_list(room, 0, weights))
-        }
+    judge(weights)?;
+    if room.len() < list_width(weights) {
+        return Err(Reason::Small);
     }
+    Ok(write_list(room, 0, weights))
 }
 
 // Writes the weight file of a kind of a set whose words are few enough that each feature is in range, if it has room.
-pub fn deliver_set(words: &[u64], gapped: bool, room: &mut [u8]) -> Written
+pub fn deliver_set(words: &[u64], gapped: bool, room: &mut [u8]) -> Result<usize, Reason>
     requires { FewWords words.now }
     ensures { outcome_of result room.new ≡ delivered (weight_bytes_as (kind_if gapped) (members_in words.now)) room.old }
 {
     if room.len() < mark_width(gapped) + set_width(gapped, words) {
-        return refuse(Reason::Small);
+        return Err(Reason::Small);
     }
     let next = write_mark(room, gapped);
-    Written::Done(write_set(room, next, gapped, words))
+    Ok(write_set(room, next, gapped, words))
 }
 
 // Writes the weight file of a set of features in words, as the finder leaves them. Any words are taken.
-pub fn weight_file(words: &[u64], room: &mut [u8]) -> Written
+pub fn weight_file(words: &[u64], room: &mut [u8]) -> Result<usize, Reason>
     ensures { outcome_of result room.new ≡ weights_written (members_in words.now) room.old }
 {
     if words.len() <= MOST_WORDS {
         return deliver_set(words, false, room);
     }
     if !words::is_empty(&words[MOST_WORDS..]) {
-        return refuse(Reason::Range);
+        return Err(Reason::Range);
     }
     deliver_set(&words[..MOST_WORDS], false, room)
 }

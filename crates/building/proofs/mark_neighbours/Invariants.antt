@@ -1,5 +1,4 @@
 -- `mark_neighbours` fills the table place by place.
-use Prim.Native.Nat.{◌-◌}
 use mathlib.Core.Path.{◌≡◌}
 use lib.ListN.{length}
 use Rattle.meaning.specs.Bay.{neighbours}
@@ -8,6 +7,3 @@ use Rattle.building.proofs.mark_neighbours.Given as goal
 
 abbrev pub invariant-loop-place : goal.invariant-loop-place
 invariant-loop-place l = (length l.near ≡ length l.initial.near) × Filled l.n (neighbours l.columns) l.near l.place
-
-abbrev pub decreases-loop-place : goal.decreases-loop-place
-decreases-loop-place l = length l.near - l.place

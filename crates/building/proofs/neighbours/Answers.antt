@@ -1,13 +1,14 @@
--- `neighbours` asks for one row first, then for one column.
+-- `neighbours`: slots of one row whose columns are one apart are neighbours.
 use mathlib.Core.Path.{sym, ◌∙◌}
-use Rattle.building.specs.Sides.{neighbours-row, neighbours-column, neighbours-neither}
+use Rattle.std.proofs.Common.{true≢false}
+use borrow.Author.Tests.{eq-eqb, ne_eqb}
+use Rattle.meaning.specs.Bay.{neighbours}
 use Rattle.building.proofs.neighbours.Goals as goal
+use Rattle.building.proofs.neighbours.Goals.{then-p-columns, else-p-columns}
 
-pub returns-then-p-columns : goal.returns-then-p-columns
-returns-then-p-columns c = c.one_apart.ensures ∙ sym (neighbours-row c.args.columns c.args.p c.args.q c.if-p-columns.true)
-
-pub returns-then-p-columns-2 : goal.returns-then-p-columns-2
-returns-then-p-columns-2 c = c.one_apart-then-p-columns-2.ensures ∙ sym (neighbours-column c.args.columns c.args.p c.args.q c.if-p-columns.false c.if-p-columns-2.true)
-
-pub returns : goal.returns
-returns c = sym (neighbours-neither c.args.columns c.args.p c.args.q c.if-p-columns.false c.if-p-columns-2.false)
+pub returns-then-one_apart : goal.returns-then-one_apart
+unfolding neighbours
+returns-then-one_apart c = elim c.if-p-columns.branch [
+  | then-p-columns w ↦ rw (eq-eqb _ _ w.if-p-columns.true, sym (w.value-is ∙ w.one_apart.ensures) ∙ c.if-one_apart.true) c.if-one_apart.true
+  | else-p-columns w ↦ absurd (true≢false (sym c.if-one_apart.true ∙ w.value-is ∙ ne_eqb _ _ w.if-p-columns.false))
+]

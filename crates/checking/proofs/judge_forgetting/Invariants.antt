@@ -8,8 +8,8 @@ use Rattle.forgetting.specs.Kept.{kept_in}
 use Rattle.checking.specs.Forgetting.{Passing}
 use Rattle.checking.proofs.judge_forgetting.Given as goal
 
-abbrev pub invariant-loop-kept : goal.invariant-loop-kept
-invariant-loop-kept l = Passing l.sizes (has l.pairs) (has l.weights) (out_by l.sizes (has l.pairs) l.goal false) l.kept l.k
+abbrev pub invariant-loop-next : goal.invariant-loop-next
+invariant-loop-next l = Passing l.sizes (has l.pairs) (has l.weights) (out_by l.sizes (has l.pairs) l.goal false) l.next l.k
 
-abbrev pub decreases-loop-kept : goal.decreases-loop-kept
-decreases-loop-kept l = length (kept_in l.sizes (has l.pairs) l.goal false) - l.k
+abbrev pub decreases-loop-next : goal.decreases-loop-next
+decreases-loop-next l = length (kept_in l.sizes (has l.pairs) l.goal false) - l.k

@@ -10,7 +10,7 @@ use Rattle.completing.proofs.complete.Goals as goal
 use Rattle.completing.proofs.complete.Goals.{After-pairs, Start}
 
 -- That all words of the header are there, and that the bytes are bytes.
-room : (s : Start) → Headed s.args.v s.args.n s.args.header.now
+room : (s : Start) → Headed s.args.judged.header.variables s.args.judged.header.features s.args.parts.now
 room s = known-room s.requires.1.accepted
 
 small : (c : After-pairs) → Bytes c.args.partial.now
@@ -41,4 +41,4 @@ pub returns : goal.returns
 returns c =
     let a = c.args in
     built-so _ _ _ _ _ _ _ _ _ c.requires.1 _ _ _ _ c.sizes.ensures c.start.ensures c.goal.ensures c.pairs.ensures (small (goal.at.returns c).After-pairs) _ a.room.now _
-    (lent-behind a.partial.now a.at a.at refl) c.write_built.ensures
+    (lent-behind a.partial.now _ _ refl) c.write_built.ensures

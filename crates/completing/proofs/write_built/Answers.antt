@@ -4,11 +4,9 @@ use mathlib.Core.Path.{◌≡◌, sym, ap, ◌∙◌}
 use mathlib.Core.List.{List}
 use native.Mathlib.Omega.{arith}
 use lib.ListN.{length}
-use Rattle.meaning.specs.Number.{Small}
 use Rattle.writer.specs.Widths.{four_lists}
-use Rattle.writer.specs.Answer.{refused-so}
 use Rattle.writer.specs.Remains.{delivered-small}
-use Rattle.completing.specs.Parts.{one-triples, one_width, built_bytes, operators-length, file-length, file-few, file-delivered}
+use Rattle.completing.specs.Parts.{one_width, built_bytes, operators-length, file-length, file-few, file-delivered}
 use Rattle.completing.proofs.write_built.Goals as goal
 use Rattle.completing.proofs.write_built.Goals.{After-width, Start}
 
@@ -26,9 +24,6 @@ whole c = let a = c.args in
 few : (s : Start) → length (file s) ≤ 2 * four_lists + length s.args.own.now
 few s = let a = s.args in file-few a.count a.kept a.own.now a.sizes.now a.start.now a.goal.now a.pairs.now a.lean s.requires
 
-pub operator_width-each-requires : goal.operator_width-each-requires
-operator_width-each-requires c = one-triples 0 0 1 (omega arith) (omega arith) (omega arith)
-
 pub overflow_add-operators : goal.overflow_add-operators
 overflow_add-operators c = omega (arith, whole c, few (goal.at.overflow_add-operators c).Start, c.well_formed)
 
@@ -42,10 +37,7 @@ pub overflow_add-front : goal.overflow_add-front
 overflow_add-front c = omega (arith, whole c, few (goal.at.overflow_add-front c).Start, c.well_formed)
 
 pub returns-then-room-front : goal.returns-then-room-front
-returns-then-room-front c = refused-so c.refuse.result Small c.args.room.now c.refuse.ensures ∙ sym (delivered-small (file (goal.at.returns-then-room-front c).Start) c.args.room.now (omega (arith, whole (goal.at.returns-then-room-front c).After-width, c.if-room-front.true)))
-
-pub write_front-next-requires : goal.write_front-next-requires
-write_front-next-requires c = (c.requires.front, omega (arith, c.front_width-front.ensures, c.if-room-front.false))
+returns-then-room-front c = sym (delivered-small (file (goal.at.returns-then-room-front c).Start) c.args.room.now (omega (arith, whole (goal.at.returns-then-room-front c).After-width, c.if-room-front.true)))
 
 pub write_operators-requires : goal.write_operators-requires
 write_operators-requires c =

@@ -1,50 +1,27 @@
--- `write_kept`: the walk stands at one that is kept, and from it on they are still to be written.
-use Prim.Native.Nat.{◌-◌, ◌<◌}
-use mathlib.Core.Path.{◌≡◌, ap}
-use native.Mathlib.Omega.{arith}
-use Rattle.forgetting.specs.Kept.{unknown_of}
-use Rattle.completing.specs.Parts.{writing-first, writing-fits, writing-next, writing-less, writing-end, kept-triples}
+-- `write_kept`: the walk stands at one that is kept, or at the end, and from it on they are still to be written.
+use Rattle.std.specs.Prelude.{Some}
+use Rattle.completing.specs.Parts.{Writing, writing-first, writing-fits, writing-next, writing-less, writing-end}
 use Rattle.completing.proofs.write_kept.Goals as goal
-use Rattle.completing.proofs.write_kept.Goals.{After-size-unknown}
+use Rattle.completing.proofs.write_kept.Goals.{In-Some}
 
-unknown : (c : After-size-unknown) → c.size-unknown.result - 1 ≡ unknown_of c.args.sizes.now c.loop-kept.kept.variable
-unknown c = ap (λ d. d - 1) c.size-unknown.ensures
+-- In a turn it stands at one that is kept.
+writing : (s : In-Some) → let a = s.args in
+    Writing a.sizes.now a.pairs.now a.goal.now a.lean a.room.now a.at s.loop-next.room s.loop-next.end (Some s.in-Some.kept)
+writing s = rw s.in-Some.is at s.loop-next.invariant
 
-inside : (c : After-size-unknown) → c.loop-kept.kept.value < unknown_of c.args.sizes.now c.loop-kept.kept.variable
-inside c = (c.loop-kept.invariant.stands.found.there c.loop-kept-test.true).0
+pub loop-next-init : goal.loop-next-init
+loop-next-init c = writing-first _ _ _ _ _ _ _ c.requires.2 c.next_kept-next.ensures
 
-pub loop-kept-init : goal.loop-kept-init
-loop-kept-init c = writing-first _ _ _ _ _ _ _ c.requires.2 c.next_kept-kept.ensures
+pub write_operator-end-requires : goal.write_operator-end-requires
+write_operator-end-requires c = writing-fits _ _ _ _ _ _ _ _ _ (writing (goal.at.write_operator-end-requires c).In-Some) c.requires.0.limits _ c.entry.ensures
 
-pub size-unknown-requires : goal.size-unknown-requires
-size-unknown-requires c = c.loop-kept-test.true
+pub loop-next-smaller : goal.loop-next-smaller
+loop-next-smaller c = rw c.in-Some.is (writing-less _ _ _ _ _ _ _ _ _ (writing (goal.at.loop-next-smaller c).In-Some) _ c.next_kept-next-in-Some.ensures)
 
-pub overflow_sub-unknown : goal.overflow_sub-unknown
-overflow_sub-unknown c = omega (arith, inside c, c.size-unknown.ensures)
-
-pub write_operator-next-requires : goal.write_operator-next-requires
-write_operator-next-requires c =
-    let l = c.loop-kept-test.true in
-    (kept-triples _ _ _ _ c.requires.0.limits l (inside (goal.at.write_operator-next-requires c).After-size-unknown) (unknown (goal.at.write_operator-next-requires c).After-size-unknown), writing-fits _ _ _ _ _ _ _ _ _ c.loop-kept.invariant l _ (unknown (goal.at.write_operator-next-requires c).After-size-unknown))
-
-pub overflow_add-value : goal.overflow_add-value
-overflow_add-value c = omega (arith, inside (goal.at.overflow_add-value c).After-size-unknown, c.requires.0.limits.each _ c.loop-kept-test.true)
-
-pub next_kept-kept-requires-in-loop-kept : goal.next_kept-kept-requires-in-loop-kept
-next_kept-kept-requires-in-loop-kept c =
-    let (ready, state, _) = c.requires in
-    let l = c.loop-kept-test.true in
-    (ready, state, omega arith, omega (arith, inside (goal.at.next_kept-kept-requires-in-loop-kept c).After-size-unknown))
-
-pub loop-kept-smaller : goal.loop-kept-smaller
-loop-kept-smaller c = writing-less _ _ _ _ _ _ _ _ _ c.loop-kept.invariant c.loop-kept-test.true _ c.next_kept-kept-in-loop-kept.ensures
-
-pub loop-kept-preserved : goal.loop-kept-preserved
-loop-kept-preserved c =
-    writing-next _ _ _ _ _ _ _ _ _ c.loop-kept.invariant c.loop-kept-test.true _ (unknown (goal.at.loop-kept-preserved c).After-size-unknown) _ _ _ c.write_operator-next.ensures.after c.write_operator-next.ensures.written c.next_kept-kept-in-loop-kept.ensures
-
-pub shape_of-room : goal.shape_of-room
-shape_of-room c = c.loop-kept.invariant.remains.kept
+pub loop-next-preserved : goal.loop-next-preserved
+loop-next-preserved c =
+    writing-next _ _ _ _ _ _ _ _ _ (writing (goal.at.loop-next-preserved c).In-Some) _ _ _
+    (rw (← c.entry.ensures) c.write_operator-end.ensures.after) (rw (← c.entry.ensures) c.write_operator-end.ensures.written) c.next_kept-next-in-Some.ensures
 
 pub returns : goal.returns
-returns c = let told = writing-end _ _ _ _ _ _ _ _ _ c.loop-kept.invariant c.loop-kept-test.false in record { after = told.0; written = told.1 }
+returns c = let told = writing-end _ _ _ _ _ _ _ _ (rw c.in_default.is at c.loop-next.invariant) in record { after = told.0; written = told.1 }

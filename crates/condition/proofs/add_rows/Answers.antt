@@ -5,11 +5,5 @@ use Rattle.layout.specs.Parts.{room-zeros}
 use Rattle.condition.specs.Slotted.{opened-due}
 use Rattle.condition.proofs.add_rows.Goals as goal
 
-pub slice_bounds-add_rows_with-end : goal.slice_bounds-add_rows_with-end
-slice_bounds-add_rows_with-end c = simp length-take (omega (arith, c.words_for-w.ensures, (opened-due c.requires).features))
-
-pub slice_bounds-add_rows_with-end-2 : goal.slice_bounds-add_rows_with-end-2
-slice_bounds-add_rows_with-end-2 c = simp length-take (omega (arith, c.words_for-w.ensures, (opened-due c.requires).features))
-
 pub add_rows_with-requires : goal.add_rows_with-requires
 add_rows_with-requires c = let few = (opened-due c.requires).features in (c.requires, simp length-take (omega (arith, c.words_for-w.ensures, few)), room-zeros _ c.args.n few c.words_for-w.ensures)

@@ -5,14 +5,13 @@ use lib.ListN.{length}
 use Rattle.meaning.specs.Sets.{Set}
 use Rattle.meaning.specs.Feature.{features}
 use Rattle.meaning.specs.Workspace.{has}
-use Rattle.theory.specs.Slices.{entries_in}
 use Rattle.condition.specs.Walk.{Walked, rows_by, rows_left, all_even}
 use Rattle.condition.proofs.all_even.Given as goal
 
 abbrev pub invariant-loop-walk : goal.invariant-loop-walk
 invariant-loop-walk l =
-    (left : List Set) × Walked l.sizes (entries_in l.variables l.befores l.afters) l.possible l.state l.row l.walk left
-    × (all_even (features l.sizes) (has l.weights) (rows_by l.sizes (entries_in l.variables l.befores l.afters) l.possible l.state) ≡ all_even (features l.sizes) (has l.weights) left)
+    (left : List Set) × Walked l.sizes l.entries l.possible l.state l.row l.walk left
+    × (all_even (features l.sizes) (has l.weights) (rows_by l.sizes l.entries l.possible l.state) ≡ all_even (features l.sizes) (has l.weights) left)
 
 abbrev pub decreases-loop-walk : goal.decreases-loop-walk
-decreases-loop-walk l = length (rows_left l.sizes (entries_in l.variables l.befores l.afters) l.possible l.state l.row l.walk)
+decreases-loop-walk l = length (rows_left l.sizes l.entries l.possible l.state l.row l.walk)

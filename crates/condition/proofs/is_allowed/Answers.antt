@@ -4,12 +4,6 @@ use lib.ListN.{length-take}
 use Rattle.numbering.specs.Sizes.{atoms-most}
 use Rattle.condition.proofs.is_allowed.Goals as goal
 
-pub slice_bounds-meets_rows-end-2 : goal.slice_bounds-meets_rows-end-2
-slice_bounds-meets_rows-end-2 c = simp length-take (omega (arith, c.requires.0.limits.variables))
-
-pub slice_bounds-meets_rows-end-3 : goal.slice_bounds-meets_rows-end-3
-slice_bounds-meets_rows-end-3 c = let (r, e, past) = c.requires in simp length-take (omega (arith, e, r.limits.total))
-
 pub meets_rows-requires : goal.meets_rows-requires
 meets_rows-requires c = let (r, e, past) = c.requires in (
   r,

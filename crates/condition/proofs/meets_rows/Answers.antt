@@ -6,11 +6,5 @@ use Rattle.condition.proofs.meets_rows.Goals as goal
 pub returns-then-prepare : goal.returns-then-prepare
 returns-then-prepare c = sym (allowed-even _ _ _ _ ∙ ap (all_even _ _) (idle-rows _ _ _ (sym c.prepare.ensures.0 ∙ c.if-prepare.true)) ∙ even-none _ _)
 
-pub all_even-requires : goal.all_even-requires
-all_even-requires c = let (r, e, past, a, l, k) = c.requires in
-    ((_, prepared _ _ _ _ _ _ _ _ r c.prepare.ensures c.if-prepare.false), e, past, k)
-
 pub returns : goal.returns
-returns c = c.all_even.ensures ∙ sym (allowed-even _ _ _ _ ∙ ap (all_even _ _) (rows-by (prepared _ _ _ _ _ _ _ _
-    c.requires.0 c.prepare.ensures
-    c.if-prepare.false)))
+returns c = c.all_even.ensures ∙ sym (allowed-even _ _ _ _ ∙ ap (all_even _ _) (rows-by (prepared c.requires.0 c.prepare.ensures c.if-prepare.false)))

@@ -1,8 +1,6 @@
 -- `toggle_atoms`: after i turns the atoms of the first i variables are toggled.
-use Prim.Native.Nat.{◌≤◌, ◌-◌}
 use mathlib.Core.Path.{◌≡◌}
 use mathlib.Core.List.{[], ◌∷◌}
-use lib.ListN.{length}
 use Rattle.meaning.specs.Sets.{flat}
 use Rattle.meaning.specs.Task.{value}
 use Rattle.meaning.specs.Feature.{single}
@@ -10,7 +8,4 @@ use Rattle.words.specs.Toggled.{toggled_all}
 use Rattle.condition.proofs.toggle_atoms.Given as goal
 
 abbrev pub invariant-loop-i : goal.invariant-loop-i
-invariant-loop-i l = (l.i ≤ length l.sizes) × (l.row ≡ toggled_all l.initial.row (flat l.i (λ k. single l.sizes k (value l.state k) ∷ [])))
-
-abbrev pub decreases-loop-i : goal.decreases-loop-i
-decreases-loop-i l = length l.sizes - l.i
+invariant-loop-i l = l.row ≡ toggled_all l.initial.row (flat l.i (λ k. single l.sizes k (value l.state k) ∷ []))

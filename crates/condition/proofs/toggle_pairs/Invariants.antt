@@ -1,14 +1,9 @@
 -- `toggle_pairs`: after j turns the pairs among the first j variables are toggled.
-use Prim.Native.Nat.{◌≤◌, ◌-◌}
 use mathlib.Core.Path.{◌≡◌}
-use lib.ListN.{length}
 use Rattle.meaning.specs.Sets.{flat}
 use Rattle.words.specs.Toggled.{toggled_all}
 use Rattle.condition.specs.Ends.{true_pairs_of}
 use Rattle.condition.proofs.toggle_pairs.Given as goal
 
 abbrev pub invariant-loop-j : goal.invariant-loop-j
-invariant-loop-j l = (l.j ≤ length l.sizes) × (l.row ≡ toggled_all l.initial.row (flat l.j (true_pairs_of l.sizes l.state)))
-
-abbrev pub decreases-loop-j : goal.decreases-loop-j
-decreases-loop-j l = length l.sizes - l.j
+invariant-loop-j l = l.row ≡ toggled_all l.initial.row (flat l.j (true_pairs_of l.sizes l.state))

@@ -1,5 +1,4 @@
 -- `toggle_pairs_of`: after i turns the pairs of variable j's atom with those of the first i variables are toggled.
-use Prim.Native.Nat.{◌≤◌, ◌-◌}
 use mathlib.Core.Path.{◌≡◌}
 use mathlib.Core.List.{[], ◌∷◌}
 use Rattle.meaning.specs.Sets.{flat}
@@ -9,7 +8,4 @@ use Rattle.words.specs.Toggled.{toggled_all}
 use Rattle.condition.proofs.toggle_pairs_of.Given as goal
 
 abbrev pub invariant-loop-i : goal.invariant-loop-i
-invariant-loop-i l = (l.i ≤ l.j) × (l.row ≡ toggled_all l.initial.row (flat l.i (λ k. both l.sizes k (value l.state k) l.j (value l.state l.j) ∷ [])))
-
-abbrev pub decreases-loop-i : goal.decreases-loop-i
-decreases-loop-i l = l.j - l.i
+invariant-loop-i l = l.row ≡ toggled_all l.initial.row (flat l.i (λ k. both l.sizes k (value l.state k) l.j (value l.state l.j) ∷ []))

@@ -4,9 +4,6 @@ use Rattle.words.specs.Toggled.{toggled-join}
 use Rattle.condition.specs.Ends.{true_features}
 use Rattle.condition.proofs.toggle_true.Goals as goal
 
-pub toggle_pairs-requires : goal.toggle_pairs-requires
-toggle_pairs-requires c = let (room, state) = c.requires in (record { limits = room.limits; long = c.row-1.given ∙ room.long }, state)
-
 pub returns : goal.returns
 unfolding true_features
 returns c = c.toggle_pairs.ensures ∙ rw c.toggle_atoms.ensures (sym (toggled-join _ _ _))

@@ -1,6 +1,5 @@
 -- `convert_in`: the parts of the header, and the file that is written from them.
-use mathlib.Core.Path.{refl}
-use native.Mathlib.Omega.{arith}
+use Rattle.std.proofs.Common.{refl, arith}
 use Rattle.meaning.specs.File.{kind_if}
 use Rattle.theory.specs.Spent.{Bytes}
 use Rattle.layout.specs.Parts.{Headed, headed-sizes}
@@ -10,7 +9,7 @@ use Rattle.converting.proofs.convert_in.Goals as goal
 use Rattle.converting.proofs.convert_in.Goals.{After-pairs, Start}
 
 -- All words of the header are there.
-room : (s : Start) → Headed s.args.v s.args.n s.args.header.now
+room : (s : Start) → Headed s.args.header.variables s.args.header.features s.args.words.now
 room s = headed (kind_if s.args.gapped) s.requires.1
 
 small : (c : After-pairs) → Bytes c.args.task.now
@@ -41,4 +40,4 @@ pub returns : goal.returns
 returns c =
     let a = c.args in
     converts-so (kind_if a.gapped) c.requires.1 _ _ _ _ c.sizes.ensures c.start.ensures c.goal.ensures c.pairs.ensures (small (goal.at.returns c).After-pairs) _ a.room.now _
-    (lent-behind a.task.now a.at a.at refl) c.write_task.ensures
+    (lent-behind a.task.now a.header.next a.header.next refl) c.write_task.ensures

@@ -15,10 +15,10 @@ added c = let start = c.args in
     c.places.ensures c.places-2.ensures c.places-3.ensures
     start.workspace.now _ c.add_operator.ensures
 
-pub edited_number-requires : goal.edited_number-requires
-edited_number-requires c = let start = c.args in
+pub number-requires : goal.number-requires
+number-requires c = let start = c.args in
     edits-fit start.workspace.now (add_operator (handed start.count start.variables.now start.befores.now start.afters.now))
-    (record { answer = edited_of c.add_operator.result; lent = _ }) (added (goal.at.edited_number-requires c).After-add_operator)
+    (record { answer = edited_of c.add_operator.result; lent = _ }) (added (goal.at.number-requires c).After-add_operator)
 
 pub returns : goal.returns
-returns c = (_, added (goal.at.returns c).After-add_operator, c.edited_number.ensures)
+returns c = (_, added (goal.at.returns c).After-add_operator, c.number.ensures)

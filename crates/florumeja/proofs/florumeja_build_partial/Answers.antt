@@ -4,6 +4,6 @@ use Rattle.writer.specs.Answer.{outcome_of}
 use Rattle.florumeja.specs.Fits.{builds-partial-fit}
 use Rattle.florumeja.proofs.florumeja_build_partial.Goals as goal
 
-pub written_number-requires : goal.written_number-requires
-written_number-requires c = let start = c.args in
+pub number-requires : goal.number-requires
+number-requires c = let start = c.args in
     builds-partial-fit left_out start.partial.now start.room.now (outcome_of c.build_partial.result _) c.build_partial.ensures

@@ -4,7 +4,7 @@ use Rattle.showing.specs.Answer.{leaving_of}
 use Rattle.florumeja.specs.Fits.{displays-fit}
 use Rattle.florumeja.proofs.florumeja_display.Goals as goal
 
-pub displayed_number-requires : goal.displayed_number-requires
-displayed_number-requires c =
+pub number-requires : goal.number-requires
+number-requires c =
     let start = c.args in
     displays-fit (shown start.task.now start.weights.now) start.room.now (leaving_of c.display_words.result _) c.display_words.ensures

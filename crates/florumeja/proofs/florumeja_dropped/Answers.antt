@@ -3,6 +3,6 @@ use Rattle.writer.specs.Answer.{outcome_of}
 use Rattle.florumeja.specs.Fits.{drops-fit}
 use Rattle.florumeja.proofs.florumeja_dropped.Goals as goal
 
-pub written_number-requires : goal.written_number-requires
-written_number-requires c = let start = c.args in
+pub number-requires : goal.number-requires
+number-requires c = let start = c.args in
     drops-fit start.task.now start.room.now (outcome_of c.dropped.result _) c.dropped.ensures

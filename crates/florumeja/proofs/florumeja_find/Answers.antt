@@ -2,5 +2,5 @@
 use Rattle.florumeja.specs.Fits.{finds-fit}
 use Rattle.florumeja.proofs.florumeja_find.Goals as goal
 
-pub found_number-requires : goal.found_number-requires
-found_number-requires c = finds-fit _ _ _ c.find.ensures
+pub number-requires : goal.number-requires
+number-requires c = finds-fit _ _ _ c.find.ensures

@@ -3,6 +3,6 @@ use Rattle.writer.specs.Answer.{outcome_of}
 use Rattle.florumeja.specs.Fits.{mends-fit}
 use Rattle.florumeja.proofs.florumeja_mend.Goals as goal
 
-pub written_number-requires : goal.written_number-requires
-written_number-requires c = let start = c.args in
+pub number-requires : goal.number-requires
+number-requires c = let start = c.args in
     mends-fit start.task.now start.room.now (outcome_of c.mend.result _) c.mend.ensures

@@ -4,6 +4,6 @@ use Rattle.editing.specs.Answers.{edited_of}
 use Rattle.florumeja.specs.Fits.{edits-fit}
 use Rattle.florumeja.proofs.florumeja_replace_goal.Goals as goal
 
-pub edited_number-requires : goal.edited_number-requires
-edited_number-requires c = let start = c.args in
+pub number-requires : goal.number-requires
+number-requires c = let start = c.args in
     edits-fit start.workspace.now (replace_goal start.values.now) (record { answer = edited_of c.replace_goal.result; lent = _ }) c.replace_goal.ensures

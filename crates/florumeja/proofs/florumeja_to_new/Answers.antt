@@ -4,6 +4,6 @@ use Rattle.writer.specs.Answer.{outcome_of}
 use Rattle.florumeja.specs.Fits.{converts-fit}
 use Rattle.florumeja.proofs.florumeja_to_new.Goals as goal
 
-pub written_number-requires : goal.written_number-requires
-written_number-requires c = let start = c.args in
+pub number-requires : goal.number-requires
+number-requires c = let start = c.args in
     converts-fit gapped start.task.now start.room.now (outcome_of c.to_new.result _) c.to_new.ensures

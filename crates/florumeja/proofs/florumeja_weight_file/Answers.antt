@@ -4,6 +4,6 @@ use Rattle.writer.specs.Answer.{outcome_of}
 use Rattle.florumeja.specs.Fits.{writes-fit}
 use Rattle.florumeja.proofs.florumeja_weight_file.Goals as goal
 
-pub written_number-requires : goal.written_number-requires
-written_number-requires c = let start = c.args in
+pub number-requires : goal.number-requires
+number-requires c = let start = c.args in
     writes-fit (members_in start.words.now) start.room.now (outcome_of c.weight_file.result _) c.weight_file.ensures

@@ -4,6 +4,6 @@ use Rattle.writer.specs.Answer.{outcome_of}
 use Rattle.florumeja.specs.Fits.{converts-weights-fit}
 use Rattle.florumeja.proofs.florumeja_weights_to_old.Goals as goal
 
-pub written_number-requires : goal.written_number-requires
-written_number-requires c = let start = c.args in
+pub number-requires : goal.number-requires
+number-requires c = let start = c.args in
     converts-weights-fit plain start.task.now start.weights.now start.room.now (outcome_of c.weights_to_old.result _) c.weights_to_old.ensures

@@ -1,16 +1,17 @@
 -- `places`: each turn copies one more place.
 use mathlib.Core.Path.{refl}
+use Rattle.std.proofs.Common.{rules}
 use native.Mathlib.Omega.{arith}
 use lib.ListN.{length-set}
 use Rattle.florumeja.specs.Places.{place-copied}
 use Rattle.florumeja.proofs.places.Goals as goal
 
 pub loop-i-init : goal.loop-i-init
-loop-i-init c = (omega arith, refl, λ i l. absurd (omega arith))
+loop-i-init c = (refl, λ i l. absurd (omega arith))
 
 pub loop-i-preserved : goal.loop-i-preserved
 loop-i-preserved c = let l = c.loop-i in
-    (omega arith, simp length-set l.invariant.1, place-copied l.copied c.args.words.now l.i _ (omega arith) l.invariant.2 c.place.ensures)
+    (simp length-set l.invariant.0, place-copied l.copied c.args.words.now l.i _ (omega arith) l.invariant.1 (search rules))
 
 pub returns : goal.returns
-returns c = λ i l. c.loop-i.invariant.2 i (omega arith)
+returns c = λ i l. c.loop-i.invariant.1 i (omega arith)

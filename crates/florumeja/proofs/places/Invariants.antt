@@ -1,5 +1,4 @@
 -- `places`: each turn copies one more place.
-use Prim.Native.Nat.{◌-◌, ◌≤◌}
 use mathlib.Core.Path.{◌≡◌}
 use lib.ListN.{length}
 use Rattle.meaning.specs.Limits.{most_variables}
@@ -7,7 +6,4 @@ use Rattle.florumeja.specs.Places.{SamePlaces}
 use Rattle.florumeja.proofs.places.Given as goal
 
 abbrev pub invariant-loop-i : goal.invariant-loop-i
-invariant-loop-i l = (l.i ≤ most_variables) × (length l.copied ≡ most_variables) × SamePlaces l.i l.copied l.words
-
-abbrev pub decreases-loop-i : goal.decreases-loop-i
-decreases-loop-i l = most_variables - l.i
+invariant-loop-i l = (length l.copied ≡ most_variables) × SamePlaces l.i l.copied l.words

@@ -1,24 +1,42 @@
--- `is_against`: the value is exclusive with the goal value of none of the first j variables.
-use mathlib.Core.Path.{sym, ◌∙◌}
-use native.Mathlib.Omega.{arith}
-use Rattle.theory.specs.Search.{some_at}
-use Rattle.pairs.specs.Places.{some-start, some_next, some-done}
-use Rattle.forgetting.specs.Out.{against_by}
+-- `is_against`: some variable below the count of them passes the test.
+use Rattle.std.specs.Prelude.{ℕ, zero, suc, ◌+◌, ◌-◌, ◌≡◌, refl, Bool, true, false, ◌||◌, length}
+use Rattle.std.specs.List.{range_with_len, list_any}
+use Rattle.std.proofs.Common.{rules, sym, ap, ap₂, ◌∙◌, arith}
+use Rattle.std.proofs.lemmas.Iterator.{YieldsList-from_range}
+use Rattle.std.proofs.lemmas.Iterator.Search.{any_from_yields_List}
+use borrow.Author.Tests.{tests}
+use Rattle.meaning.specs.Sets.{some}
+use Rattle.meaning.specs.Workspace.{has}
+use Rattle.theory.specs.Search.{some-cong}
+use Rattle.forgetting.specs.Out.{against_at, against_by}
 use Rattle.forgetting.proofs.is_against.Goals as goal
 
-pub loop-j-init : goal.loop-j-init
-loop-j-init c = (omega arith, some-start _)
+or_assoc : (a b c : Bool) → ((a || b) || c) ≡ (a || (b || c))
+or_assoc true b c = refl
+or_assoc false b c = refl
 
-pub is_against_at-requires : goal.is_against_at-requires
-is_against_at-requires c = let (ready, state, l, h, silent) = c.requires in (ready, state, l, h, silent, c.loop-j-test.true)
+or-none : (a : Bool) → a ≡ (a || false)
+or-none true = refl
+or-none false = refl
 
-pub returns-then-is_against_at : goal.returns-then-is_against_at
-unfolding against_by
-returns-then-is_against_at c = sym (some_at _ _ _ c.loop-j-test.true (sym c.is_against_at.ensures ∙ c.if-is_against_at.true))
+-- The first number passes, or some later one.
+some-front : (n : ℕ) (test : ℕ → Bool) → some (suc n) test ≡ (test 0 || some n (λ k. test (suc k)))
+unfolding some
+some-front zero test = or-none (test 0)
+some-front (suc n) test = ap (λ b. b || test (suc n)) (some-front n test) ∙ or_assoc (test 0) (some n (λ k. test (suc k))) (test (suc n))
 
-pub loop-j-preserved : goal.loop-j-preserved
-loop-j-preserved c = (omega arith, some_next _ _ c.loop-j.invariant.1 (sym c.is_against_at.ensures ∙ c.if-is_against_at.false))
+-- Some number of n from a on passes, and some number below n.
+some-from : (a n : ℕ) (test : ℕ → Bool) → list_any test (range_with_len a n) ≡ some n (λ k. test (a + k))
+unfolding some
+some-from a zero test = refl
+some-from a (suc n) test = ap₂ ◌||◌ (ap test (omega arith)) (some-from (a + 1) n test ∙ some-cong n _ _ (λ k l. ap test (omega arith))) ∙ sym (some-front n (λ k. test (a + k)))
+
+some-range : (n : ℕ) (test : ℕ → Bool) → list_any test (range_with_len 0 (n - 0)) ≡ some n test
+some-range n test = let e : n - 0 ≡ n = omega arith in rw e (some-from 0 n test ∙ some-cong n _ _ (λ k l. ap test (omega arith)))
 
 pub returns : goal.returns
 unfolding against_by
-returns c = some-done _ _ _ (omega arith) (omega arith) c.loop-j.invariant.1
+returns c = let a = c.args in
+    let against : ℕ → Bool = against_at a.sizes.now (has a.pairs.now) a.goal.now a.i a.x in
+    any_from_yields_List against _ _ c.any.result c.any.ensures.ran (YieldsList-from_range 0 _ _ refl refl) (λ x b q k. search (rules, tests))
+    ∙ some-range (length a.sizes.now) against

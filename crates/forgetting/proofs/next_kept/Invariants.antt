@@ -1,13 +1,10 @@
--- `next_kept`: nothing is kept from value x of variable i on and before value y of variable j.
-use Prim.Native.Nat.{◌-◌}
-use lib.ListN.{length}
+-- `next_kept`: nothing is kept from value x of variable i on and before value `from` of the variable at hand.
+use Rattle.std.specs.Prelude.{◌≡◌, ◌≤◌}
 use Rattle.meaning.specs.Workspace.{has}
 use Rattle.forgetting.specs.Out.{out_by}
-use Rattle.forgetting.specs.Kept.{Passed}
+use Rattle.forgetting.specs.Kept.{kept_before, unknown_of}
 use Rattle.forgetting.proofs.next_kept.Given as goal
 
-abbrev pub invariant-loop-j : goal.invariant-loop-j
-invariant-loop-j l = Passed l.sizes (out_by l.sizes (has l.pairs) l.goal l.lean) l.i l.x l.j l.y
-
-abbrev pub decreases-loop-j : goal.decreases-loop-j
-decreases-loop-j l = length l.sizes - l.j
+abbrev pub invariant-loop-variable : goal.invariant-loop-variable
+invariant-loop-variable l = let before = kept_before l.sizes (out_by l.sizes (has l.pairs) l.goal l.lean) in
+    (l.from ≤ unknown_of l.sizes l.variable) × (before l.variable l.from ≡ before l.i l.x)

@@ -1,49 +1,16 @@
 -- `drop_held`: what is unclosed under the state as an operator is taken out.
-use Prim.Native.Nat.{◌≤◌}
-use mathlib.Core.Path.{sym}
-use native.Mathlib.Omega.{arith}
-use lib.Seq.{length-take-le}
-use borrow.Author.Rules.{rules}
-use Rattle.meaning.specs.Limits.{most_variables, most_atoms}
+use Rattle.std.proofs.Common.{arith, ◌∙◌, ◌≤◌}
+use Rattle.meaning.specs.Limits.{most_atoms}
+use Rattle.meaning.specs.Feature.{atoms}
 use Rattle.meaning.specs.Workspace.{words_for}
 use Rattle.numbering.specs.Sizes.{atoms-most}
-use Rattle.operator.specs.Known.{Room}
-use Rattle.keeping.specs.Standing.{held-few, held-ready, held-sliced, held-possible}
+use Rattle.keeping.specs.Standing.{held-ready, held-possible}
 use Rattle.keeping.specs.Keep.{held_out}
 use Rattle.keeping.proofs.drop_held.Goals as goal
-use Rattle.keeping.proofs.drop_held.Goals.{After-standing-operator}
-
-room : (c : After-standing-operator) → Room c.standing-operator.result
-room c = record { variables = search rules; befores = search rules; afters = search rules }
-
-few : (c : After-standing-operator) → c.standing-operator.result.count ≤ most_variables
-few c = held-few _ _ _ c.requires.0 c.requires.1 _ (room c) c.standing-operator.ensures
-
-pub slice_bounds-variables-end : goal.slice_bounds-variables-end
-slice_bounds-variables-end c = omega (arith, few (goal.at.slice_bounds-variables-end c).After-standing-operator, (room (goal.at.slice_bounds-variables-end c).After-standing-operator).variables)
-
-pub slice_bounds-drop_unclosed-end : goal.slice_bounds-drop_unclosed-end
-slice_bounds-drop_unclosed-end c = sym (length-take-le _ _ (omega (arith, few (goal.at.slice_bounds-drop_unclosed-end c).After-standing-operator, (room (goal.at.slice_bounds-drop_unclosed-end c).After-standing-operator).variables)))
-
-pub slice_bounds-befores-end : goal.slice_bounds-befores-end
-slice_bounds-befores-end c = omega (arith, few (goal.at.slice_bounds-befores-end c).After-standing-operator, (room (goal.at.slice_bounds-befores-end c).After-standing-operator).befores)
-
-pub slice_bounds-drop_unclosed-end-2 : goal.slice_bounds-drop_unclosed-end-2
-slice_bounds-drop_unclosed-end-2 c = sym (length-take-le _ _ (omega (arith, few (goal.at.slice_bounds-drop_unclosed-end-2 c).After-standing-operator, (room (goal.at.slice_bounds-drop_unclosed-end-2 c).After-standing-operator).befores)))
-
-pub slice_bounds-afters-end : goal.slice_bounds-afters-end
-slice_bounds-afters-end c = omega (arith, few (goal.at.slice_bounds-afters-end c).After-standing-operator, (room (goal.at.slice_bounds-afters-end c).After-standing-operator).afters)
-
-pub slice_bounds-drop_unclosed-end-3 : goal.slice_bounds-drop_unclosed-end-3
-slice_bounds-drop_unclosed-end-3 c = sym (length-take-le _ _ (omega (arith, few (goal.at.slice_bounds-drop_unclosed-end-3 c).After-standing-operator, (room (goal.at.slice_bounds-drop_unclosed-end-3 c).After-standing-operator).afters)))
 
 pub drop_unclosed-requires : goal.drop_unclosed-requires
-drop_unclosed-requires c = let p = c.requires in (
-  held-ready _ _ _ p.0 p.1 _ (room (goal.at.drop_unclosed-requires c).After-standing-operator) c.standing-operator.ensures,
-  held-possible _ _ _ p.0 p.1 _ (room (goal.at.drop_unclosed-requires c).After-standing-operator) c.standing-operator.ensures (words_for most_atoms) (omega (arith, atoms-most _ p.0.limits)),
-  omega (arith, atoms-most _ p.0.limits),
-)
+drop_unclosed-requires c = let (listed, full) = c.requires in let made = c.entries.ensures ∙ c.standing-operator.ensures.1 in let room : atoms c.args.sizes.now ≤ 4096 = omega (arith, atoms-most _ listed.limits) in
+    (held-ready _ _ _ _ listed full made, held-possible _ _ _ _ listed full made (words_for most_atoms) room, room)
 
 pub returns : goal.returns
-returns c = let p = c.requires in
-    held_out _ _ _ _ _ _ _ _ p.1 (held-sliced _ _ _ p.0 p.1 _ (room (goal.at.returns c).After-standing-operator) c.standing-operator.ensures) c.drop_unclosed.ensures
+returns c = held_out _ _ _ _ _ _ _ _ c.requires.1 (c.entries.ensures ∙ c.standing-operator.ensures.1) c.drop_unclosed.ensures

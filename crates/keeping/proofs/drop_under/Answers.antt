@@ -1,6 +1,5 @@
 -- `drop_under`: an idle operator takes nothing out, another one what is unclosed.
-use mathlib.Core.Path.{sym, ◌∙◌}
-use native.Mathlib.Omega.{arith}
+use Rattle.std.proofs.Common.{arith, sym, ◌∙◌}
 use Rattle.numbering.specs.Sizes.{atoms-most}
 use Rattle.keeping.specs.Turn.{turn-idle, turn-left}
 use Rattle.keeping.proofs.drop_under.Goals as goal

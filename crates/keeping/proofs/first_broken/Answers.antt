@@ -1,36 +1,30 @@
 -- `first_broken`: the list is closed under the operators that the walk has passed.
-use Prim.Native.Nat.{◌<◌}
-use native.Mathlib.Omega.{arith}
-use Rattle.keeping.specs.Fault.{closed-start, none-broken, closed-next, broken-here, broken-never}
+use Rattle.std.proofs.Common.{sym, ◌≡◌}
+use Rattle.meaning.specs.Number.{got}
+use Rattle.meaning.specs.File.{operator_of}
+use Rattle.keeping.specs.Turn.{read-few, read-ready}
+use Rattle.keeping.specs.Fault.{none-broken, closed-next, broken-here, broken-never}
 use Rattle.keeping.proofs.first_broken.Goals as goal
-use Rattle.keeping.proofs.first_broken.Goals.{Else-pair-end}
+use Rattle.keeping.proofs.first_broken.Goals.{After-entries-entries}
 
-going : (c : Else-pair-end) → c.loop-k.k < c.args.count
-going c = c.loop-k-test.true
-
-pub loop-k-init : goal.loop-k-init
-loop-k-init c = (omega arith, λ T stands. closed-start T _ _ _ _ stands _)
-
-pub unclosed_at-seen-requires : goal.unclosed_at-seen-requires
-unclosed_at-seen-requires c = c.requires
+-- What stands at the place, as the code holds it.
+read : (c : After-entries-entries) → operator_of c.args.sizes.now c.args.bytes.now c.loop-k.next ≡ got c.entries-entries.result c.in-Ok.read.next
+read c = rw c.entries-entries.ensures (sym c.in-Ok.ensures)
 
 pub returns-in_default : goal.returns-in_default
-returns-in_default c = λ T stands. absurd (broken-never T _ _ _ _ stands _ _ _ (c.loop-k.invariant.1 T stands) c.loop-k-test.true _ _ c.unclosed_at-seen.ensures.place c.unclosed_at-seen.ensures.found _ _ c.in_default.is)
+returns-in_default c = λ T stands. absurd (broken-never T _ _ _ _ stands _ _ _ (c.loop-k.invariant T stands) c.loop-k-test.true _ _ (sym c.in_default.ensures))
 
-pub returns-then-pair-end : goal.returns-then-pair-end
-returns-then-pair-end c = λ T stands. broken-here T _ _ _ _ stands _ _ _ (c.loop-k.invariant.1 T stands) c.loop-k-test.true _ _ c.unclosed_at-seen.ensures.place c.unclosed_at-seen.ensures.found _ c.in-Next.is (omega (arith, c.if-pair-end.true, c.requires.1))
+pub entries-entries-requires : goal.entries-entries-requires
+entries-entries-requires c = read-few _ _ _ _ _ _ c.requires.0 c.in-Ok.ensures
 
-pub overflow_add-k : goal.overflow_add-k
-overflow_add-k c = omega (arith, going c, c.ranges.count)
+pub unclosed_under-requires : goal.unclosed_under-requires
+unclosed_under-requires c = (rw c.entries-entries.ensures (read-ready _ _ _ _ _ _ c.requires.0 c.in-Ok.ensures), c.requires.1)
 
-pub loop-k-smaller : goal.loop-k-smaller
-loop-k-smaller c = omega (arith, going c)
+pub returns-in-Some : goal.returns-in-Some
+returns-in-Some c = λ T stands. broken-here T _ _ _ _ stands _ _ _ (c.loop-k.invariant T stands) c.loop-k-test.true _ _ (read (goal.at.returns-in-Some c).After-entries-entries) _ c.in-Some.ensures
 
 pub loop-k-preserved : goal.loop-k-preserved
-loop-k-preserved c = (
-  omega (arith, going c),
-  λ T stands. closed-next T _ _ _ _ stands _ _ _ (c.loop-k.invariant.1 T stands) (going c) _ _ c.unclosed_at-seen.ensures.place c.unclosed_at-seen.ensures.found _ c.in-Next.is (omega (arith, c.if-pair-end.false, c.requires.1)),
-)
+loop-k-preserved c = λ T stands. closed-next T _ _ _ _ stands _ _ _ (c.loop-k.invariant T stands) c.loop-k-test.true _ _ (read (goal.at.loop-k-preserved c).After-entries-entries) c.in_default-unclosed_under.ensures
 
 pub returns : goal.returns
-returns c = λ T stands. none-broken T _ _ _ _ stands _ _ _ _ (omega (arith, c.loop-k-test.false)) (c.loop-k.invariant.1 T stands)
+returns c = λ T stands. none-broken T _ _ _ _ stands _ _ _ c.loop-k-test.false (c.loop-k.invariant T stands)

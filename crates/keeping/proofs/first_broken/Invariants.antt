@@ -1,12 +1,8 @@
 -- `first_broken`: the list is closed under the operators that the walk has passed.
-use Prim.Native.Nat.{◌≤◌, ◌-◌}
 use Rattle.meaning.specs.Task.{Task}
 use Rattle.keeping.specs.Pass.{OperatorsAt}
 use Rattle.keeping.specs.Fault.{ClosedTo}
 use Rattle.keeping.proofs.first_broken.Given as goal
 
 abbrev pub invariant-loop-k : goal.invariant-loop-k
-invariant-loop-k l = (l.k ≤ l.count) × ((T : Task) (stands : OperatorsAt T l.sizes l.bytes l.at l.count) → ClosedTo T l.sizes l.bytes l.at l.count stands l.pairs l.k l.next)
-
-abbrev pub decreases-loop-k : goal.decreases-loop-k
-decreases-loop-k l = l.count - l.k
+invariant-loop-k l = (T : Task) (stands : OperatorsAt T l.sizes l.bytes l.at l.count) → ClosedTo T l.sizes l.bytes l.at l.count stands l.pairs l.k l.next

@@ -1,17 +1,10 @@
 -- `touch`: the two atoms of the pair are put in, one after the other.
-use native.Mathlib.Omega.{arith}
-use Rattle.numbering.specs.Sizes.{limits-small}
+use Rattle.std.proofs.Common.{arith}
 use Rattle.keeping.specs.Marks.{atom-room, touched-both}
 use Rattle.keeping.proofs.touch.Goals as goal
 
-pub single-requires : goal.single-requires
-single-requires c = let joins = c.values_in-values.ensures in (limits-small _ c.requires.0, (atom-room _ _ _ _ _ _ joins).0, joins.first)
-
 pub include-requires : goal.include-requires
 include-requires c = omega (arith, c.single.ensures, (atom-room _ _ _ _ _ _ c.values_in-values.ensures).1, c.requires.2)
-
-pub single-requires-2 : goal.single-requires-2
-single-requires-2 c = let joins = c.values_in-values.ensures in (limits-small _ c.requires.0, joins.place, joins.second)
 
 pub include-requires-2 : goal.include-requires-2
 include-requires-2 c = omega (arith, c.single-2.ensures, (atom-room _ _ _ _ _ _ c.values_in-values.ensures).2, c.requires.2, c.include.ensures.long)

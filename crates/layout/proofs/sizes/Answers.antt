@@ -1,8 +1,7 @@
 -- `layout::sizes`: the words lent are the sizes.
-use mathlib.Core.Path.{◌∙◌}
 use Rattle.meaning.specs.Workspace.{sizes_at}
 use Rattle.layout.specs.Parts.{lent}
 use Rattle.layout.proofs.sizes.Goals as goal
 
 pub returns : goal.returns
-returns c = let a = c.args in c.between.ensures ∙ rw c.start_at.ensures (lent sizes_at a.v a.workspace.now)
+returns c = let a = c.args in rw c.start_at.ensures (lent sizes_at a.v a.workspace.now)

@@ -3,15 +3,12 @@ use mathlib.Core.Path.{sym, ap, ◌∙◌}
 use native.Mathlib.Omega.{arith}
 use lib.Seq.{length-take-le}
 use Rattle.meaning.specs.Answer.{delivered}
-use Rattle.line.specs.Fits.{prints-short}
 use Rattle.text.specs.Parts.{put_front, put-within}
 use borrow.Author.Rules.{rules}
 use Rattle.line.proofs.line.Goals as goal
 
 pub put_line-end-requires : goal.put_line-end-requires
-put_line-end-requires c =
-    let input = c.args.input.now in
-    (search rules, search rules, prints-short input c.seek-found.new.weights c.seek-found.result c.seek-found.ensures)
+put_line-end-requires c = (search rules, search rules)
 
 pub slice_bounds-text-end : goal.slice_bounds-text-end
 slice_bounds-text-end c = omega (arith, put-within _ _ _ _ c.put_line-end.ensures)

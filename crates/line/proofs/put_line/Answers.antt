@@ -1,25 +1,26 @@
 -- `put_line`: each answer has its line, a refusal with the place of the input's first fault.
-use mathlib.Core.Path.{sym, subst}
-use mathlib.Core.List.{[]}
-use native.Mathlib.Omega.{arith}
+use Rattle.std.specs.Prelude.{◌≡◌, [], Ok}
+use Rattle.std.proofs.Common.{sym, subst, arith}
 use Rattle.meaning.specs.Line.{place_text, line}
+use Rattle.number.specs.Answers.{reason_of}
 use Rattle.placing.specs.Answers.{spot_of}
-use Rattle.text.specs.Parts.{ShortSpot, refused-few}
-use Rattle.line.specs.Fits.{ShortNumber, printed-short}
+use Rattle.text.specs.Parts.{ShortSpot, refused-few, refusal-short}
+use Rattle.finding.specs.declared.Found.TheVariants.{Separated, Nothing}
+use Rattle.line.specs.Fits.{printed-short}
 use Rattle.line.proofs.put_line.Goals as goal
 
 pub put_refused-requires : goal.put_refused-requires
-put_refused-requires c = let input = c.args.input.now in let number = c.in-Refused.number in
-    omega (arith, refused-few [] [] (omega arith) (omega arith) number (spot_of c.input_spot.result) (subst ShortNumber c.in-Refused.is c.requires.2) (subst ShortSpot (sym c.input_spot.ensures) (printed-short input)))
+put_refused-requires c = let input = c.args.input.now in
+    rw c.from.ensures (omega (arith, refused-few [] [] (omega arith) (omega arith) _ (spot_of c.input_spot.result) (refusal-short (reason_of c.in-Err.reason)) (subst ShortSpot (sym c.input_spot.ensures) (printed-short input))))
 
-pub returns-in-Separated : goal.returns-in-Separated
+pub returns-in-Ok-Separated : goal.returns-in-Ok-Separated
 unfolding line
-returns-in-Separated c = rw c.in-Separated.is c.put_separated.ensures
+returns-in-Ok-Separated c = let q = rw c.in-Ok-Separated.is at c.in-Ok-Separated.field-0-is in let e : c.args.found ≡ Ok Separated = cc in rw e c.put_separated.ensures
 
-pub returns-in-Nothing : goal.returns-in-Nothing
+pub returns-in-Ok-Nothing : goal.returns-in-Ok-Nothing
 unfolding line
-returns-in-Nothing c = rw c.in-Nothing.is c.put.ensures
+returns-in-Ok-Nothing c = let q = rw c.in-Ok-Nothing.is at c.in-Ok-Nothing.field-0-is in let e : c.args.found ≡ Ok Nothing = cc in rw e c.put.ensures
 
-pub returns-in-Refused : goal.returns-in-Refused
+pub returns-in-Err : goal.returns-in-Err
 unfolding line place_text
-returns-in-Refused c = let input = c.args.input.now in rw (c.in-Refused.is, ← c.input_spot.ensures) c.put_refused.ensures
+returns-in-Err c = rw (c.in-Err.is, ← c.input_spot.ensures, ← c.from.ensures) c.put_refused.ensures

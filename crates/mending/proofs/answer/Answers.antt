@@ -1,38 +1,37 @@
--- `answer`: what is known of a task that was read goes to `answer_in`, with words for its pairs; a refusal is answered as it is.
-use Prim.Native.Nat.{◌≤◌}
-use native.Mathlib.Omega.{arith}
-use lib.ListN.{replicate, length-take}
-use Rattle.meaning.specs.Limits.{most_variables, most_features}
-use Rattle.meaning.specs.Workspace.{words_for, slots_at}
-use Rattle.number.specs.Answers.{reason_of}
-use Rattle.task.specs.Answer.{ReadInto, judged-told, judged-refused, left-room, read_left}
-use Rattle.writer.specs.Answer.{refused-so}
-use Rattle.mending.specs.Answer.{answer-refused}
+-- `answer`: what is known of a task that was read goes on with words for its pairs; a refusal is answered as it is.
+use Rattle.std.proofs.Common.{◌≤◌, arith}
+use Rattle.std.proofs.Math.ListN.{length-take}
+use Rattle.std.proofs.lemmas.Result.{err_from_is_err_and}
+use Rattle.meaning.specs.Limits.{most_features}
+use Rattle.meaning.specs.Workspace.{words_for}
+use Rattle.task.specs.Answer.{judged-refused}
+use Rattle.mending.specs.Answer.{ReadBy, read-by, headed, answer-refused}
 use Rattle.mending.proofs.answer.Goals as goal
-use Rattle.mending.proofs.answer.Goals.{After-words_for-words, In-Accepted}
+use Rattle.mending.proofs.answer.Goals.{After-words_for, In_ok-header}
 
 -- What is known of a task that was read.
-known : (c : In-Accepted) → ReadInto c.args.task.now (replicate (slots_at most_variables most_features) 0) c.read.new.header c.in-Accepted.variables c.in-Accepted.features c.in-Accepted.operators c.in-Accepted.at
-known c = judged-told _ _ _ _ _ _ _ _ c.read.ensures c.in-Accepted.is
+known : (c : In_ok-header) → ReadBy c.args.task.now c.read.new.words c.in_ok-header.header
+known c = read-by _ _ _ _ c.in_ok-header.ensures
 
 -- Its words are few enough for the array.
-few : (c : After-words_for-words) → c.words_for-words.result ≤ words_for most_features
-few c = omega (arith, c.words_for-words.ensures, (left-room (read_left (known (goal.at.After-words_for-words c).In-Accepted))).features)
+few : (c : After-words_for) → c.words_for.result ≤ words_for most_features
+few c = omega (arith, c.words_for.ensures, (headed (known (goal.at.After-words_for c).In_ok-header).1).features)
 
-pub words_for-words-requires : goal.words_for-words-requires
-words_for-words-requires c = (left-room (read_left (known c))).features
+pub returns-in_err-header : goal.returns-in_err-header
+returns-in_err-header c = let p = err_from_is_err_and c.from_residual.result c.from_residual.ensures.1 in
+    rw (p.1, p.2) (answer-refused _ _ (judged-refused _ _ _ _ c.in_err-header.ensures) c.args.dropping c.args.room.now)
+
+pub words_for-requires : goal.words_for-requires
+words_for-requires c = (headed (known c).1).features
 
 pub slice_bounds-pairs-end : goal.slice_bounds-pairs-end
-slice_bounds-pairs-end c = few (goal.at.slice_bounds-pairs-end c).After-words_for-words
+slice_bounds-pairs-end c = few c
 
-pub slice_bounds-answer_in-end-in-Accepted : goal.slice_bounds-answer_in-end-in-Accepted
-slice_bounds-answer_in-end-in-Accepted c = simp length-take (omega (arith, few (goal.at.slice_bounds-answer_in-end-in-Accepted c).After-words_for-words))
+pub slice_bounds-pairs-end-2 : goal.slice_bounds-pairs-end-2
+slice_bounds-pairs-end-2 c = simp length-take (omega (arith, few (goal.at.slice_bounds-pairs-end-2 c).After-words_for))
 
-pub answer_in-requires : goal.answer_in-requires
-answer_in-requires c = ((_, known (goal.at.answer_in-requires c).In-Accepted), simp length-take (omega (arith, few (goal.at.answer_in-requires c).After-words_for-words, c.words_for-words.ensures)))
+pub drop_in-requires : goal.drop_in-requires
+drop_in-requires c = (known (goal.at.drop_in-requires c).In_ok-header, simp length-take (omega (arith, few (goal.at.drop_in-requires c).After-words_for, c.words_for.ensures)))
 
-pub returns-in-Refused : goal.returns-in-Refused
-returns-in-Refused c =
-    let reason = reason_of c.in-Refused.reason in
-    let refused = judged-refused _ _ _ _ _ _ c.read.ensures c.in-Refused.is in
-    answer-refused _ _ _ _ refused c.args.dropping _ (refused-so c.refuse.result reason _ c.refuse.ensures)
+pub mend_in-requires : goal.mend_in-requires
+mend_in-requires c = (known (goal.at.mend_in-requires c).In_ok-header, simp length-take (omega (arith, few (goal.at.mend_in-requires c).After-words_for, c.words_for.ensures)))

@@ -1,17 +1,15 @@
 -- `drop_in`: the pairs that are kept, added to the listed ones, leave those that are dropped.
-use mathlib.Core.Path.{◌≡◌, sym, ◌∙◌}
-use lib.ListN.{length}
+use Rattle.std.proofs.Common.{◌≡◌, sym, ◌∙◌, length}
 use Rattle.meaning.specs.Workspace.{words_for}
-use Rattle.task.specs.Answer.{left-room, read_left}
-use Rattle.mending.specs.Answer.{pairs-long, drops-so}
+use Rattle.mending.specs.Answer.{headed, pairs-long, drops-so}
 use Rattle.mending.proofs.drop_in.Goals as goal
 use Rattle.mending.proofs.drop_in.Goals.{After-fill_kept}
 
-long : (c : After-fill_kept) → length c.fill_kept.new.kept ≡ words_for c.args.n
+long : (c : After-fill_kept) → length c.fill_kept.new.kept ≡ words_for c.args.header.features
 long c = c.fill_kept.auto.kept ∙ c.requires.1
 
 pub pairs-requires : goal.pairs-requires
-pairs-requires c = left-room (read_left c.requires.0.1)
+pairs-requires c = headed c.requires.0.1
 
 pub add-requires : goal.add-requires
 add-requires c = long (goal.at.add-requires c).After-fill_kept ∙ sym (pairs-long c.requires.0.1 _ c.pairs.ensures)

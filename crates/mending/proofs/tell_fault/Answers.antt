@@ -1,36 +1,33 @@
 -- `tell_fault`: the parts of the header, and what is written for each fault.
-use mathlib.Core.Path.{subst}
-use Rattle.layout.specs.Parts.{Headed, headed-sizes}
-use Rattle.task.specs.Answer.{left-room, read_left}
+use Rattle.layout.specs.Parts.{headed-sizes}
 use Rattle.keeping.specs.Fault.{FaultIs}
-use Rattle.mending.specs.Answer.{lent-ready, fault-is, fault-none, fault-held, fault-unclosed}
+use Rattle.mending.specs.Answer.{headed, lent-ready, fault-is, fault-none, fault-held, fault-unclosed}
 use Rattle.mending.proofs.tell_fault.Goals as goal
-use Rattle.mending.proofs.tell_fault.Goals.{After-first_fault, Start}
+use Rattle.mending.proofs.tell_fault.Goals.{After-first_fault}
 
--- All words of the header are there.
-room : (s : Start) → Headed s.args.v s.args.n s.args.header.now
-room s = left-room (read_left s.requires.0.1)
-
+-- What the answer says of the task.
 found : (c : After-first_fault) → FaultIs c.requires.0.1.task c.first_fault.result
 found c = fault-is c.requires.0.1 _ _ _ c.sizes.ensures c.start.ensures c.pairs.ensures c.first_fault.result c.first_fault.ensures
 
 pub sizes-requires : goal.sizes-requires
-sizes-requires c = headed-sizes (room (goal.at.sizes-requires c).Start)
+sizes-requires c = headed-sizes (headed c.requires.0.1)
 
 pub start-requires : goal.start-requires
-start-requires c = room (goal.at.start-requires c).Start
+start-requires c = headed c.requires.0.1
 
 pub pairs-requires : goal.pairs-requires
-pairs-requires c = room (goal.at.pairs-requires c).Start
+pairs-requires c = headed c.requires.0.1
 
 pub first_fault-requires : goal.first_fault-requires
 first_fault-requires c = lent-ready c.requires.0.1 _ _ _ c.sizes.ensures c.start.ensures c.pairs.ensures
 
-pub returns-in-Nothing : goal.returns-in-Nothing
-returns-in-Nothing c = fault-none c.requires.0.1 c.args.room.now c.requires.1 (subst (FaultIs c.requires.0.1.task) c.in-Nothing.is (found (goal.at.returns-in-Nothing c).After-first_fault))
+pub returns-in-None : goal.returns-in-None
+returns-in-None c = fault-none c.requires.0.1 c.args.room.now c.requires.1 (rw c.in-None.is at (found (goal.at.returns-in-None c).After-first_fault))
 
-pub returns-in-Held : goal.returns-in-Held
-returns-in-Held c = fault-held c.requires.0.1 c.args.room.now c.requires.1 _ (subst (FaultIs c.requires.0.1.task) c.in-Held.is (found (goal.at.returns-in-Held c).After-first_fault))
+pub returns-in-Some-Held : goal.returns-in-Some-Held
+returns-in-Some-Held c = let here = c.in-Some-Held in
+    fault-held c.requires.0.1 c.args.room.now c.requires.1 _ (rw (here.is, here.field-0-is) at (found (goal.at.returns-in-Some-Held c).After-first_fault))
 
-pub returns-in-Unclosed : goal.returns-in-Unclosed
-returns-in-Unclosed c = fault-unclosed c.requires.0.1 c.args.room.now c.requires.1 _ _ (subst (FaultIs c.requires.0.1.task) c.in-Unclosed.is (found (goal.at.returns-in-Unclosed c).After-first_fault))
+pub returns-in-Some-Unclosed : goal.returns-in-Some-Unclosed
+returns-in-Some-Unclosed c = let here = c.in-Some-Unclosed in
+    fault-unclosed c.requires.0.1 c.args.room.now c.requires.1 _ _ (rw (here.is, here.field-0-is) at (found (goal.at.returns-in-Some-Unclosed c).After-first_fault))

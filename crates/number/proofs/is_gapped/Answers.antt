@@ -4,10 +4,10 @@ use Rattle.meaning.specs.File.{kind_of}
 use Rattle.number.specs.Answers.{number_of}
 use Rattle.number.proofs.is_gapped.Goals as goal
 
-pub returns-in-Got : goal.returns-in-Got
+pub returns-in-Ok : goal.returns-in-Ok
 unfolding kind_of
-returns-in-Got c = simp (sym c.number_at.ensures ∙ ap number_of c.in-Got.is)
+returns-in-Ok c = simp (sym c.number_at.ensures ∙ ap number_of c.in-Ok.is)
 
-pub returns-in-Fault : goal.returns-in-Fault
+pub returns-in-Err : goal.returns-in-Err
 unfolding kind_of
-returns-in-Fault c = simp (sym c.number_at.ensures ∙ ap number_of c.in-Fault.is)
+returns-in-Err c = simp (sym c.number_at.ensures ∙ ap number_of c.in-Err.is)

@@ -1,47 +1,29 @@
--- `features` meets its contract: after j turns the two sums count the atoms and the pairs of the first j variables.
-use Prim.Native.Nat.{◌+◌, ◌*◌, ◌≤◌}
-use mathlib.Core.Path.{◌≡◌, refl}
-use native.Mathlib.Omega.{arith}
-use lib.ListN.{take}
-use Rattle.meaning.specs.Limits.{most_atoms}
+-- `features` meets its contract: after some sizes the two sums count the atoms and the pairs of their variables.
+use Rattle.std.proofs.Common.{arith, refl}
 use Rattle.meaning.specs.Feature.{sum_of, pairs_of}
 use Rattle.numbering.specs.Sums.{atoms-turn, pairs-turn, counted}
-use Rattle.numbering.specs.Sizes.{most_pairs, features-small}
+use Rattle.numbering.specs.Sizes.{features-small}
 use Rattle.numbering.proofs.features.Goals as goal
-use Rattle.numbering.proofs.features.Goals.{After-size-d}
 
--- What a turn adds to the atoms, and to the pairs.
-turn : (c : After-size-d) → let at = c.loop-j in
-    let sizes = c.args.sizes.now in
-    (at.atoms + c.size-d.result ≡ sum_of (take (at.j + 1) sizes))
-    × (at.atoms + c.size-d.result ≤ most_atoms)
-    × (at.pairs + at.atoms * c.size-d.result ≡ pairs_of (take (at.j + 1) sizes))
-    × (at.pairs + at.atoms * c.size-d.result ≤ most_pairs)
-turn c =
-    let at = c.loop-j.invariant in
-    let s = c.requires in
-    let (a, b) = atoms-turn _ _ _ _ s c.size-d.ensures at.1 in
-    let (p, q) = pairs-turn _ _ _ _ s c.size-d.ensures at.1 _ at.2 in
-    (a, b, p, q)
-
-pub loop-j-init : goal.loop-j-init
+pub loop-size-init : goal.loop-size-init
 unfolding sum_of pairs_of
-loop-j-init c = (omega arith, refl, refl)
+loop-size-init c = (refl, refl)
 
 pub overflow_mul-pairs : goal.overflow_mul-pairs
-overflow_mul-pairs c = omega (arith, turn c)
+overflow_mul-pairs c = let (atoms, pairs) = c.loop-size.invariant in omega (arith, pairs-turn _ _ _ _ c.requires refl atoms _ pairs)
 
 pub overflow_add-pairs : goal.overflow_add-pairs
-overflow_add-pairs c = omega (arith, turn c)
+overflow_add-pairs c = let (atoms, pairs) = c.loop-size.invariant in omega (arith, pairs-turn _ _ _ _ c.requires refl atoms _ pairs)
 
 pub overflow_add-atoms : goal.overflow_add-atoms
-overflow_add-atoms c = omega (arith, turn c)
+overflow_add-atoms c = omega (arith, atoms-turn _ _ _ _ c.requires refl c.loop-size.invariant.0)
 
-pub loop-j-preserved : goal.loop-j-preserved
-loop-j-preserved c = (omega arith, (turn c).0, (turn c).2)
+pub loop-size-preserved : goal.loop-size-preserved
+loop-size-preserved c = let s = c.requires in let (atoms, pairs) = c.loop-size.invariant in
+    ((atoms-turn _ _ _ _ s refl atoms).0, (pairs-turn _ _ _ _ s refl atoms _ pairs).0)
 
 pub overflow_add-result : goal.overflow_add-result
-overflow_add-result c = omega (arith, counted _ _ _ _ c.loop-j-test.false c.loop-j.invariant.1 c.loop-j.invariant.2, features-small _ c.requires)
+overflow_add-result c = omega (arith, counted _ _ _ _ c.loop-size-test.false c.loop-size.invariant.0 c.loop-size.invariant.1, features-small _ c.requires)
 
 pub returns : goal.returns
-returns c = counted _ _ _ _ c.loop-j-test.false c.loop-j.invariant.1 c.loop-j.invariant.2
+returns c = counted _ _ _ _ c.loop-size-test.false c.loop-size.invariant.0 c.loop-size.invariant.1

@@ -13,9 +13,6 @@ small : (c : After-size-then-second-sizes) → c.args.block.end + c.size.result 
 small c = let (sizes, stands, below) = c.requires in
     along-small _ _ sizes stands _ _ _ (omega arith) c.if-second-sizes.true c.size.ensures c.size-then-second-sizes.ensures
 
-pub overflow_mul-result : goal.overflow_mul-result
-overflow_mul-result c = omega (arith, small c)
-
 pub overflow_add-result : goal.overflow_add-result
 overflow_add-result c = omega (arith, small (goal.at.overflow_add-result c).After-size-then-second-sizes)
 

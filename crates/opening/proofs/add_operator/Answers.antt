@@ -1,62 +1,46 @@
--- `add_operator`: what was read is the operator in the three slices, and the workspace is ready for its rows.
+-- `add_operator`: what was read is an operator of the workspace's sizes, which is ready for its rows.
 use Prim.Native.Nat.{◌≤◌}
 use mathlib.Core.Path.{◌≡◌, sym, ◌∙◌}
 use native.Mathlib.Omega.{arith}
-use lib.ListN.{length-take}
-use lib.Seq.{length-take-le}
+use lib.ListN.{length, length-take}
+use Rattle.std.proofs.lemmas.Result.{err_from_is_err_and}
 use Rattle.meaning.specs.Limits.{most_variables}
+use Rattle.meaning.specs.Number.{got}
+use Rattle.meaning.specs.File.{operator_of}
 use Rattle.layout.specs.Parts.{sizes_part}
-use Rattle.operator.specs.Known.{Room}
+use Rattle.operator.specs.Known.{operator-is, count-fine}
 use Rattle.condition.specs.Later.{settled_as, settled-sizes, settled-rowed}
-use Rattle.opening.specs.Step.{work-due, step-few, step-opened, step-place, step-rows, fault-place, fault-rows}
-use borrow.Author.Rules.{rules}
+use Rattle.opening.specs.Step.{work-due, step-opened, step-place, step-rows, fault-place, fault-rows}
 use Rattle.opening.proofs.add_operator.Goals as goal
-use Rattle.opening.proofs.add_operator.Goals.{After-read_operator-read, In-Next}
+use Rattle.opening.proofs.add_operator.Goals.{After-sizes, After-entries-entries}
 
-lent : (c : After-read_operator-read) → let a = c.args in c.sizes.result.now ≡ sizes_part a.v (settled_as a.v a.n a.pending.now a.room.now)
+lent : (c : After-sizes) → let a = c.args in c.sizes.result.now ≡ sizes_part a.v (settled_as a.v a.n a.pending.now a.room.now)
 lent c = c.sizes.ensures ∙ sym (settled-sizes c.requires.0)
 
-room : (c : After-read_operator-read) → Room c.read_operator-read.result.operator
-room c = record { variables = search rules; befores = search rules; afters = search rules }
+read : (c : After-entries-entries) → operator_of c.sizes.result.now c.args.bytes.now c.args.at ≡ got c.entries-entries.result c.in_ok-read.read.next
+read c = rw c.entries-entries.ensures (sym c.in_ok-read.ensures)
 
-few : (c : In-Next) → c.read_operator-read.result.operator.count ≤ most_variables
-few c = step-few _ _ _ c.requires.1 _ _ _ (lent (goal.at.In-Next c).After-read_operator-read) _ c.read_operator-read.ensures _ c.in-Next.is (room (goal.at.In-Next c).After-read_operator-read)
+few : (c : After-sizes) → length c.sizes.result.now ≤ most_variables
+few c = simp (c.sizes.ensures, length-take) (omega (arith, (work-due _ _ _ c.requires.1).variables))
 
-pub read_operator-read-requires : goal.read_operator-read-requires
-read_operator-read-requires c = simp (c.sizes.ensures, length-take) (omega (arith, (work-due _ _ _ c.requires.1).variables))
-
-pub slice_bounds-variables-end : goal.slice_bounds-variables-end
-slice_bounds-variables-end c = omega (arith, few (goal.at.slice_bounds-variables-end c).In-Next, (room (goal.at.slice_bounds-variables-end c).After-read_operator-read).variables)
-
-pub slice_bounds-add_rows_later-end : goal.slice_bounds-add_rows_later-end
-slice_bounds-add_rows_later-end c = sym (length-take-le _ _ (omega (arith, few (goal.at.slice_bounds-add_rows_later-end c).In-Next, (room (goal.at.slice_bounds-add_rows_later-end c).After-read_operator-read).variables)))
-
-pub slice_bounds-befores-end : goal.slice_bounds-befores-end
-slice_bounds-befores-end c = omega (arith, few (goal.at.slice_bounds-befores-end c).In-Next, (room (goal.at.slice_bounds-befores-end c).After-read_operator-read).befores)
-
-pub slice_bounds-add_rows_later-end-in-Next : goal.slice_bounds-add_rows_later-end-in-Next
-slice_bounds-add_rows_later-end-in-Next c = sym (length-take-le _ _ (omega (arith, few (goal.at.slice_bounds-add_rows_later-end-in-Next c).In-Next, (room (goal.at.slice_bounds-add_rows_later-end-in-Next c).After-read_operator-read).befores)))
-
-pub slice_bounds-afters-end : goal.slice_bounds-afters-end
-slice_bounds-afters-end c = omega (arith, few (goal.at.slice_bounds-afters-end c).In-Next, (room (goal.at.slice_bounds-afters-end c).After-read_operator-read).afters)
-
-pub slice_bounds-add_rows_later-end-in-Next-2 : goal.slice_bounds-add_rows_later-end-in-Next-2
-slice_bounds-add_rows_later-end-in-Next-2 c = sym (length-take-le _ _ (omega (arith, few (goal.at.slice_bounds-add_rows_later-end-in-Next-2 c).In-Next, (room (goal.at.slice_bounds-add_rows_later-end-in-Next-2 c).After-read_operator-read).afters)))
+pub entries-entries-requires : goal.entries-entries-requires
+entries-entries-requires c = omega (arith, count-fine _ _ (operator-is _ _ _ _ _ (sym c.in_ok-read.ensures)), few (goal.at.entries-entries-requires c).After-sizes)
 
 pub add_rows_later-requires : goal.add_rows_later-requires
-add_rows_later-requires c = (c.requires.0, settled-rowed c.requires.0 (step-opened _ _ _ c.requires.1 _ _ _ (lent (goal.at.add_rows_later-requires c).After-read_operator-read) _ c.read_operator-read.ensures _ c.in-Next.is (room (goal.at.add_rows_later-requires c).After-read_operator-read)))
+add_rows_later-requires c = let at = goal.at.add_rows_later-requires c in
+    (c.requires.0, settled-rowed c.requires.0 (step-opened _ _ _ c.requires.1 _ _ _ (lent at.After-sizes) _ _ (read at.After-entries-entries)))
 
-pub shape_of-room-in-Next : goal.shape_of-room-in-Next
-shape_of-room-in-Next c = c.room-1.given
+pub returns-clause-place : goal.returns-clause-place
+returns-clause-place c = let at = goal.at.returns-clause-place c in step-place _ _ _ c.requires.1 _ _ _ (lent at.After-sizes) _ _ (read at.After-entries-entries)
 
-pub shape_of-full : goal.shape_of-full
-shape_of-full c = c.full-1.given
+pub returns-clause-rows : goal.returns-clause-rows
+returns-clause-rows c = let at = goal.at.returns-clause-rows c in
+    step-rows _ _ _ c.requires.1 _ _ _ (lent at.After-sizes) _ _ (read at.After-entries-entries) _ c.add_rows_later.ensures.rows
 
-pub shape_of-pending : goal.shape_of-pending
-shape_of-pending c = c.pending-1.given
+pub returns-in_err-read-clause-place : goal.returns-in_err-read-clause-place
+returns-in_err-read-clause-place c =
+    let p = err_from_is_err_and c.from_residual.result c.from_residual.ensures.1 in
+    rw (p.1, p.2) (fault-place _ _ _ c.requires.1 _ _ _ (lent (goal.at.returns-in_err-read-clause-place c).After-sizes) _ (sym c.in_err-read.ensures))
 
-pub returns-in-Next : goal.returns-in-Next
-returns-in-Next c = record { place = step-place _ _ _ c.requires.1 _ _ _ (lent (goal.at.returns-in-Next c).After-read_operator-read) _ c.read_operator-read.ensures _ c.in-Next.is (room (goal.at.returns-in-Next c).After-read_operator-read); kept = c.add_rows_later.ensures.kept; rows = step-rows _ _ _ c.requires.1 _ _ _ (lent (goal.at.returns-in-Next c).After-read_operator-read) _ c.read_operator-read.ensures _ c.in-Next.is (room (goal.at.returns-in-Next c).After-read_operator-read) _ c.add_rows_later.ensures.rows }
-
-pub returns-in-Fault : goal.returns-in-Fault
-returns-in-Fault c = let went = c.in-Fault.is in record { place = fault-place _ _ _ c.requires.1 _ _ _ (lent (goal.at.returns-in-Fault c).After-read_operator-read) _ c.read_operator-read.ensures _ _ went; kept = c.requires.0; rows = fault-rows _ _ _ c.requires.1 _ _ _ (lent (goal.at.returns-in-Fault c).After-read_operator-read) _ c.read_operator-read.ensures _ _ went }
+pub returns-in_err-read-clause-rows : goal.returns-in_err-read-clause-rows
+returns-in_err-read-clause-rows c = fault-rows _ _ _ c.requires.1 _ _ _ (lent (goal.at.returns-in_err-read-clause-rows c).After-sizes) _ (sym c.in_err-read.ensures)

@@ -3,22 +3,22 @@ use borrow.Author.Tests.{lt-ltb, le-ltb, le-leb, lt-leb}
 use Rattle.meaning.specs.Answer.{entries_judged}
 use Rattle.operator.proofs.judge_entry.Goals as goal
 
-pub returns-then-sizes-variable : goal.returns-then-sizes-variable
+pub returns-then-sizes-entry : goal.returns-then-sizes-entry
 unfolding entries_judged
-returns-then-sizes-variable c = simp (le-ltb _ _ c.if-sizes-variable.true)
+returns-then-sizes-entry c = simp (le-ltb _ _ c.if-sizes-entry.true)
 
-pub returns-then-variable-least : goal.returns-then-variable-least
+pub returns-then-entry-least : goal.returns-then-entry-least
 unfolding entries_judged
-returns-then-variable-least c = simp (lt-ltb _ _ c.if-sizes-variable.false, lt-leb _ _ c.if-variable-least.true)
+returns-then-entry-least c = simp (lt-ltb _ _ c.if-sizes-entry.false, lt-leb _ _ c.if-entry-least.true)
 
-pub returns-then-size-before : goal.returns-then-size-before
+pub returns-then-size-entry : goal.returns-then-size-entry
 unfolding entries_judged
-returns-then-size-before c = simp (lt-ltb _ _ c.if-sizes-variable.false, le-leb _ _ c.if-variable-least.false, le-ltb _ _ c.if-size-before.true)
+returns-then-size-entry c = simp (lt-ltb _ _ c.if-sizes-entry.false, le-leb _ _ c.if-entry-least.false, le-ltb _ _ c.if-size-entry.true)
 
-pub returns-then-size-after : goal.returns-then-size-after
+pub returns-then-size-entry-2 : goal.returns-then-size-entry-2
 unfolding entries_judged
-returns-then-size-after c = simp (lt-ltb _ _ c.if-sizes-variable.false, le-leb _ _ c.if-variable-least.false, lt-ltb _ _ c.if-size-before.false, le-ltb _ _ c.if-size-after.true)
+returns-then-size-entry-2 c = simp (lt-ltb _ _ c.if-sizes-entry.false, le-leb _ _ c.if-entry-least.false, lt-ltb _ _ c.if-size-entry.false, le-ltb _ _ c.if-size-entry-2.true)
 
 pub returns : goal.returns
 unfolding entries_judged
-returns c = simp (lt-ltb _ _ c.if-sizes-variable.false, le-leb _ _ c.if-variable-least.false, lt-ltb _ _ c.if-size-before.false, lt-ltb _ _ c.if-size-after.false)
+returns c = simp (lt-ltb _ _ c.if-sizes-entry.false, le-leb _ _ c.if-entry-least.false, lt-ltb _ _ c.if-size-entry.false, lt-ltb _ _ c.if-size-entry-2.false)

@@ -1,21 +1,13 @@
 -- `read_entries` reads entry by entry: at each turn the entries that are held, with those that are read from here on, are all entries.
-use Prim.Native.Nat.{◌-◌, ◌≤◌}
-use mathlib.Core.Path.{◌≡◌}
-use lib.ListN.{length}
-use Rattle.meaning.specs.Limits.{most_variables}
+use Rattle.std.proofs.Common.{◌≡◌, ◌-◌}
 use Rattle.meaning.specs.File.{entries_of}
+use Rattle.operator.specs.Known.{Room}
 use Rattle.operator.specs.Records.{first_of}
 use Rattle.operator.specs.Laws.{behind}
 use Rattle.operator.proofs.read_entries.Given as goal
 
 abbrev pub invariant-loop-k : goal.invariant-loop-k
 invariant-loop-k l =
-    (l.k ≤ l.count)
-    × (l.operator.count ≡ l.count)
-    × (length l.operator.variables ≡ most_variables)
-    × (length l.operator.befores ≡ most_variables)
-    × (length l.operator.afters ≡ most_variables)
+    (l.operator.count ≡ l.count)
+    × Room l.operator
     × (entries_of l.sizes l.count 0 l.bytes l.at ≡ behind (first_of l.k l.operator) (entries_of l.sizes (l.count - l.k) l.least l.bytes l.next))
-
-abbrev pub decreases-loop-k : goal.decreases-loop-k
-decreases-loop-k l = l.count - l.k

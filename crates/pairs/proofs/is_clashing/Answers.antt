@@ -1,33 +1,21 @@
--- `is_clashing`: none of the first l atoms is paired with one before it.
-use mathlib.Core.Path.{sym, ◌∙◌}
-use native.Mathlib.Omega.{arith}
-use native.Mathlib.Nat.{ne_of_lt}
-use Rattle.theory.specs.Search.{some_at}
-use Rattle.pairs.specs.Places.{some-start, some_next, some-done}
-use Rattle.pairs.specs.Judge.{clashing_in}
+-- `is_clashing`: the entries before each place are ready, and each before atom is found to be possible beside those before it.
+use Rattle.std.proofs.Common.{rules, tests, length, take, not, ap, sym, ◌∙◌}
+use Rattle.meaning.specs.Workspace.{has}
+use Rattle.meaning.specs.Pair.{possible}
+use Rattle.theory.specs.Walk.{entry_at}
+use Rattle.pairs.specs.None.{none-clashing}
+use Rattle.pairs.specs.Judge.{earlier-ready, clashing-places}
+use Rattle.pairs.proofs.Chains.{any-below, calls-below}
 use Rattle.pairs.proofs.is_clashing.Goals as goal
 
-pub loop-l-init : goal.loop-l-init
-loop-l-init c = (omega arith, some-start _)
+pub any-requires-clause-callable : goal.any-requires-clause-callable
+any-requires-clause-callable c = calls-below (length c.args.entries.now) (cc) (λ x q k. search (rules, tests))
+    (λ l h. let earlier = earlier-ready _ _ _ l c.requires h in search rules)
 
-pub offset_bounds-values-l : goal.offset_bounds-values-l
-offset_bounds-values-l c = omega (arith, c.requires.1.equal)
+pub returns-then-not-is_empty : goal.returns-then-not-is_empty
+returns-then-not-is_empty c = let a = c.args in
+    any-below (λ l. not (possible a.sizes.now (has a.pairs.now) (take l a.entries.now) (entry_at a.entries.now l).variable (entry_at a.entries.now l).before)) (length a.entries.now)
+    c.any.ensures.ran (cc) (λ x b q k. search (rules, tests)) ∙ clashing-places _ _ _
 
-pub bounds-values-l : goal.bounds-values-l
-bounds-values-l c = omega (arith, c.requires.1.equal)
-
-pub is_paired_within-requires : goal.is_paired_within-requires
-is_paired_within-requires c = let (h, a) = c.requires in
-    let i = a.inside c.loop-l.l c.loop-l-test.true in
-    (h, a, omega arith, λ k l. ne_of_lt (a.rise k c.loop-l.l l c.loop-l-test.true), i.0, i.1)
-
-pub returns-then-is_paired_within : goal.returns-then-is_paired_within
-unfolding clashing_in
-returns-then-is_paired_within c = sym (some_at _ _ _ c.loop-l-test.true (sym c.is_paired_within.ensures ∙ c.if-is_paired_within.true))
-
-pub loop-l-preserved : goal.loop-l-preserved
-loop-l-preserved c = (omega arith, some_next _ _ c.loop-l.invariant.1 (sym c.is_paired_within.ensures ∙ c.if-is_paired_within.false))
-
-pub returns : goal.returns
-unfolding clashing_in
-returns c = some-done _ _ _ (omega arith) (omega arith) c.loop-l.invariant.1
+pub returns-else-not-is_empty : goal.returns-else-not-is_empty
+returns-else-not-is_empty c = ap not c.if-not-is_empty.false ∙ sym (none-clashing _ (c.is_empty.ensures.yes c.if-not-is_empty.false) _ _)

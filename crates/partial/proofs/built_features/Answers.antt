@@ -4,13 +4,11 @@ use mathlib.Core.Path.{◌≡◌, sym, ap, subst, ◌∙◌}
 use mathlib.Core.List.{◌++◌}
 use native.Mathlib.Omega.{arith}
 use lib.ListN.{length, take, drop, replicate, length-append}
-use lib.Seq.{take_at, length-take-le}
+use lib.Seq.{take_at}
 use Rattle.meaning.specs.Limits.{most_variables}
-use Rattle.meaning.specs.Feature.{features}
 use Rattle.meaning.specs.Partial.{built_sizes}
 use Rattle.numbering.specs.Sizes.{SmallSizes}
 use Rattle.theory.specs.PartialPairs.{built-length}
-use Rattle.reader.specs.Header.{within-small}
 use Rattle.partial.specs.States.{built-small}
 use Rattle.partial.proofs.built_features.Goals as goal
 use Rattle.partial.proofs.built_features.Goals.{After-widen}
@@ -24,23 +22,5 @@ wider c =
     let long : length c.widen.new.wider ≡ length c.args.sizes.now = ap length c.widen.ensures ∙ built-length c.args.sizes.now in
     (omega (arith, long, length-append c.widen.new.wider rest), take_at c.widen.new.wider rest (length sizes) long ∙ c.widen.ensures)
 
-pub slice_bounds-wider-end : goal.slice_bounds-wider-end
-slice_bounds-wider-end c = omega (arith, c.requires.few)
-
-pub slice_bounds-widen-end : goal.slice_bounds-widen-end
-slice_bounds-widen-end c = sym (length-take-le _ _ c.requires.few)
-
-pub widen-requires : goal.widen-requires
-widen-requires c = let k = c.requires in (within-small _ _ k (omega arith), length-take-le _ _ k.few)
-
-pub slice_bounds-wider-end-2 : goal.slice_bounds-wider-end-2
-slice_bounds-wider-end-2 c = (wider (goal.at.slice_bounds-wider-end-2 c).After-widen).0
-
-pub slice_bounds-features-end : goal.slice_bounds-features-end
-slice_bounds-features-end c = sym (length-take-le _ _ (wider (goal.at.slice_bounds-features-end c).After-widen).0)
-
 pub features-requires : goal.features-requires
 features-requires c = subst SmallSizes (sym (wider (goal.at.features-requires c).After-widen).1) (built-small _ c.requires)
-
-pub returns : goal.returns
-returns c = c.features.ensures ∙ ap features (wider (goal.at.returns c).After-widen).1

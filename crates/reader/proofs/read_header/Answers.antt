@@ -1,24 +1,23 @@
 -- `read_header` meets its contract: what is known after the goal, and what is read behind it.
+use Rattle.std.proofs.lemmas.Result.{err_from_is_err_and}
 use native.Mathlib.Omega.{arith}
 use Rattle.reader.specs.Front.{states_of, front_of}
 use Rattle.reader.specs.States.{AfterStates, after-goal}
 use Rattle.reader.specs.Pairs.{cleared, states-unread, header-behind}
 use Rattle.reader.proofs.read_header.Goals as goal
-use Rattle.reader.proofs.read_header.Goals.{In-Next}
+use Rattle.reader.proofs.read_header.Goals.{In_ok-next}
 
 -- What is known after the goal.
-known : (c : In-Next) → let a = c.args in AfterStates states_of a.bytes.now a.at a.header.now c.read_states.new.header c.in-Next.next
-known c = after-goal _ _ _ _ _ _ c.read_states.ensures c.in-Next.is
+known : (c : In_ok-next) → let a = c.args in AfterStates states_of a.bytes.now a.at a.header.now c.read_states.new.header c.in_ok-next.next
+known c = after-goal _ _ _ _ _ c.in_ok-next.ensures
 
 pub read_behind-requires : goal.read_behind-requires
-read_behind-requires c = cleared states_of c.args.bytes.now c.args.at _ _ _ (known (goal.at.read_behind-requires c).In-Next) c.requires.1 c.requires.0 (omega arith)
+read_behind-requires c = cleared states_of c.args.bytes.now c.args.at _ _ _ (known (goal.at.read_behind-requires c).In_ok-next) c.requires.1 c.requires.0 (omega arith)
 
-pub returns-in-Next : goal.returns-in-Next
+pub returns : goal.returns
 unfolding front_of
-returns-in-Next c = let a = c.args in
-    header-behind states_of a.bytes.now a.at _ _ _ (known (goal.at.returns-in-Next c).In-Next) _ _ _ c.read_behind.ensures
+returns c = let a = c.args in header-behind states_of a.bytes.now a.at _ _ _ (known (goal.at.returns c).In_ok-next) _ _ _ c.read_behind.ensures
 
-pub returns-in-Fault : goal.returns-in-Fault
+pub returns-in_err-next : goal.returns-in_err-next
 unfolding front_of
-returns-in-Fault c = let a = c.args in
-    states-unread states_of a.bytes.now a.at a.header.now _ _ _ _ _ c.read_states.ensures c.in-Fault.is
+returns-in_err-next c = let a = c.args in let p = err_from_is_err_and c.from_residual.result c.from_residual.ensures.1 in rw (p.1, p.2) (states-unread states_of a.bytes.now a.at a.header.now _ _ _ c.in_err-next.ensures)

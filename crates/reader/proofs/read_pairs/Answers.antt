@@ -1,10 +1,8 @@
 -- `read_pairs` meets its contract: the features are read into a part of the words, which is put back.
 use mathlib.Core.Path.{◌≡◌, ap, ◌∙◌}
-use native.Mathlib.Omega.{arith}
 use Rattle.meaning.specs.Feature.{atoms}
 use Rattle.theory.specs.Contents.{sizes_in}
-use Rattle.layout.specs.Places.{places-are}
-use Rattle.layout.specs.Parts.{headed-sizes, sizes-first}
+use Rattle.layout.specs.Parts.{sizes-first}
 use Rattle.reader.specs.Pairs.{part_small, pairs-room, pairs-none, pairs-put}
 use Rattle.reader.proofs.read_pairs.Goals as goal
 use Rattle.reader.proofs.read_pairs.Goals.{After-places_for-places}
@@ -13,20 +11,8 @@ use Rattle.reader.proofs.read_pairs.Goals.{After-places_for-places}
 low : (c : After-places_for-places) → c.atoms-low.result ≡ atoms (sizes_in c.args.header.now)
 low c = c.atoms-low.ensures ∙ ap atoms (c.sizes.ensures ∙ sizes-first _)
 
-pub sizes-requires : goal.sizes-requires
-sizes-requires c = headed-sizes c.requires.headed
-
 pub atoms-low-requires : goal.atoms-low-requires
 atoms-low-requires c = part_small _ _ c.requires _ c.sizes.ensures
-
-pub places_for-places-requires : goal.places_for-places-requires
-places_for-places-requires c = let h = c.requires.headed in (h.variables, h.features)
-
-pub offset_bounds-header-pairs : goal.offset_bounds-header-pairs
-offset_bounds-header-pairs c = omega (arith, places-are _ _ _ c.places_for-places.ensures, c.requires.headed.variables)
-
-pub slice_bounds-read_features-count : goal.slice_bounds-read_features-count
-slice_bounds-read_features-count c = omega (arith, places-are _ _ _ c.places_for-places.ensures)
 
 pub read_features-requires : goal.read_features-requires
 read_features-requires c = (pairs-room _ _ c.requires _ (low (goal.at.read_features-requires c).After-places_for-places), pairs-none _ _ c.requires _ c.places_for-places.ensures)

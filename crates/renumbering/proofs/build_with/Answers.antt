@@ -7,7 +7,7 @@ use Rattle.meaning.specs.Feature.{features}
 use Rattle.meaning.specs.Partial.{built_sizes}
 use Rattle.layout.specs.Parts.{sizes_part}
 use Rattle.reader.specs.Answer.{begun}
-use Rattle.renumbering.specs.Header.{states_by, pairs_by, built_total, built_words, own-small, wider-small, own-long, wider-long, total-most, states-clear, pairs-behind}
+use Rattle.renumbering.specs.Header.{states_by, pairs_by, built_total, built_words, own-small, own-long, wider-long, total-most, states-clear, pairs-behind}
 use Rattle.renumbering.proofs.build_with.Goals as goal
 use Rattle.renumbering.proofs.build_with.Goals.{After-features-total, After-widen}
 
@@ -24,9 +24,6 @@ all c = c.features-total.ensures ∙ ap features (wide (goal.at.After-features-t
 pub widen-requires : goal.widen-requires
 widen-requires c = let p = c.requires in
     (own-small _ _ _ p.0 _ c.sizes.ensures, p.1 ∙ sym (ap length c.sizes.ensures ∙ own-long _ _ _ p.0))
-
-pub features-total-requires : goal.features-total-requires
-features-total-requires c = wider-small _ _ _ c.requires.0 _ (wide (goal.at.features-total-requires c).After-widen)
 
 pub put_pairs-requires : goal.put_pairs-requires
 put_pairs-requires c = let few = total-most _ _ _ c.requires.0 in

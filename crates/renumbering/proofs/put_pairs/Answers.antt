@@ -1,17 +1,10 @@
 -- `put_pairs`: the pairs are renumbered into a part of the header, which is put back.
 use native.Mathlib.Omega.{arith}
-use Rattle.layout.specs.Places.{places-are}
 use Rattle.renumbering.specs.Header.{total-most, own-renumbers, pairs-put}
 use Rattle.renumbering.proofs.put_pairs.Goals as goal
 
 pub places_for-places-requires : goal.places_for-places-requires
 places_for-places-requires c = let p = c.requires in (p.0.headed.variables, omega (arith, total-most _ _ _ p.0, p.2))
-
-pub offset_bounds-header-pairs : goal.offset_bounds-header-pairs
-offset_bounds-header-pairs c = omega (arith, places-are _ _ _ c.places_for-places.ensures, c.requires.0.headed.variables)
-
-pub slice_bounds-renumber-count : goal.slice_bounds-renumber-count
-slice_bounds-renumber-count c = omega (arith, places-are _ _ _ c.places_for-places.ensures)
 
 pub renumber-requires : goal.renumber-requires
 renumber-requires c = let p = c.requires in

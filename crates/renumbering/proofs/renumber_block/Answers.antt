@@ -2,8 +2,8 @@
 use Prim.Native.Nat.{◌<◌}
 use mathlib.Core.Path.{ap, ◌∙◌}
 use native.Mathlib.Omega.{arith}
-use Rattle.words.specs.Toggled.{toggled_all, toggled-start, toggled-turn, length-next}
-use Rattle.renumbering.specs.Pairs.{renumbers-next, old-asks, new-asks, line-room, block-lines, block_none}
+use Rattle.words.specs.Toggled.{toggled_all, toggled-start, toggled-turn}
+use Rattle.renumbering.specs.Pairs.{renumbers-next, old-asks, line-room, block-lines, block_none}
 use Rattle.renumbering.proofs.renumber_block.Goals as goal
 use Rattle.renumbering.proofs.renumber_block.Goals.{After-size-end}
 
@@ -16,28 +16,16 @@ returns-then-j-i c = block_none _ _ _ _ _ c.if-j-i.true
 pub plane_of-from-requires : goal.plane_of-from-requires
 plane_of-from-requires c = let p = c.requires in old-asks p.0 _ _ (omega (arith, c.if-j-i.false)) p.2
 
-pub plane_of-to-requires : goal.plane_of-to-requires
-plane_of-to-requires c = let p = c.requires in new-asks p.0 _ _ (omega (arith, c.if-j-i.false)) p.2
-
-pub size-lines-requires : goal.size-lines-requires
-size-lines-requires c = c.requires.1
-
-pub size-end-requires : goal.size-end-requires
-size-end-requires c = c.requires.2
-
 pub loop-x-init : goal.loop-x-init
-loop-x-init c = (omega arith, toggled-start _ _)
+loop-x-init c = toggled-start _ _
 
 pub renumber_line-requires : goal.renumber_line-requires
-renumber_line-requires c = rw c.size-end.ensures (line-room (renumbers-next _ _ _ _ _ _ c.requires.0 c.loop-x.invariant.1) _ _ (ordered (goal.at.renumber_line-requires c).After-size-end) c.requires.2 _ _ c.plane_of-from.ensures
-    c.plane_of-to.ensures _ (omega (arith, c.size-lines.ensures, c.loop-x-test.true)))
+renumber_line-requires c = rw c.size-end.ensures (line-room (renumbers-next _ _ _ _ _ _ c.requires.0 c.loop-x.invariant) _ _ (ordered (goal.at.renumber_line-requires c).After-size-end) c.requires.2 _ _ c.plane_of-from.ensures
+    c.plane_of-to.ensures _ (omega (arith, c.size-x-end.ensures, c.loop-x-test.true)))
 
 pub loop-x-preserved : goal.loop-x-preserved
-loop-x-preserved c = (omega arith, toggled-turn _ _ _ _ _ c.loop-x.invariant.1 c.renumber_line.ensures)
-
-pub shape_of-new : goal.shape_of-new
-shape_of-new c = length-next _ _ _ c.loop-x.invariant.1
+loop-x-preserved c = toggled-turn _ _ _ _ _ c.loop-x.invariant c.renumber_line.ensures
 
 pub returns : goal.returns
-returns c = c.loop-x.invariant.1 ∙ ap (toggled_all c.args.new.now) (block-lines c.requires.0 _ _ (ordered (goal.at.returns c).After-size-end) c.requires.2 _ _ c.plane_of-from.ensures
-    c.plane_of-to.ensures _ _ (omega (arith, c.size-lines.ensures, c.loop-x-test.false)) c.size-end.ensures)
+returns c = c.loop-x.invariant ∙ ap (toggled_all c.args.new.now) (block-lines c.requires.0 _ _ (ordered (goal.at.returns c).After-size-end) c.requires.2 _ _ c.plane_of-from.ensures
+    c.plane_of-to.ensures _ _ (omega (arith, c.size-x-end.ensures, c.loop-x-test.false)) c.size-end.ensures)

@@ -1,5 +1,4 @@
 -- `renumber_block`: after each value of the first variable, the lines of those before are in.
-use Prim.Native.Nat.{◌≤◌, ◌-◌}
 use mathlib.Core.Path.{◌≡◌}
 use Rattle.meaning.specs.Workspace.{has}
 use Rattle.meaning.specs.Sets.{flat}
@@ -8,7 +7,4 @@ use Rattle.renumbering.specs.Pairs.{line_pairs}
 use Rattle.renumbering.proofs.renumber_block.Given as goal
 
 abbrev pub invariant-loop-x : goal.invariant-loop-x
-invariant-loop-x l = (l.x ≤ l.lines) × (l.new ≡ toggled_all l.initial.new (flat l.x (λ a. line_pairs (has l.old) l.from l.to a l.end)))
-
-abbrev pub decreases-loop-x : goal.decreases-loop-x
-decreases-loop-x l = l.lines - l.x
+invariant-loop-x l = l.new ≡ toggled_all l.initial.new (flat l.x (λ a. line_pairs (has l.old) l.from l.to a l.end))

@@ -1,5 +1,4 @@
 -- `renumber_line`: after each value of the second variable, the pairs with those before are in.
-use Prim.Native.Nat.{◌≤◌, ◌-◌}
 use mathlib.Core.Path.{◌≡◌}
 use Rattle.meaning.specs.Workspace.{has}
 use Rattle.meaning.specs.Sets.{flat}
@@ -9,7 +8,4 @@ use Rattle.renumbering.specs.Pairs.{number_if}
 use Rattle.renumbering.proofs.renumber_line.Given as goal
 
 abbrev pub invariant-loop-y : goal.invariant-loop-y
-invariant-loop-y l = (l.y ≤ l.end) × (l.new ≡ toggled_all l.initial.new (flat l.y (λ b. number_if (has l.old (number_in l.from l.x b)) (number_in l.to l.x b))))
-
-abbrev pub decreases-loop-y : goal.decreases-loop-y
-decreases-loop-y l = l.end - l.y
+invariant-loop-y l = l.new ≡ toggled_all l.initial.new (flat l.y (λ b. number_if (has l.old (number_in l.from l.x b)) (number_in l.to l.x b)))

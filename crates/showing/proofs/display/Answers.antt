@@ -3,7 +3,7 @@ use mathlib.Core.Path.{◌≡◌, sym, ap, ◌∙◌}
 use native.Mathlib.Omega.{arith}
 use Rattle.meaning.specs.Place.{of_task, of_weights, shown}
 use Rattle.placing.specs.Answers.{part_of}
-use Rattle.showing.specs.Answer.{place_in, part-within, task-bytes, weight-bytes}
+use Rattle.showing.specs.Answer.{part-within}
 use Rattle.showing.proofs.display.Goals as goal
 use Rattle.showing.proofs.display.Goals.{In-OfTask, In-OfWeights}
 
@@ -20,12 +20,6 @@ overflow_add-end c = omega (arith, part-within _ _ _ (in-task c))
 
 pub overflow_add-end-in-OfWeights : goal.overflow_add-end-in-OfWeights
 overflow_add-end-in-OfWeights c = omega (arith, part-within _ _ _ (in-weights c))
-
-pub returns-in-OfTask : goal.returns-in-OfTask
-returns-in-OfTask c = let a = c.args in record { bytes = task-bytes _ _ _ _ (in-task (goal.at.returns-in-OfTask c).In-OfTask); placed = ap (place_in a.task.ref_ptr a.weights.ref_ptr) (in-task (goal.at.returns-in-OfTask c).In-OfTask) }
-
-pub returns-in-OfWeights : goal.returns-in-OfWeights
-returns-in-OfWeights c = let a = c.args in record { bytes = weight-bytes _ _ _ _ (in-weights (goal.at.returns-in-OfWeights c).In-OfWeights); placed = ap (place_in a.task.ref_ptr a.weights.ref_ptr) (in-weights (goal.at.returns-in-OfWeights c).In-OfWeights) }
 
 pub slice_bounds-result-end : goal.slice_bounds-result-end
 slice_bounds-result-end c = omega (arith, part-within _ _ _ (in-task (goal.at.slice_bounds-result-end c).In-OfTask))

@@ -4,7 +4,6 @@ use mathlib.Core.Bool.{true}
 use native.Mathlib.Omega.{arith}
 use lib.ListN.{length}
 use Rattle.meaning.specs.Number.{Range, Outgrown}
-use Rattle.writer.specs.Answer.{refused-so}
 use Rattle.silencing.specs.Marks.{are_marks, are_roomy, are-roomy}
 use Rattle.silencing.specs.Answer.{parted-limits, parted-silent, silence-refused, wrong-number, wrong-mark, no_room, too_many, silence-delivered}
 use Rattle.silencing.proofs.silence_judged.Goals as goal
@@ -21,19 +20,16 @@ roomy c = sym c.are_roomy.ensures ∙ c.if-not-are_roomy.false
 
 pub returns-then-marks-sizes : goal.returns-then-marks-sizes
 returns-then-marks-sizes c task parted =
-    silence-refused task _ _ _ _ _ _ parted _ _ _ Range (wrong-number task _ _ _ _ _ _ parted _ c.args.room.now c.if-marks-sizes.true)
-    (refused-so c.refuse.result Range _ c.refuse.ensures)
+    silence-refused task _ _ _ _ _ _ parted _ _ Range (wrong-number task _ _ _ _ _ _ parted _ c.args.room.now c.if-marks-sizes.true)
 
 pub returns-then-not-are_marks : goal.returns-then-not-are_marks
 returns-then-not-are_marks c task parted =
-    silence-refused task _ _ _ _ _ _ parted _ _ _ Range (wrong-mark task _ _ _ _ _ _ parted _ c.args.room.now c.if-marks-sizes.false (sym c.are_marks.ensures ∙ c.if-not-are_marks.true))
-    (refused-so c.refuse-then-not-are_marks.result Range _ c.refuse-then-not-are_marks.ensures)
+    silence-refused task _ _ _ _ _ _ parted _ _ Range (wrong-mark task _ _ _ _ _ _ parted _ c.args.room.now c.if-marks-sizes.false (sym c.are_marks.ensures ∙ c.if-not-are_marks.true))
 
 pub returns-then-not-are_roomy : goal.returns-then-not-are_roomy
 returns-then-not-are_roomy c task parted =
     let a = (goal.at.returns-then-not-are_roomy c).After-are_roomy in
-    silence-refused task _ _ _ _ _ _ parted _ _ _ Outgrown (no_room task _ _ _ _ _ _ parted _ c.args.room.now (long a) (marks a) (sym c.are_roomy.ensures ∙ c.if-not-are_roomy.true))
-    (refused-so c.refuse-then-not-are_roomy.result Outgrown _ c.refuse-then-not-are_roomy.ensures)
+    silence-refused task _ _ _ _ _ _ parted _ _ Outgrown (no_room task _ _ _ _ _ _ parted _ c.args.room.now (long a) (marks a) (sym c.are_roomy.ensures ∙ c.if-not-are_roomy.true))
 
 pub built_features-requires : goal.built_features-requires
 built_features-requires c =
@@ -47,8 +43,7 @@ pub returns-then-built_features-gt-MOST_FEATURES : goal.returns-then-built_featu
 returns-then-built_features-gt-MOST_FEATURES c task parted =
     let p = goal.at.returns-then-built_features-gt-MOST_FEATURES c in
     let a = p.After-are_roomy in
-    silence-refused task _ _ _ _ _ _ parted _ _ _ Outgrown (too_many task _ _ _ _ _ _ parted _ c.args.room.now (long a) (marks a) (roomy p.After-built_features) (omega (arith, c.built_features.ensures, c.if-built_features-gt-MOST_FEATURES.true)))
-    (refused-so c.refuse-then-built_features-gt-MOST_FEATURES.result Outgrown _ c.refuse-then-built_features-gt-MOST_FEATURES.ensures)
+    silence-refused task _ _ _ _ _ _ parted _ _ Outgrown (too_many task _ _ _ _ _ _ parted _ c.args.room.now (long a) (marks a) (roomy p.After-built_features) (omega (arith, c.built_features.ensures, c.if-built_features-gt-MOST_FEATURES.true)))
 
 pub deliver-requires : goal.deliver-requires
 deliver-requires c = let a = (goal.at.deliver-requires c).After-are_roomy in parted-silent _ _ _ _ _ _ _ c.requires.1 _ c.args.room.now (long a) (marks a)

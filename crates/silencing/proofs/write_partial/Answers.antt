@@ -1,11 +1,9 @@
 -- `write_partial` refuses a room that is shorter than the whole, and otherwise writes five parts one after the other.
 use Prim.Native.Nat.{ℕ, ◌+◌, ◌*◌, ◌≤◌}
-use mathlib.Core.Path.{◌≡◌, sym, ◌∙◌}
+use mathlib.Core.Path.{◌≡◌, sym}
 use mathlib.Core.List.{List}
 use native.Mathlib.Omega.{arith}
 use lib.ListN.{length}
-use Rattle.meaning.specs.Number.{Small}
-use Rattle.writer.specs.Answer.{refused-so}
 use Rattle.writer.specs.Widths.{four_lists, list-few, numbers-few}
 use Rattle.writer.specs.Remains.{delivered-small}
 use Rattle.silencing.specs.Parts.{rest_bytes, rest-few, parts_bytes, parts-length, parts-few, partial-delivered}
@@ -65,7 +63,7 @@ pub overflow_add-front-4 : goal.overflow_add-front-4
 overflow_add-front-4 c = omega (arith, whole c, few (goal.at.overflow_add-front-4 c).Start, c.well_formed)
 
 pub returns-then-room-front : goal.returns-then-room-front
-returns-then-room-front c = refused-so c.refuse.result Small c.args.room.now c.refuse.ensures ∙ sym (delivered-small (file (goal.at.returns-then-room-front c).Start) c.args.room.now (omega (arith, whole (goal.at.returns-then-room-front c).After-rest_width, c.if-room-front.true)))
+returns-then-room-front c = sym (delivered-small (file (goal.at.returns-then-room-front c).Start) c.args.room.now (omega (arith, whole (goal.at.returns-then-room-front c).After-rest_width, c.if-room-front.true)))
 
 pub returns : goal.returns
 returns c =

@@ -1,8 +1,6 @@
 -- `build` refuses by the first list that has not one gap, then by lots that are not equal, and otherwise delivers.
 use mathlib.Core.Path.{◌≡◌, sym, ◌∙◌}
-use Rattle.meaning.specs.Number.{Gaps, Unequal}
 use Rattle.meaning.specs.Bay.{occurrences}
-use Rattle.writer.specs.Answer.{refused-so}
 use Rattle.sliding.specs.Whole.{built-start, built-goal, built-unequal, built-whole}
 use Rattle.sliding.proofs.build.Goals as goal
 use Rattle.sliding.proofs.build.Goals.{After-are_equal, After-occurrences-2}
@@ -18,22 +16,19 @@ pub returns-then-occurrences-ne1 : goal.returns-then-occurrences-ne1
 returns-then-occurrences-ne1 c =
     let a = c.args in
     let room = a.room.now in
-    refused-so c.refuse.result Gaps room c.refuse.ensures
-    ∙ sym (built-start a.near.now a.start.now a.goal.now room (λ e. c.if-occurrences-ne1.true (c.occurrences.ensures ∙ e)))
+    sym (built-start a.near.now a.start.now a.goal.now room (λ e. c.if-occurrences-ne1.true (c.occurrences.ensures ∙ e)))
 
 pub returns-then-occurrences-ne1-2 : goal.returns-then-occurrences-ne1-2
 returns-then-occurrences-ne1-2 c =
     let a = c.args in
     let room = a.room.now in
-    refused-so c.refuse-then-occurrences-ne1-2.result Gaps room c.refuse-then-occurrences-ne1-2.ensures
-    ∙ sym (built-goal a.near.now a.start.now a.goal.now room (one (goal.at.returns-then-occurrences-ne1-2 c).After-occurrences-2) (λ e. c.if-occurrences-ne1-2.true (c.occurrences-2.ensures ∙ e)))
+    sym (built-goal a.near.now a.start.now a.goal.now room (one (goal.at.returns-then-occurrences-ne1-2 c).After-occurrences-2) (λ e. c.if-occurrences-ne1-2.true (c.occurrences-2.ensures ∙ e)))
 
 pub returns-then-not-are_equal : goal.returns-then-not-are_equal
 returns-then-not-are_equal c =
     let a = c.args in
     let room = a.room.now in
-    refused-so c.refuse-then-not-are_equal.result Unequal room c.refuse-then-not-are_equal.ensures
-    ∙ sym (built-unequal a.near.now a.start.now a.goal.now room (one (goal.at.returns-then-not-are_equal c).After-occurrences-2) (one-goal (goal.at.returns-then-not-are_equal c).After-are_equal) (sym c.are_equal.ensures ∙ c.if-not-are_equal.true))
+    sym (built-unequal a.near.now a.start.now a.goal.now room (one (goal.at.returns-then-not-are_equal c).After-occurrences-2) (one-goal (goal.at.returns-then-not-are_equal c).After-are_equal) (sym c.are_equal.ensures ∙ c.if-not-are_equal.true))
 
 pub returns : goal.returns
 returns c =

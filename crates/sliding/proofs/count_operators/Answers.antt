@@ -5,9 +5,6 @@ use native.Mathlib.Omega.{arith}
 use Rattle.sliding.specs.Counts.{operators-counted, operators-few}
 use Rattle.sliding.proofs.count_operators.Goals as goal
 
-pub count_lots-requires : goal.count_lots-requires
-count_lots-requires c = omega (arith, c.requires.least)
-
 pub returns : goal.returns
 returns c =
     ap₂ ◌*◌ c.count_places.ensures c.count_lots.ensures ∙ operators-counted c.args.near.now c.args.start.now c.requires

@@ -1,18 +1,10 @@
 -- `deliver` lends the prefix of an array that holds the sizes, and the words that hold the pairs.
-use mathlib.Core.Path.{sym}
 use native.Mathlib.Omega.{arith}
-use lib.Seq.{length-take-le}
 use Rattle.sliding.specs.Whole.{take-sizes, sizes-lent, pairs-held}
 use Rattle.sliding.proofs.deliver.Goals as goal
 
-pub slice_bounds-mark_pairs-end-2 : goal.slice_bounds-mark_pairs-end-2
-slice_bounds-mark_pairs-end-2 c = sym (length-take-le _ _ c.requires.0.most)
-
 pub mark_pairs-requires : goal.mark_pairs-requires
 mark_pairs-requires c = sizes-lent c.requires.0
-
-pub slice_bounds-write_task-end : goal.slice_bounds-write_task-end
-slice_bounds-write_task-end c = sym (length-take-le _ _ c.requires.0.most)
 
 pub write_task-requires : goal.write_task-requires
 write_task-requires c =

@@ -1,16 +1,11 @@
 -- `mark_label` toggles one feature, or none where the label does not occur once.
 use mathlib.Core.Path.{sym, ◌∙◌}
 use native.Mathlib.Omega.{arith}
-use Rattle.sliding.specs.Pairs.{label-numbered, label-place, label-marked, label-passed}
+use Rattle.sliding.specs.Pairs.{label-place, label-marked, label-passed}
 use Rattle.sliding.proofs.mark_label.Goals as goal
 
 pub returns-then-occurrences-ne1 : goal.returns-then-occurrences-ne1
 returns-then-occurrences-ne1 c = let a = c.args in label-passed _ a.start.now a.i a.j a.label a.pairs.now (λ e. c.if-occurrences-ne1.true (c.occurrences.ensures ∙ e))
-
-pub both-requires : goal.both-requires
-both-requires c =
-    let a = c.args in
-    label-numbered a.sizes.now c.requires.0 a.i a.j a.label c.requires.1 c.requires.2 c.requires.3
 
 pub toggle-requires : goal.toggle-requires
 toggle-requires c =

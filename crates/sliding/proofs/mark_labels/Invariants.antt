@@ -1,5 +1,4 @@
 -- `mark_labels` marks the pair of a label at each turn: after k turns those of the first k labels.
-use Prim.Native.Nat.{◌-◌, ◌≤◌}
 use mathlib.Core.Path.{◌≡◌}
 use lib.ListN.{length}
 use Rattle.meaning.specs.Sets.{flat}
@@ -8,7 +7,4 @@ use Rattle.sliding.specs.Parts.{label_pair}
 use Rattle.sliding.proofs.mark_labels.Given as goal
 
 abbrev pub invariant-loop-label : goal.invariant-loop-label
-invariant-loop-label l = (l.label ≤ length l.sizes) × (l.pairs ≡ toggled_all l.initial.pairs (flat l.label (label_pair (length l.sizes) l.start l.i l.j)))
-
-abbrev pub decreases-loop-label : goal.decreases-loop-label
-decreases-loop-label l = length l.sizes - l.label
+invariant-loop-label l = l.pairs ≡ toggled_all l.initial.pairs (flat l.label (label_pair (length l.sizes) l.start l.i l.j))

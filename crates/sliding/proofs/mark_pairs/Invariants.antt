@@ -1,5 +1,4 @@
 -- `mark_pairs` marks the pairs of a first slot at each turn: after k turns those with the first k slots as the first.
-use Prim.Native.Nat.{◌-◌, ◌≤◌}
 use mathlib.Core.Path.{◌≡◌}
 use lib.ListN.{length}
 use Rattle.meaning.specs.Sets.{flat}
@@ -8,7 +7,4 @@ use Rattle.sliding.specs.Parts.{slot_pairs}
 use Rattle.sliding.proofs.mark_pairs.Given as goal
 
 abbrev pub invariant-loop-i : goal.invariant-loop-i
-invariant-loop-i l = (l.i ≤ length l.sizes) × (l.pairs ≡ toggled_all l.initial.pairs (flat l.i (slot_pairs (length l.sizes) l.start)))
-
-abbrev pub decreases-loop-i : goal.decreases-loop-i
-decreases-loop-i l = length l.sizes - l.i
+invariant-loop-i l = l.pairs ≡ toggled_all l.initial.pairs (flat l.i (slot_pairs (length l.sizes) l.start))

@@ -1,5 +1,4 @@
 -- `mark_slots` marks the pairs of two slots at each turn: after k turns those with the first k slots as the second.
-use Prim.Native.Nat.{◌-◌, ◌≤◌}
 use mathlib.Core.Path.{◌≡◌}
 use lib.ListN.{length}
 use Rattle.meaning.specs.Sets.{flat}
@@ -8,7 +7,4 @@ use Rattle.sliding.specs.Parts.{label_pairs}
 use Rattle.sliding.proofs.mark_slots.Given as goal
 
 abbrev pub invariant-loop-j : goal.invariant-loop-j
-invariant-loop-j l = (l.j ≤ length l.sizes) × (l.pairs ≡ toggled_all l.initial.pairs (flat l.j (label_pairs (length l.sizes) l.start l.i)))
-
-abbrev pub decreases-loop-j : goal.decreases-loop-j
-decreases-loop-j l = length l.sizes - l.j
+invariant-loop-j l = l.pairs ≡ toggled_all l.initial.pairs (flat l.j (label_pairs (length l.sizes) l.start l.i))

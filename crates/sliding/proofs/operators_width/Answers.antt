@@ -5,9 +5,10 @@ use native.Mathlib.Omega.{arith}
 use lib.ListN.{length}
 use Rattle.meaning.specs.Limits.{number_end}
 use Rattle.meaning.specs.Number.{number_bytes}
+use Rattle.meaning.specs.File.{operator_bytes}
 use Rattle.theory.specs.NumberBack.{number-bytes-length}
 use Rattle.sliding.specs.Counts.{operators-few}
-use Rattle.sliding.specs.Operators.{operator_width, one_width, two-triples, operators-length}
+use Rattle.sliding.specs.Operators.{operator_width, one_width, slide-written, operators-length}
 use Rattle.sliding.proofs.operators_width.Goals as goal
 use Rattle.sliding.proofs.operators_width.Goals.{After-count_operators-count, After-operator_width-each}
 
@@ -17,10 +18,10 @@ countable c =
     omega (arith, c.count_operators-count.ensures, operators-few c.args.near.now c.args.start.now c.requires)
 
 alike : (c : After-operator_width-each) → c.operator_width-each.result * c.count_operators-count.result ≡ operator_width * c.count_operators-count.result
-alike c = ap (λ k. k * c.count_operators-count.result) (c.operator_width-each.ensures ∙ one_width)
+alike c = ap (λ k. k * c.count_operators-count.result) (c.operator_width-each.ensures ∙ ap (λ o. length (operator_bytes o)) c.slide.ensures ∙ one_width)
 
 pub operator_width-each-requires : goal.operator_width-each-requires
-operator_width-each-requires c = two-triples 0 1 0 1 1 0 (omega arith) (omega arith) (omega arith) (omega arith) (omega arith) (omega arith)
+operator_width-each-requires c = rw c.slide.ensures (slide-written 0 1 1 (omega arith) (omega arith) (omega arith))
 
 pub width-requires : goal.width-requires
 width-requires c = countable (goal.at.width-requires c).After-count_operators-count

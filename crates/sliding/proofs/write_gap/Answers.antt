@@ -21,8 +21,5 @@ pub loop-q-preserved : goal.loop-q-preserved
 loop-q-preserved c =
     turn-done c.loop-q.invariant _ _ c.loop-q-test.true c.write_slides-next.ensures.after c.write_slides-next.ensures.written
 
-pub shape_of-room : goal.shape_of-room
-shape_of-room c = c.loop-q.invariant.left.kept
-
 pub returns : goal.returns
 returns c = let told = turns-done c.loop-q.invariant c.loop-q-test.false in record { after = told.0; written = told.1 }

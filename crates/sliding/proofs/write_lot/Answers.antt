@@ -6,7 +6,7 @@ use Rattle.meaning.specs.File.{operator_bytes}
 use Rattle.meaning.specs.Bay.{slide}
 use Rattle.sliding.specs.Parts.{lot_bytes}
 use Rattle.sliding.specs.Turns.{nothing-due}
-use Rattle.sliding.specs.Operators.{lot-there, no-lot}
+use Rattle.sliding.specs.Operators.{lot-there, no-lot, slide-written}
 use Rattle.sliding.proofs.write_lot.Goals as goal
 use Rattle.sliding.proofs.write_lot.Goals.{Else-occurrences-eq0}
 
@@ -23,9 +23,14 @@ returns-then-occurrences-eq0 c =
     (no-lot a.start.now a.p a.q a.t (sym c.occurrences.ensures ∙ c.if-occurrences-eq0.true)) in
     record { after = told.0; written = told.1 }
 
-pub write_slide-requires : goal.write_slide-requires
-write_slide-requires c =
-    (c.requires.0, c.requires.1, c.requires.2, omega (arith, c.requires.3, ap length (due (goal.at.write_slide-requires c).Else-occurrences-eq0)))
+pub write_operator-requires : goal.write_operator-requires
+write_operator-requires c =
+    let a = c.args in
+    let pre = c.requires in
+    rw c.slide.ensures (slide-written a.p a.q a.t pre.0 pre.1 pre.2, omega (arith, pre.3, ap length (due (goal.at.write_operator-requires c).Else-occurrences-eq0)))
 
 pub returns : goal.returns
-returns c = rw (due (goal.at.returns c).Else-occurrences-eq0) (record { after = c.write_slide.ensures.after; written = c.write_slide.ensures.written })
+returns c =
+    let a = c.args in
+    let whole : operator_bytes c.slide.result ≡ lot_bytes a.start.now a.p a.q a.t = ap operator_bytes c.slide.ensures ∙ sym (due (goal.at.returns c).Else-occurrences-eq0) in
+    rw (← whole) (record { after = c.write_operator.ensures.after; written = c.write_operator.ensures.written })

@@ -1,7 +1,7 @@
 -- `write_slides` writes the slide of a label at each turn: those of the labels left are what remains.
-use Prim.Native.Nat.{◌+◌, ◌-◌, ◌*◌, ◌<◌}
+use Prim.Native.Nat.{◌+◌, ◌-◌}
+use mathlib.Core.Path.{refl}
 use native.Mathlib.Omega.{arith}
-use lib.Arith.{digits_lt}
 use lib.ListN.{length}
 use borrow.Author.Tests.{eq-eqb, ne_eqb}
 use Rattle.sliding.specs.Parts.{slide_bytes}
@@ -11,19 +11,6 @@ use Rattle.sliding.proofs.write_slides.Goals as goal
 use Rattle.sliding.proofs.write_slides.Goals.{Start}
 use Rattle.sliding.proofs.write_slides.Invariants.{one_lot}
 
--- The place of two slots is in the table.
-place : (c : Start) → let a = c.args in a.p * length a.start.now + a.q < length a.near.now
-place c = omega (arith, c.requires.0.square, digits_lt c.requires.1 c.requires.2)
-
-pub overflow_mul-p : goal.overflow_mul-p
-overflow_mul-p c = omega (arith, place (goal.at.overflow_mul-p c).Start)
-
-pub overflow_add-p : goal.overflow_add-p
-overflow_add-p c = omega (arith, place (goal.at.overflow_add-p c).Start)
-
-pub bounds-near-p : goal.bounds-near-p
-bounds-near-p c = omega (arith, place (goal.at.bounds-near-p c).Start)
-
 pub returns-then-near-p-ne1 : goal.returns-then-near-p-ne1
 returns-then-near-p-ne1 c =
     let a = c.args in
@@ -31,24 +18,24 @@ returns-then-near-p-ne1 c =
     (no-slides a.near.now a.start.now a.p a.q (ne_eqb _ _ c.if-near-p-ne1.true)) in
     record { after = told.0; written = told.1 }
 
-pub loop-k-init : goal.loop-k-init
-loop-k-init c =
+pub loop-label-init : goal.loop-label-init
+loop-label-init c =
     let a = c.args in
-    turns-begin _ _ _ (length a.start.now - 1) (one_lot a.start.now a.p a.q) (slides-beside a.near.now a.start.now a.p a.q (eq-eqb _ _ c.if-near-p-ne1.false)) c.requires.3
+    (0, refl, turns-begin _ _ _ (length a.start.now - 1) (one_lot a.start.now a.p a.q) (slides-beside a.near.now a.start.now a.p a.q (eq-eqb _ _ c.if-near-p-ne1.false)) c.requires.3)
 
 pub write_lot-next-requires : goal.write_lot-next-requires
 write_lot-next-requires c =
     let pre = c.requires in
     let few = pre.0.most in
-    let taken = c.loop-k-test.true in
-    (omega (arith, pre.1), omega (arith, pre.2), omega (arith, taken), turn-fits c.loop-k.invariant taken)
+    let (k, e, turns) = c.loop-label.invariant in
+    let fits = turn-fits turns (omega (arith, e, c.loop-label-test.true)) in
+    (omega (arith, pre.1), omega (arith, pre.2), omega (arith, c.loop-label-test.true), rw e fits)
 
-pub loop-k-preserved : goal.loop-k-preserved
-loop-k-preserved c =
-    turn-done c.loop-k.invariant _ _ c.loop-k-test.true c.write_lot-next.ensures.after c.write_lot-next.ensures.written
-
-pub shape_of-room : goal.shape_of-room
-shape_of-room c = c.loop-k.invariant.left.kept
+pub loop-label-preserved : goal.loop-label-preserved
+loop-label-preserved c =
+    let (k, e, turns) = c.loop-label.invariant in
+    let told = rw e at c.write_lot-next.ensures in
+    (k + 1, omega (arith, e), turn-done turns _ _ (omega (arith, e, c.loop-label-test.true)) told.after told.written)
 
 pub returns : goal.returns
-returns c = let told = turns-done c.loop-k.invariant c.loop-k-test.false in record { after = told.0; written = told.1 }
+returns c = let (k, e, turns) = c.loop-label.invariant in let told = turns-done turns (omega (arith, c.loop-label-test.false)) in record { after = told.0; written = told.1 }

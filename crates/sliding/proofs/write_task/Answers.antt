@@ -1,17 +1,15 @@
 -- `write_task` refuses a room that is shorter than the whole, and otherwise writes front and operators until nothing remains.
 use Prim.Native.Nat.{ℕ, ◌+◌, ◌≤◌}
-use mathlib.Core.Path.{◌≡◌, sym, ◌∙◌}
+use mathlib.Core.Path.{◌≡◌, sym}
 use mathlib.Core.List.{List}
 use native.Mathlib.Omega.{arith}
 use lib.ListN.{length}
-use Rattle.meaning.specs.Number.{Small}
 use Rattle.meaning.specs.File.{plain, operator_bytes, counted, task_bytes}
 use Rattle.words.specs.Members.{members_in}
-use Rattle.writer.specs.Answer.{refused-so}
-use Rattle.writer.specs.Front.{Front, front_bytes}
+use Rattle.writer.specs.Front.{front_bytes}
 use Rattle.writer.specs.Remains.{delivered-small, parts-delivered}
 use Rattle.sliding.specs.Parts.{operators_in, task_in}
-use Rattle.sliding.specs.Whole.{front-written, task-split, task-length, task-few}
+use Rattle.sliding.specs.Whole.{task-split, task-length, task-few}
 use Rattle.sliding.proofs.write_task.Goals as goal
 use Rattle.sliding.proofs.write_task.Goals.{After-operators_width, Start}
 
@@ -25,15 +23,9 @@ front s = front_bytes plain s.args.sizes.now s.args.start.now s.args.goal.now (m
 abbrev last : (s : Start) → List ℕ
 last s = counted operator_bytes (operators_in s.args.near.now s.args.start.now)
 
-can_write : (s : Start) → Front s.args.sizes.now s.args.start.now s.args.goal.now s.args.pairs.now
-can_write s = front-written s.requires
-
 whole : (c : After-operators_width) → length (file (goal.at.After-operators_width c).Start) ≡ c.front_width-front.result + c.operators_width.result
 whole c =
     omega (arith, task-length c.requires, c.front_width-front.ensures, c.operators_width.ensures)
-
-pub front_width-front-requires : goal.front_width-front-requires
-front_width-front-requires c = can_write (goal.at.front_width-front-requires c).Start
 
 pub overflow_add-front : goal.overflow_add-front
 overflow_add-front c =
@@ -42,11 +34,7 @@ overflow_add-front c =
 pub returns-then-room-front : goal.returns-then-room-front
 returns-then-room-front c =
     let room = c.args.room.now in
-    refused-so c.refuse.result Small room c.refuse.ensures ∙ sym (delivered-small (file (goal.at.returns-then-room-front c).Start) room (omega (arith, whole (goal.at.returns-then-room-front c).After-operators_width, c.if-room-front.true)))
-
-pub write_front-next-requires : goal.write_front-next-requires
-write_front-next-requires c =
-    (can_write (goal.at.write_front-next-requires c).Start, omega (arith, c.front_width-front.ensures, c.if-room-front.false))
+    sym (delivered-small (file (goal.at.returns-then-room-front c).Start) room (omega (arith, whole (goal.at.returns-then-room-front c).After-operators_width, c.if-room-front.true)))
 
 pub returns : goal.returns
 returns c =

@@ -20,8 +20,5 @@ pub loop-p-preserved : goal.loop-p-preserved
 loop-p-preserved c =
     turn-done c.loop-p.invariant _ _ c.loop-p-test.true c.write_gap-next.ensures.after c.write_gap-next.ensures.written
 
-pub shape_of-room : goal.shape_of-room
-shape_of-room c = c.loop-p.invariant.left.kept
-
 pub returns : goal.returns
 returns c = let told = turns-done c.loop-p.invariant c.loop-p-test.false in record { after = told.0; written = told.1 }

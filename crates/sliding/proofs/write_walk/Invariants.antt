@@ -1,5 +1,4 @@
 -- `write_walk` writes the slides into a gap at each turn: those of the gaps left are what remains.
-use Prim.Native.Nat.{◌-◌}
 use lib.ListN.{length}
 use Rattle.sliding.specs.Parts.{gap_bytes, walk_bytes}
 use Rattle.sliding.specs.Turns.{Turns}
@@ -7,6 +6,3 @@ use Rattle.sliding.proofs.write_walk.Given as goal
 
 abbrev pub invariant-loop-p : goal.invariant-loop-p
 invariant-loop-p l = Turns l.initial.room l.at (walk_bytes l.near l.start) (length l.start) (gap_bytes l.near l.start) l.room l.next l.p
-
-abbrev pub decreases-loop-p : goal.decreases-loop-p
-decreases-loop-p l = length l.start - l.p

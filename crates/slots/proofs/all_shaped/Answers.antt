@@ -1,38 +1,26 @@
--- `slots::all_shaped`: the slots before i are in shape (`AllShaped`).
-use mathlib.Core.Path.{◌≡◌, refl, ap, ◌∙◌, subst}
-use native.Mathlib.Omega.{arith}
+-- `slots::all_shaped`: each slot is told to be in shape (`AllShaped`).
+use Rattle.std.proofs.Common.{ℕ, ◌<◌, ◌≡◌, refl, Bool, true, false, ◌∙◌, arith, rules, length, get_or}
+use borrow.Author.Tests.{tests}
+use Rattle.std.specs.Bool.{MatchBool}
+use Rattle.std.specs.List.{range_with_len, AllWithin, HoldsAt}
+use Rattle.std.proofs.lemmas.Iterator.{cases_from_all, YieldsList-from_range}
+use Rattle.std.proofs.lemmas.List.FromFn.{length-range_with_len, get_or-range_with_len}
 use Rattle.meaning.specs.Workspace.{has, words_for}
-use Rattle.theory.specs.Tells.{Tells}
-use Rattle.slots.specs.Area.{slot_at, slot-room}
-use Rattle.slots.specs.Shape.{Shaped, AllShaped, all-next, all-not}
+use Rattle.theory.specs.Tells.{Tells, told-yes, told-no, tells-no}
+use Rattle.slots.specs.Area.{slot_at}
+use Rattle.slots.specs.Shape.{Shaped}
 use Rattle.slots.proofs.all_shaped.Goals as goal
-use Rattle.slots.proofs.all_shaped.Goals.{After-is_shaped}
 
--- The call tells the shape of slot i.
-told : (c : After-is_shaped) → let s = c.args in let i = c.loop-i.i in
-    Tells c.is_shaped.result (Shaped s.n i (has s.full.now) (has (slot_at (words_for s.n) s.area.now i)))
-told c = let s = c.args in let i = c.loop-i.i in
-    subst (λ l. Tells c.is_shaped.result (Shaped s.n i (has s.full.now) (has l)))
-    (c.slot_of.ensures.0 ∙ ap (λ w. slot_at w s.area.now i) c.requires.1) c.is_shaped.ensures
+at : (n i : ℕ) → i < n → get_or (range_with_len 0 n) i 0 ≡ i
+at n i l = get_or-range_with_len 0 n i 0 l ∙ omega arith
 
-pub loop-i-init : goal.loop-i-init
-loop-i-init c = (omega arith, λ i l. absurd (omega arith))
-
-pub slot_of-requires : goal.slot_of-requires
-slot_of-requires c = slot-room c.args.n _ _ c.args.area.now c.requires.1 c.requires.0 c.loop-i-test.true
-
-pub is_shaped-requires : goal.is_shaped-requires
-is_shaped-requires c = (c.slot_of.ensures.1 ∙ c.requires.1, c.requires.1, c.requires.2, c.loop-i-test.true)
-
-pub returns-then-not-is_shaped : goal.returns-then-not-is_shaped
-returns-then-not-is_shaped c = let s = c.args in
-    all-not s.n c.loop-i.i s.area.now s.full.now (told (goal.at.returns-then-not-is_shaped c).After-is_shaped) (c.if-not-is_shaped.true)
-    c.loop-i-test.true
-
-pub loop-i-preserved : goal.loop-i-preserved
-loop-i-preserved c = let s = c.args in let t = c.loop-i in
-    (omega arith, all-next s.n t.i s.area.now s.full.now (told (goal.at.loop-i-preserved c).After-is_shaped) (c.if-not-is_shaped.false) t.invariant.1)
+-- Of the numbers below n each was told to have P, or one not to.
+told : (n : ℕ) (P : ℕ → Type 0) (b : Bool) → MatchBool b (AllWithin (λ i. Tells true (P i)) (range_with_len 0 n) 0 (length (range_with_len 0 n)))
+    ((i : ℕ) × (i < length (range_with_len 0 n)) × HoldsAt (λ i. Tells false (P i)) (range_with_len 0 n) i) → Tells b ((i : ℕ) → i < n → P i)
+told n P true h = told-yes (λ i l. (rw (at n i l) at (h i 0 (omega arith) (omega (arith, length-range_with_len 0 n)))).yes refl)
+told n P false (i, l, h) = let k : i < n = omega (arith, length-range_with_len 0 n) in told-no (λ all. tells-no (rw (at n i k) at (h 0)) refl (all i k))
 
 pub returns : goal.returns
-returns c = let s = c.args in let e : c.loop-i.i ≡ s.n = omega arith in
-    record { yes = λ _. subst (AllShaped s.n s.area.now s.full.now) e c.loop-i.invariant.1; back = λ _. refl }
+returns c =
+    let shaped = λ (i : ℕ). Shaped c.args.n i (has c.args.full.now) (has (slot_at (words_for c.args.n) c.args.area.now i)) in
+    told c.args.n shaped c.all.result (cases_from_all _ _ _ (λ i. Tells true (shaped i)) (λ i. Tells false (shaped i)) c.all.ensures.ran (YieldsList-from_range 0 c.args.n c.args.n (cc) (omega arith)) (λ x q k. search (rules, tests)) (λ x q k. search (rules, tests)))

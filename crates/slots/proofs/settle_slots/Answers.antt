@@ -1,6 +1,5 @@
 -- `slots::settle_slots`: between two turns the slots below i are settled (`Settling`).
-use mathlib.Core.Path.{sym, ◌∙◌}
-use native.Mathlib.Omega.{arith}
+use Rattle.std.proofs.Common.{arith}
 use Rattle.slots.specs.Settling.{settling-first, settling-led, settling-indexes, settling-next, settling-done}
 use Rattle.slots.proofs.settle_slots.Goals as goal
 
@@ -18,14 +17,8 @@ settle_slot-requires c = let h = c.requires.0 in let t = c.loop-i.invariant in (
 )
 
 pub loop-i-preserved : goal.loop-i-preserved
-loop-i-preserved c = let l = c.loop-i in settling-next _ _ _ _ c.requires.0 l.i l.area l.row l.invariant c.settle_slot.new.area c.settle_slot.new.row c.loop-i-test.true (omega (arith, c.settle_slot.auto)) (omega (arith, c.settle_slot.auto))
+loop-i-preserved c = let l = c.loop-i in settling-next _ _ _ _ c.requires.0 l.i l.area l.row l.invariant c.settle_slot.new.area c.settle_slot.new.row c.loop-i-test.true (omega arith) (omega arith)
     (λ i h. (c.type_inv.area i).fits) c.settle_slot.ensures
-
-pub shape_of-area : goal.shape_of-area
-shape_of-area c = c.loop-i.invariant.long
-
-pub shape_of-row : goal.shape_of-row
-shape_of-row c = c.loop-i.invariant.room ∙ sym c.requires.1
 
 pub returns : goal.returns
 returns c = let l = c.loop-i in settling-done _ _ _ _ c.requires.0 l.i l.area _ l.invariant c.loop-i-test.false

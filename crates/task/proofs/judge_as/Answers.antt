@@ -1,8 +1,7 @@
 -- `judge_as`: a file of a kind, judged wholly.
-use borrow.Author.Rules.{rules}
 use Rattle.task.specs.Rest.{file_by}
 use Rattle.task.proofs.judge_as.Goals as goal
 
 pub returns : goal.returns
 unfolding file_by
-returns c = search rules
+returns c = c.judge_by.ensures

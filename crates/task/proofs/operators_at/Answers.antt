@@ -1,26 +1,17 @@
 -- `operators_at`: after each operator, those that are left lead to the same answer.
-use mathlib.Core.Path.{sym, ap, ◌∙◌}
-use native.Mathlib.Omega.{arith}
-use native.Mathlib.Nat.{sub-zero}
+use Rattle.std.proofs.Common.{sym, ap, ◌∙◌}
+use Rattle.std.proofs.lemmas.Result.{err_from_is_err_and}
 use Rattle.number.specs.Answers.{place_of, place-fault}
-use Rattle.operator.specs.Known.{read_next, read-faulted}
 use Rattle.operator.specs.Fold.{place-more, operators-fault, operators-none}
 use Rattle.task.proofs.operators_at.Goals as goal
 
-pub loop-k-init : goal.loop-k-init
-loop-k-init c = (omega arith, simp sub-zero)
+pub returns-in_err-read : goal.returns-in_err-read
+returns-in_err-read c =
+    let p = err_from_is_err_and c.from_residual.result c.from_residual.ensures.1 in
+    rw (p.1, p.2) (sym (c.loop.invariant ∙ place-fault _ _ (operators-fault _ _ _ _ _ _ _ c.loop-test.true (sym c.in_err-read.ensures))))
 
-pub returns-in-Fault : goal.returns-in-Fault
-returns-in-Fault c = sym (c.loop-k.invariant.1 ∙ place-fault _ _ _
-    (operators-fault _ _ _ _ _ _ _ c.loop-k-test.true
-    (read-faulted _ _ _ _ _ _ c.read_operator-read.ensures c.in-Fault.is)))
-
-pub loop-k-preserved : goal.loop-k-preserved
-loop-k-preserved c = (
-  omega arith,
-  c.loop-k.invariant.1 ∙ place-more _ _ _ _ _ _ _ c.loop-k-test.true
-      (read_next _ _ _ _ _ c.read_operator-read.ensures c.in-Next.is),
-)
+pub loop-preserved : goal.loop-preserved
+loop-preserved c = c.loop.invariant ∙ place-more _ _ _ _ _ _ _ c.loop-test.true (sym c.in_ok-read.ensures)
 
 pub returns : goal.returns
-returns c = sym (c.loop-k.invariant.1 ∙ ap place_of (operators-none _ _ _ _ _ c.loop-k-test.false))
+returns c = sym (c.loop.invariant ∙ ap place_of (operators-none _ _ _ _ _ c.loop-test.false))

@@ -1,7 +1,6 @@
 -- `read`: a file of the kind that its first number says, judged up to 5.
 use Rattle.task.specs.Rest.{either-read}
-use Rattle.task.specs.Answer.{answer-same}
 use Rattle.task.proofs.read.Goals as goal
 
 pub returns : goal.returns
-returns c = answer-same _ _ _ _ (either-read _ _ c.is_gapped-gapped.ensures) c.judge_by.ensures
+returns c = rw (either-read _ _ c.is_gapped.ensures) at c.judge_by.ensures

@@ -3,11 +3,6 @@ use native.Mathlib.Omega.{arith}
 use Rattle.text.specs.Parts.{numbered-put}
 use Rattle.text.proofs.put_numbered.Goals as goal
 
-pub put-requires : goal.put-requires
-put-requires c =
-    let first = c.put-first.ensures in
-    omega (arith, first.place, c.put_word-second.ensures.place)
-
 pub returns : goal.returns
 returns c =
     let number = c.args.number in

@@ -1,13 +1,8 @@
 -- `words::add`: the loop writes `summed` from the front (`Written`); each word that it reads is still that of before.
-use mathlib.Core.Path.{◌≡◌, refl, sym}
-use native.Mathlib.Omega.{arith}
-use lib.ListN.{length}
+use Rattle.std.proofs.Common.{◌≡◌, sym, arith, length}
 use Rattle.words.specs.Change.{summed, length-summed, get_d-summed}
 use Rattle.words.specs.Written.{written-word, written_next, written-done}
 use Rattle.words.proofs.add.Goals as goal
-
-pub loop-i-init : goal.loop-i-init
-loop-i-init c = (omega arith, refl, refl)
 
 pub loop-i-preserved : goal.loop-i-preserved
 loop-i-preserved c =
@@ -16,9 +11,6 @@ loop-i-preserved c =
     let e : length l ≡ length (summed l s) = sym (length-summed l s) in
     let here = written-word l (summed l s) _ _ e c.loop-i.invariant in
     written_next l (summed l s) _ _ _ e c.loop-i.invariant (omega arith) (rw here (sym (get_d-summed l s _ c.requires)))
-
-pub shape_of-into : goal.shape_of-into
-shape_of-into c = c.loop-i.invariant.1
 
 pub returns : goal.returns
 returns c = written-done _ _ _ _ (sym (length-summed _ _)) c.loop-i.invariant (omega arith)

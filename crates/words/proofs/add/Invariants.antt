@@ -1,12 +1,7 @@
 -- `words::add`: the loop writes `summed` from the front (`Written`); each word that it reads is still that of before.
-use Prim.Native.Nat.{◌-◌}
-use lib.ListN.{length}
 use Rattle.words.specs.Change.{summed}
 use Rattle.words.specs.Written.{Written}
 use Rattle.words.proofs.add.Given as goal
 
 abbrev pub invariant-loop-i : goal.invariant-loop-i
 invariant-loop-i l = Written l.initial.into (summed l.initial.into l.from) l.i l.into
-
-abbrev pub decreases-loop-i : goal.decreases-loop-i
-decreases-loop-i l = length l.initial.into - l.i

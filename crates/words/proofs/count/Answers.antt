@@ -1,35 +1,20 @@
--- `count` counts from member to member: at each turn the members below the place reached are counted.
-use Prim.Native.Nat.{◌+◌, ◌*◌}
-use mathlib.Core.Path.{◌≡◌, sym, ap, ◌∙◌}
-use native.Mathlib.Omega.{arith}
-use lib.ListN.{length}
+-- `words::count`: the ones of the words are the members (`ones-members`), and so few that their sum fits.
+use Rattle.std.proofs.Common.{◌*◌, ◌∙◌, arith, rules, length}
+use Rattle.std.specs.Int.Count.{ones}
+use Rattle.std.proofs.lemmas.Iterator.{YieldsList-from_slice, YieldsList-from_map}
+use Rattle.std.proofs.lemmas.Iterator.Consumers.{sum_by_from_yields_List, fits_by_from_yields_list}
 use Rattle.meaning.specs.Limits.{word_bits}
 use Rattle.meaning.specs.Workspace.{has}
-use Rattle.theory.specs.Run.{members}
-use Rattle.words.specs.Members.{reached, members-few, members-first, members-behind}
+use Rattle.words.specs.Members.{members-few, ones-members}
 use Rattle.words.proofs.count.Goals as goal
 
-pub loop-f-init : goal.loop-f-init
-loop-f-init c =
+pub sum-requires-clause-fits : goal.sum-requires-clause-fits
+sum-requires-clause-fits c =
     let words = c.args.words.now in
-    let next = c.next_member-f.ensures in
-    (reached (has words) (word_bits * length words) 0 _ next, sym (ap length (members-first (has words) (word_bits * length words) _ next)))
-
-pub overflow_add-sum : goal.overflow_add-sum
-overflow_add-sum c = omega (arith, c.requires, members-few (has c.args.words.now) c.loop-f.f, c.loop-f.invariant.1)
-
-pub loop-f-preserved : goal.loop-f-preserved
-loop-f-preserved c =
-    let words = c.args.words.now in
-    let n = word_bits * length words in
-    let turn = c.loop-f in
-    let next = c.next_member-f-in-loop-f.ensures in
-    let more = members-behind (has words) n turn.f _ turn.invariant.0 (omega (arith, c.loop-f-test.true)) next in
-    (reached (has words) n (turn.f + 1) _ next, omega (arith, turn.invariant.1, more))
+    let e = ones-members words (λ i k. (c.type_inv.words i).fits) in
+    fits_by_from_yields_list ones words c.map.result _ (YieldsList-from_map _ ones (YieldsList-from_slice words cc) c.map.ensures.closure (λ x r q k. search rules)) (omega (arith, e, members-few (has words) (word_bits * length words), c.requires))
 
 pub returns : goal.returns
 returns c =
     let words = c.args.words.now in
-    let turn = c.loop-f in
-    let end : turn.f ≡ word_bits * length words = omega (arith, turn.invariant.0.within, c.loop-f-test.false) in
-    turn.invariant.1 ∙ ap (λ f. length (members f (has words))) end
+    sum_by_from_yields_List ones words c.map.result _ c.sum.ensures.ran (YieldsList-from_map _ ones (YieldsList-from_slice words cc) c.map.ensures.closure (λ x r q k. search rules)) ∙ ones-members words (λ i k. (c.type_inv.words i).fits)

@@ -1,20 +1,21 @@
 -- `words::odd_shared`: the bits of the sum have the parity of what is shared in the words that are done (`Parity`).
-use mathlib.Core.Path.{◌≡◌}
-use native.Mathlib.Omega.{arith}
-use lib.ListN.{length}
-use lib.Bits.{xor_lt, and_lt}
+use Rattle.std.proofs.Common.{◌≡◌, arith, length, length-append}
+use Rattle.std.proofs.lemmas.Slice.Zip.{zip_turn, zip_end}
 use Rattle.words.specs.Parity.{parity-start, parity-next, parity-done}
 use Rattle.words.proofs.odd_shared.Goals as goal
 
-pub loop-i-init : goal.loop-i-init
-loop-i-init c = (omega arith, omega arith, parity-start _ _)
+pub loop-x-init : goal.loop-x-init
+loop-x-init c = parity-start _ _
 
-pub loop-i-preserved : goal.loop-i-preserved
-loop-i-preserved c =
-    let i = c.loop-i.i in
-    let inv = c.loop-i.invariant in
-    let small = and_lt 64 _ _ (c.type_inv.a i).fits (c.type_inv.b i).fits in
-    (omega arith, xor_lt 64 _ _ inv.1 small, parity-next _ _ _ _ inv.2)
+pub loop-x-preserved : goal.loop-x-preserved
+loop-x-preserved c =
+    let a = c.args.a.now in
+    let b = c.args.b.now in
+    let turn = zip_turn a b c.loop-x.yielded _ _ c.next.new.self _ (cc) (cc) c.loop-x.yielded_by _ c.in-Some.is c.next.ensures.steps in
+    rw (turn.2 0, turn.3 0, length-append) (parity-next a b _ _ c.loop-x.invariant)
 
 pub returns : goal.returns
-returns c = let e : c.loop-i.i ≡ length c.args.a.now = omega arith in rw (← e) (parity-done _ _ _ _ c.loop-i.invariant.1 c.loop-i.invariant.2)
+returns c =
+    let e = zip_end c.args.a.now c.args.b.now c.loop-x.yielded _ _ c.next.new.self _ (cc) (cc) c.loop-x.yielded_by c.in-None.is c.next.ensures.steps in
+    let n : length c.loop-x.yielded ≡ length c.args.a.now = omega (arith, e) in
+    rw (← n) (parity-done _ _ _ _ (omega arith) c.loop-x.invariant)

@@ -1,17 +1,15 @@
 -- `deliver_set` refuses a room that is too small, and otherwise writes mark and set at the front.
 use Prim.Native.Nat.{ℕ, ◌+◌, ◌*◌, ◌≤◌}
-use mathlib.Core.Path.{◌≡◌, refl, sym, ◌∙◌}
+use mathlib.Core.Path.{◌≡◌, refl, sym}
 use mathlib.Core.List.{List, [], append-nil}
 use native.Mathlib.Omega.{arith}
 use lib.ListN.{length, length-append}
 use Rattle.meaning.specs.Limits.{word_bits}
-use Rattle.meaning.specs.Number.{Small}
 use Rattle.meaning.specs.File.{kind_if, list_bytes, mark_bytes, weight_bytes_as}
 use Rattle.meaning.specs.Workspace.{has}
 use Rattle.words.specs.Members.{members_in, members-few}
-use Rattle.writer.specs.Answer.{refused-so}
 use Rattle.writer.specs.Widths.{mark-few, features-few}
-use Rattle.writer.specs.Remains.{Remains, remains-all, part-fits, remains-after, remains-none, delivered-small, delivered-done}
+use Rattle.writer.specs.Remains.{Remains, remains-all, remains-after, remains-none, delivered-small, delivered-done}
 use Rattle.writer.proofs.deliver_set.Goals as goal
 use Rattle.writer.proofs.deliver_set.Goals.{After-set_width, After-write_mark-next, Else-room-mark_width, Start}
 
@@ -35,7 +33,7 @@ overflow_add-mark_width c =
 pub returns-then-room-mark_width : goal.returns-then-room-mark_width
 returns-then-room-mark_width c =
     let room = c.args.room.now in
-    refused-so c.refuse.result Small room c.refuse.ensures ∙ sym (delivered-small (file (goal.at.returns-then-room-mark_width c).Start) room (omega (arith, whole (goal.at.returns-then-room-mark_width c).After-set_width, c.if-room-mark_width.true)))
+    sym (delivered-small (file (goal.at.returns-then-room-mark_width c).Start) room (omega (arith, whole (goal.at.returns-then-room-mark_width c).After-set_width, c.if-room-mark_width.true)))
 
 -- Where the room is long enough, all remains; then the list.
 fits : (c : Else-room-mark_width) → length (file (goal.at.Else-room-mark_width c).Start) ≤ length c.args.room.now
@@ -48,14 +46,6 @@ after-mark : (c : After-write_mark-next) → Remains c.args.room.now 0 (file (go
 unfolding weight_bytes_as
 after-mark c =
     remains-after (all (goal.at.After-write_mark-next c).Else-room-mark_width) (mark_bytes (kind_if c.args.gapped)) _ _ _ refl (omega (arith, c.write_mark-next.ensures.after)) c.write_mark-next.ensures.written
-
-pub write_mark-next-requires : goal.write_mark-next-requires
-unfolding weight_bytes_as
-write_mark-next-requires c = omega (arith, part-fits (all (goal.at.write_mark-next-requires c).Else-room-mark_width) (mark_bytes (kind_if c.args.gapped)) _ refl)
-
-pub write_set-requires : goal.write_set-requires
-write_set-requires c =
-    (c.requires, part-fits (after-mark (goal.at.write_set-requires c).After-write_mark-next) (members (goal.at.write_set-requires c).Start) [] (sym (append-nil (members (goal.at.write_set-requires c).Start))))
 
 pub returns : goal.returns
 returns c =

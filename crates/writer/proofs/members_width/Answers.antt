@@ -11,7 +11,7 @@ use Rattle.theory.specs.ReadBack.{said_as, numbers-length}
 use Rattle.theory.specs.NumberBack.{number-bytes-length}
 use Rattle.words.specs.Members.{reached, members-few, members_in}
 use Rattle.writer.specs.Widths.{numbers-few, part_length}
-use Rattle.writer.specs.Walk.{said-most, ahead-first, ahead-next, ahead_none}
+use Rattle.writer.specs.Walk.{ahead-first, ahead-next, ahead_none}
 use Rattle.writer.proofs.members_width.Goals as goal
 
 pub loop-f-init : goal.loop-f-init
@@ -21,14 +21,6 @@ loop-f-init c =
     let n = word_bits * length words in
     let next = c.next_member-f.ensures in
     (reached (has words) n 0 _ next, omega arith, omega (arith, ap length (ahead-first (kind_if a.gapped) (has words) n _ next)))
-
-pub number_for-requires : goal.number_for-requires
-number_for-requires c = c.loop-f.invariant.1
-
-pub width-sum-requires : goal.width-sum-requires
-width-sum-requires c =
-    let turn = c.loop-f in
-    omega (arith, c.number_for.ensures, said-most (kind_if c.args.gapped) turn.least turn.f, c.loop-f-test.true, c.requires)
 
 pub overflow_add-sum : goal.overflow_add-sum
 overflow_add-sum c =
@@ -44,9 +36,6 @@ overflow_add-sum c =
       c.width-sum.ensures,
       number-bytes-length c.number_for.result,
     )
-
-pub loop-f-smaller : goal.loop-f-smaller
-loop-f-smaller c = omega (arith, c.next_member-f-in-loop-f.ensures.above)
 
 pub loop-f-preserved : goal.loop-f-preserved
 loop-f-preserved c =

@@ -1,36 +1,47 @@
--- `operator_width` adds up the widths of the count and of the entries: at each turn the bytes of the entries left make up the rest.
-use Prim.Native.Nat.{◌≤◌}
-use mathlib.Core.Path.{ap}
+-- `operator_width` adds up the widths of the count and of the entries.
+use Prim.Native.Nat.{ℕ, ◌+◌}
+use mathlib.Core.Path.{◌≡◌, sym, ◌∙◌, subst}
 use native.Mathlib.Omega.{arith}
+use borrow.Author.Tests.{tests}
 use lib.ListN.{length}
-use Rattle.meaning.specs.File.{entry_bytes}
-use Rattle.theory.specs.Slices.{entries_in, length-held}
-use Rattle.writer.specs.Widths.{bytes-none, operator-length, operator-few, entry-width-more, triple-at}
+use Rattle.std.proofs.Common.{rules}
+use Rattle.std.proofs.lemmas.List.{get_or_default}
+use Rattle.std.proofs.lemmas.Iterator.{YieldsList-from_slice, YieldsList-from_map}
+use Rattle.std.proofs.lemmas.Iterator.Adapters.{serves_from_places}
+use Rattle.std.proofs.lemmas.Iterator.Consumers.{sum_by_from_yields_List, fits_by_from_yields_list}
+use Rattle.meaning.specs.Task.{Entry}
+use Rattle.meaning.specs.File.{entry_bytes, operator_bytes}
+use Rattle.theory.specs.Given.{entry_of}
+use Rattle.writer.specs.Parts.{Numbered}
+use Rattle.writer.specs.Widths.{operator-length, operator-few, bytes-summed}
 use Rattle.writer.proofs.operator_width.Goals as goal
+use Rattle.writer.proofs.operator_width.Goals.{After-width}
 
-pub loop-i-init : goal.loop-i-init
-loop-i-init c = let a = c.args in omega (arith, operator-length a.variables.now a.befores.now a.afters.now)
+abbrev width : Entry → ℕ
+width e = length (entry_bytes e)
 
-pub entry_width-sum-requires : goal.entry_width-sum-requires
-entry_width-sum-requires c =
-    let a = c.args in
-    triple-at a.variables.now a.befores.now a.afters.now c.loop-i.i c.loop-i-test.true c.requires
+pub sum-width-requires-clause-can : goal.sum-width-requires-clause-can
+sum-width-requires-clause-can c = (
+  tt,
+  serves_from_places (YieldsList-from_slice c.args.entries.now (cc)) (λ x q k. search rules)
+      (λ x k l e lifetimes pointer place same fits none. subst Numbered (sym (e ∙ get_or_default c.args.entries.now k x.now (entry_of 0 0 0) l)) (c.requires.1 k l)),
+)
 
-pub overflow_add-sum : goal.overflow_add-sum
-overflow_add-sum c =
-    let a = c.args in
-    let more = entry-width-more a.variables.now a.befores.now a.afters.now c.loop-i.i c.loop-i-test.true in
-    omega (arith, more, operator-few a.variables.now a.befores.now a.afters.now)
+pub sum-width-requires-clause-fits : goal.sum-width-requires-clause-fits
+sum-width-requires-clause-fits c =
+    let o = c.args.entries.now in
+    fits_by_from_yields_list width o c.map.result _ (YieldsList-from_map _ width (YieldsList-from_slice o (cc)) c.map.ensures.closure (λ x r q k. search (rules, tests)))
+    (omega (arith, bytes-summed entry_bytes o, operator-length o, operator-few o))
 
-pub loop-i-preserved : goal.loop-i-preserved
-loop-i-preserved c =
-    let a = c.args in
-    let more = entry-width-more a.variables.now a.befores.now a.afters.now c.loop-i.i c.loop-i-test.true in
-    omega (arith, more)
+-- Both together are the operator's.
+whole : (c : After-width) → c.width.result + c.sum-width.result ≡ length (operator_bytes c.args.entries.now)
+whole c =
+    let o = c.args.entries.now in
+    let summed = sum_by_from_yields_List width o c.map.result _ c.sum-width.ensures.ran (YieldsList-from_map _ width (YieldsList-from_slice o (cc)) c.map.ensures.closure (λ x r q k. search (rules, tests))) in
+    omega (arith, c.width.ensures, summed, bytes-summed entry_bytes o, operator-length o)
+
+pub overflow_add-result : goal.overflow_add-result
+overflow_add-result c = omega (arith, whole c, operator-few c.args.entries.now)
 
 pub returns : goal.returns
-returns c =
-    let a = c.args in
-    let o = entries_in a.variables.now a.befores.now a.afters.now in
-    let all : length o ≤ c.loop-i.i = omega (arith, length-held (length a.variables.now) a.variables.now a.befores.now a.afters.now) in
-    omega (arith, ap length (bytes-none entry_bytes o c.loop-i.i all))
+returns c = whole c

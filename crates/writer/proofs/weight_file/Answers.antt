@@ -3,11 +3,9 @@ use mathlib.Core.Path.{refl, sym, ap, ◌∙◌, subst}
 use native.Mathlib.Omega.{arith}
 use lib.ListN.{take}
 use lib.Seq.{length-take-le}
-use Rattle.meaning.specs.Number.{Range}
 use Rattle.theory.specs.Tells.{Tells, tells-no}
 use Rattle.words.specs.Next.{Empty}
 use Rattle.words.specs.Members.{members_in, members-front}
-use Rattle.writer.specs.Answer.{refused-so}
 use Rattle.writer.specs.Copied.{lent-behind}
 use Rattle.writer.specs.Weights.{weights_written}
 use Rattle.writer.specs.Judging.{weights-refused}
@@ -23,7 +21,7 @@ returns-then-not-is_empty c =
     let a = c.args in
     let words = a.words.now in
     let none = tells-no (subst (λ l. Tells c.is_empty.result (Empty l)) (lent-behind words most_words most_words refl) c.is_empty.ensures) c.if-not-is_empty.true in
-    refused-so c.refuse.result Range a.room.now c.refuse.ensures ∙ sym (weights-refused (members_in words) a.room.now _ (outside-range words (λ h. none (in-range-behind words h))))
+    sym (weights-refused (members_in words) a.room.now _ (outside-range words (λ h. none (in-range-behind words h))))
 
 pub slice_bounds-deliver_set-end : goal.slice_bounds-deliver_set-end
 slice_bounds-deliver_set-end c = sym (length-take-le most_words c.args.words.now (omega (arith, c.if-words-le-MOST_WORDS.false)))

@@ -22,9 +22,6 @@ loop-f-init c =
     let next = c.next_member-f.ensures in
     (reached (has words) n 0 _ next, omega arith, rw (ahead-first kind (has words) n _ next) (remains-all _ _ _ c.requires.1))
 
-pub number_for-requires : goal.number_for-requires
-number_for-requires c = c.loop-f.invariant.1
-
 pub write_number-next-requires : goal.write_number-next-requires
 write_number-next-requires c =
     let kind = kind_if c.args.gapped in
@@ -37,9 +34,6 @@ write_number-next-requires c =
       omega (arith, part-fits turn.invariant.2 (number_bytes said) _ more, ap (λ k. length (number_bytes k)) c.number_for.ensures),
     )
 
-pub loop-f-smaller : goal.loop-f-smaller
-loop-f-smaller c = omega (arith, c.next_member-f-in-loop-f.ensures.above)
-
 pub loop-f-preserved : goal.loop-f-preserved
 loop-f-preserved c =
     let kind = kind_if c.args.gapped in
@@ -51,9 +45,6 @@ loop-f-preserved c =
     let more = ahead-next kind (has words) n turn.least turn.f _ turn.invariant.0 (omega (arith, c.loop-f-test.true)) next in
     let split = more ∙ ap (λ k. number_bytes k ++ ahead kind (has words) n (turn.f + 1) c.next_member-f-in-loop-f.result) (sym number.ensures) in
     (reached (has words) n (turn.f + 1) _ next, next.above, remains-after turn.invariant.2 (number_bytes number.result) _ _ _ split c.write_number-next.ensures.after c.write_number-next.ensures.written)
-
-pub shape_of-room : goal.shape_of-room
-shape_of-room c = c.loop-f.invariant.2.kept
 
 pub returns : goal.returns
 returns c =

@@ -1,13 +1,11 @@
 -- `write_task` refuses a room that is shorter than the whole, and otherwise writes front, count and operators.
 use Prim.Native.Nat.{ℕ, ◌+◌, ◌*◌, ◌≤◌}
-use mathlib.Core.Path.{◌≡◌, sym, ◌∙◌}
+use mathlib.Core.Path.{◌≡◌, sym}
 use mathlib.Core.List.{List}
 use native.Mathlib.Omega.{arith}
 use lib.ListN.{length}
-use Rattle.meaning.specs.Number.{Small}
 use Rattle.meaning.specs.File.{kind_if}
 use Rattle.writer.specs.Widths.{four_lists}
-use Rattle.writer.specs.Answer.{refused-so}
 use Rattle.writer.specs.Remains.{delivered-small}
 use Rattle.writer.specs.TaskFile.{file_bytes, file-length, file-few, file-delivered}
 use Rattle.writer.proofs.write_task.Goals as goal
@@ -34,10 +32,7 @@ overflow_add-front c = omega (arith, few c, c.well_formed)
 
 pub returns-then-room-front : goal.returns-then-room-front
 returns-then-room-front c = let room = c.args.room.now in
-    refused-so c.refuse.result Small room c.refuse.ensures ∙ sym (delivered-small (file (goal.at.returns-then-room-front c).Start) room (omega (arith, whole (goal.at.returns-then-room-front c).After-width, c.if-room-front.true)))
-
-pub write_front-second-requires : goal.write_front-second-requires
-write_front-second-requires c = (c.requires.0, omega (arith, c.front_width-front.ensures, c.if-room-front.false))
+    sym (delivered-small (file (goal.at.returns-then-room-front c).Start) room (omega (arith, whole (goal.at.returns-then-room-front c).After-width, c.if-room-front.true)))
 
 pub returns : goal.returns
 returns c =

@@ -1,7 +1,0 @@
--- `place`: past the end there is nothing.
-use mathlib.Core.Path.{sym}
-use lib.ListN.{get_or-eq_default}
-use Rattle.florumeja.proofs.place.Goals as goal
-
-pub returns-then-words-i : goal.returns-then-words-i
-returns-then-words-i c = sym (get_or-eq_default c.args.words.now 0 c.if-words-i.true)

@@ -1,6 +1,6 @@
 -- The number of the first pair of two variables, counted by sums: from the last variable to the first one.
-use Rattle.std.specs.Prelude.{ℕ, zero, suc, ◌+◌, ◌*◌, ◌-◌, ◌<◌, ◌≤◌, ◌≡◌, List, [], ◌∷◌, take, drop, length, refl}
-use Rattle.std.proofs.Common.{sym, ap, ◌∙◌, arith, mul-add, add-mul, take_all, length-drop}
+use Rattle.std.specs.Prelude.{ℕ, zero, suc, ◌+◌, ◌*◌, ◌-◌, ◌<◌, ◌≤◌, ◌≡◌, List, [], ◌∷◌, take}
+use Rattle.std.proofs.Common.{sym, ap, ◌∙◌, arith, mul-add, add-mul}
 use Rattle.meaning.specs.Limits.{most_atoms}
 use Rattle.meaning.specs.Task.{size}
 use Rattle.meaning.specs.Feature.{sum_of, pairs_of, atoms, pair_start}
@@ -11,18 +11,6 @@ use Rattle.numbering.specs.Sums.{sum-next, pairs_next}
 -- The atoms from variable k on are counted.
 abbrev pub From : List ℕ → ℕ → ℕ → Type 0
 From sizes k count = sum_of (take k sizes) + count ≡ sum_of sizes
-
-from-drop : (sizes : List ℕ) (k : ℕ) → From sizes k (sum_of (drop k sizes))
-unfolding sum_of
-from-drop [] zero = refl
-from-drop [] (suc k) = refl
-from-drop (d ∷ ds) zero = omega arith
-from-drop (d ∷ ds) (suc k) = omega (arith, from-drop ds k)
-
--- The atoms of the slice from k on.
-pub from-slice : (sizes : List ℕ) (k count : ℕ) → count ≡ atoms (take (length sizes - k) (drop k sizes)) → From sizes k count
-unfolding atoms
-from-slice sizes k count e = omega (arith, from-drop sizes k, e ∙ ap sum_of (take_all (length sizes - k) (drop k sizes) (omega (arith, length-drop k sizes))))
 
 -- Before the pairs of first variable i stand those of the variables before it, among themselves and with the rest.
 row-start : (sizes : List ℕ) (i rest : ℕ) → From sizes i rest → pair_start sizes i (suc i) ≡ pairs_of (take i sizes) + sum_of (take i sizes) * rest
@@ -60,7 +48,7 @@ module _ (sizes : List ℕ) (k d count : ℕ) (more : 0 < k) (own : d ≡ size s
   pairs-front : pairs_of (take k sizes) ≡ pairs_of (take (k - 1) sizes) + sum_of (take (k - 1) sizes) * d
   pairs-front = rw own (ap (λ n. pairs_of (take n sizes)) (sym next) ∙ pairs_next sizes (k - 1))
 
-  from-turn : From sizes k count → From sizes (k - 1) (count + d)
+  pub from-turn : From sizes k count → From sizes (k - 1) (count + d)
   from-turn e = omega (arith, front)
 
   pub counted-turn : (i j pairs : ℕ) → Counted sizes i j k count pairs → Counted sizes i j (k - 1) (count + d) (pairs + d * count)

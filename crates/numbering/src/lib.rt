@@ -6,6 +6,7 @@ ghost use Rattle.std.specs.Prelude.{◌≡◌, ◌≢◌, ◌+◌, ◌^◌, ◌<
 ghost use Rattle.meaning.specs.Task.{size};
 ghost use Rattle.meaning.specs.Feature.{atoms, features, single, pair_start, both};
 ghost use Rattle.numbering.specs.Sizes.{SmallSizes};
+ghost use Rattle.numbering.specs.Blocks.{From};
 ghost use Rattle.numbering.specs.Planes.{number_in, Spans};
 ghost use Rattle.numbering.specs.Order.{Stands, Follows, Contains, Joins};
 
@@ -15,6 +16,13 @@ pub struct Plane {
     pub first: usize,
     pub step: usize,
     pub other: usize,
+}
+
+// How many atoms the variables from a first one on have, and those from a second one on.
+#[derive(Clone, Copy)]
+struct Rests {
+    first: usize,
+    second: usize,
 }
 
 // The features of two variables in order as a block of numbers, from `start` to right before `end`. A variable with itself has an empty one,
@@ -73,17 +81,32 @@ pub fn single(sizes: &[u64], i: usize, x: usize) -> usize
     atoms(&sizes[..i]) + x
 }
 
+// How many atoms the variables from i on have, and those from j on: one pass from the last variable to variable i.
+fn atoms_from(sizes: &[u64], i: usize, j: usize) -> Rests
+    requires { SmallSizes sizes.now × (i < j) × (j < length sizes.now) }
+    ensures { From sizes.now i result.first × From sizes.now j result.second }
+{
+    let mut sum = 0;
+    let mut second = 0;
+    for k in (i..sizes.len()).rev() {
+        sum += size(sizes, k);
+        if k == j {
+            second = sum;
+        }
+    }
+    Rests { first: sum, second }
+}
+
 // The number of the first feature of variables i < j. All atoms stand before it, the pairs of i with the variables between the two, and those of each
 // variable before i with all behind it.
 fn first_pair(sizes: &[u64], i: usize, j: usize) -> usize
     requires { SmallSizes sizes.now × (i < j) × (j < length sizes.now) }
     ensures { result ≡ atoms sizes.now + pair_start sizes.now i j }
 {
-    let rest = atoms(&sizes[i..]);
-    let later = atoms(&sizes[j..]);
+    let rests = atoms_from(sizes, i, j);
     let own = size(sizes, i);
-    let mut pairs = own * (rest - (own + later));
-    let mut behind = rest;
+    let mut pairs = own * (rests.first - (own + rests.second));
+    let mut behind = rests.first;
     for k in (0..i).rev() {
         let d = size(sizes, k);
         pairs += d * behind;
@@ -97,15 +120,16 @@ pub fn plane_of(sizes: &[u64], i: usize, j: usize) -> Plane
     requires { SmallSizes sizes.now × (i ≢ j) × (i < length sizes.now) × (j < length sizes.now) }
     ensures { Spans sizes.now i j (both sizes.now) result }
 {
+    let first = first_pair(sizes, i.min(j), i.max(j));
     if i < j {
         Plane {
-            first: first_pair(sizes, i, j),
+            first,
             step: size(sizes, j),
             other: 1,
         }
     } else {
         Plane {
-            first: first_pair(sizes, j, i),
+            first,
             step: 1,
             other: size(sizes, i),
         }

@@ -2,7 +2,7 @@
 use Rattle.std.proofs.Common.{ℕ, ◌+◌, ◌-◌, ◌*◌, ◌≤◌, ◌≡◌, List, arith}
 use Rattle.meaning.specs.Limits.{most_atoms}
 use Rattle.numbering.specs.Sizes.{most_pairs}
-use Rattle.numbering.specs.Blocks.{Counted, from-slice, counted-first, counted-turn, counted-small, counted-last}
+use Rattle.numbering.specs.Blocks.{Counted, counted-first, counted-turn, counted-small, counted-last}
 use Rattle.numbering.proofs.first_pair.Goals as goal
 use Rattle.numbering.proofs.first_pair.Goals.{After-size-own, After-size-d}
 
@@ -12,13 +12,13 @@ Sums sizes i j k count pairs = Counted sizes i j k count pairs × (count ≤ mos
 
 -- At first the pairs of variable i itself are counted.
 begin : (c : After-size-own) → let a = c.args in
-    let rest = c.atoms-rest.result in
+    let rests = c.atoms_from-rests.result in
     let own = c.size-own.result in
-    let later = c.atoms-later.result in
-    (own + later ≤ rest) × Sums a.sizes.now a.i a.j a.i rest (own * (rest - (own + later)))
+    (own + rests.second ≤ rests.first) × Sums a.sizes.now a.i a.j a.i rests.first (own * (rests.first - (own + rests.second)))
 begin c =
     let (small, ordered, _) = c.requires in
-    let (room, counted) = counted-first _ _ _ ordered _ _ _ c.size-own.ensures (from-slice _ _ _ c.atoms-rest.ensures) (from-slice _ _ _ c.atoms-later.ensures) in
+    let (first, second) = c.atoms_from-rests.ensures in
+    let (room, counted) = counted-first _ _ _ ordered _ _ _ c.size-own.ensures first second in
     let (few, most) = counted-small _ _ _ ordered _ _ _ small counted in
     (room, (counted, few, most))
 
@@ -33,16 +33,16 @@ turn c =
     (counted, few, most)
 
 pub overflow_add-pairs : goal.overflow_add-pairs
-overflow_add-pairs c = let (room, sums) = begin c in omega (arith, room, sums.1)
+overflow_add-pairs c = let (room, sums) = begin (goal.at.overflow_add-pairs c).After-size-own in omega (arith, room, sums.1)
 
 pub overflow_sub-pairs : goal.overflow_sub-pairs
-overflow_sub-pairs c = (begin c).0
+overflow_sub-pairs c = (begin (goal.at.overflow_sub-pairs c).After-size-own).0
 
 pub overflow_mul-pairs : goal.overflow_mul-pairs
-overflow_mul-pairs c = omega (arith, (begin c).1.2)
+overflow_mul-pairs c = omega (arith, (begin (goal.at.overflow_mul-pairs c).After-size-own).1.2)
 
 pub loop-k-init : goal.loop-k-init
-loop-k-init c = (begin c).1.0
+loop-k-init c = (begin (goal.at.loop-k-init c).After-size-own).1.0
 
 pub overflow_mul-pairs-in-loop-k : goal.overflow_mul-pairs-in-loop-k
 overflow_mul-pairs-in-loop-k c = omega (arith, (turn c).2)

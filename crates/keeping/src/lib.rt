@@ -80,7 +80,7 @@ fn is_touched(sizes: &[u64], entries: &Entries, touched: &[u64]) -> bool
             met = true;
         }
     }
-    met && pairs::has_unnamed(sizes, entries, touched)
+    met && pairs::has_unnamed(sizes, entries.variables(), touched)
 }
 
 // Puts both atoms of a pair into a set of atoms.

@@ -1,10 +1,11 @@
 -- The entries of an operator in three lists.
 use Prim.Native.Nat.{ℕ, zero, suc, ◌<◌, ◌≤◌}
-use Rattle.std.specs.Prelude.{◌≡◌, refl, Option, Some, None, is_some, List, ◌∷◌, length, get_or, take}
+use Rattle.std.specs.Prelude.{◌≡◌, refl, ◌||◌, Option, Some, None, is_some, List, [], ◌∷◌, length, get_or, take, eqb}
+use Rattle.std.specs.List.{list_any}
 use Rattle.std.proofs.Common.{sym, ap, ◌∙◌, arith, eq-eqb, ne_eqb, length-take-le}
 use Rattle.std.proofs.Math.Seq.{get_or-take}
 use Rattle.meaning.specs.Task.{Entry, Operator, names}
-use Rattle.meaning.specs.Sets.{table}
+use Rattle.meaning.specs.Sets.{table, any_of}
 use Rattle.meaning.specs.Answer.{operator_in}
 use Rattle.theory.specs.Flat.{length-table, get_d-table, table-cong, get_d-in, in-get_d}
 use Rattle.theory.specs.Search.{any_at, any-not}
@@ -60,3 +61,14 @@ pub named-names : (o : Operator) (u : ℕ) (found : Option Entry) → Named o u 
 unfolding names
 named-names o u (Some e) (k, within, there, same, earlier) = sym (any_at _ o e (rw there (get_d-in o k _ within)) (eq-eqb e.variable u same))
 named-names o u None apart = sym (any-not _ o (λ e member. let (k, within, there) = in-get_d o e (entry_of 0 0 0) member in ne_eqb e.variable u (λ same. apart k within (ap (λ x. x.variable) there ∙ same))))
+
+-- A variable is named where it stands among those of the entries, whatever the before and after values are.
+any-variable : (u : ℕ) (variables : List ℕ) (before after : ℕ → ℕ)
+    → list_any (λ y. eqb y u) variables ≡ any_of (λ e. eqb e.variable u) (table (length variables) (λ k. entry_of (get_or variables k 0) (before k) (after k)))
+unfolding any_of table
+any-variable u [] before after = refl
+any-variable u (v ∷ vs) before after = ap (◌||◌ (eqb v u)) (any-variable u vs (λ k. before (suc k)) (λ k. after (suc k)))
+
+pub names-listed : (variables befores afters : List ℕ) (u : ℕ) → list_any (λ y. eqb y u) variables ≡ names (entries_in variables befores afters) u
+unfolding names operator_in
+names-listed variables befores afters u = any-variable u variables (λ k. get_or befores k 0) (λ k. get_or afters k 0)

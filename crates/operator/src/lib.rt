@@ -2,7 +2,7 @@
 
 #![tactic(auto)]
 
-ghost use Rattle.std.specs.Prelude.{◌≡◌, [], ◌∷◌, suc, ◌<◌, ◌≤◌, length, take};
+ghost use Rattle.std.specs.Prelude.{List, ℕ, ◌≡◌, [], ◌∷◌, suc, ◌<◌, ◌≤◌, length, take};
 ghost use Rattle.meaning.specs.Limits.{most_variables};
 ghost use Rattle.meaning.specs.Task.{names};
 ghost use Rattle.meaning.specs.Number.{Range};
@@ -84,6 +84,14 @@ impl<'a> Entries<'a> {
         let before = &entry.before;
         let after = &entry.after;
         Entries::new(from_ref(variable), from_ref(before), from_ref(after))
+    }
+
+    // The variables of the entries.
+    pub fn variables(&self) -> &'a [usize]
+        ensures { (befores : List ℕ) × (afters : List ℕ) × (self.now ≡ entries_in result.now befores afters) }
+    {
+        let Entries { variables, .. } = self;
+        variables
     }
 
     // How many entries there are.

@@ -1,8 +1,9 @@
 -- A walk over the listed pairs: the next one with its block, what is known where the walk has come to one, and how it decides whether the list is closed.
-use Rattle.std.specs.Prelude.{ℕ, suc, ◌+◌, ◌-◌, ◌<◌, ◌≤◌, ◌≡◌, Bool, true, false, not, ◌&&◌, ◌||◌, eqb, ltb, Option, Some, None, is_some, IfSome, length}
+use Rattle.std.specs.Prelude.{ℕ, suc, ◌+◌, ◌-◌, ◌*◌, ◌<◌, ◌≤◌, ◌≡◌, Bool, true, false, not, ◌&&◌, ◌||◌, eqb, ltb, Option, Some, None, is_some, IfSome, IfNone, length}
 use Rattle.std.proofs.Math.Path.{refl}
 use Rattle.std.proofs.Common.{sym, ap, ◌∙◌, arith, ltb-true, ltb-false, true≢false}
 use mathlib.Core.List.{List, Memᴰ as In}
+use Rattle.meaning.specs.Limits.{word_bits}
 use Rattle.meaning.specs.Task.{Entry, Operator, Entries, names, size}
 use Rattle.meaning.specs.Feature.{atoms, features, single}
 use Rattle.meaning.specs.Workspace.{has}
@@ -12,7 +13,7 @@ use Rattle.theory.specs.Search.{and_both, and-none-left, and-none-right, or_righ
 use Rattle.theory.specs.Operators.{names_in, field_at}
 use Rattle.theory.specs.Closed.{listed_unclosed, leaves, unclosed-above, closed-by-pairs, unclosed_at}
 use Rattle.numbering.specs.Order.{Contains, Joins}
-use Rattle.words.specs.Next.{Clear}
+use Rattle.words.specs.Next.{Next, Clear}
 use Rattle.pairs.specs.declared.PairAt.{PairAt}
 use Rattle.pairs.specs.Ready.{HoldsPossible}
 use Rattle.pairs.specs.Judge.{possible-word}
@@ -30,11 +31,12 @@ abbrev pub place_in : List ℕ → Option PairAt → ℕ
 place_in sizes None = features sizes
 place_in sizes (Some pair) = pair.feature
 
--- The next listed pair from a feature on, if there is one.
+-- The next listed pair from a feature on, if there is one; if there is none, the next member is no feature's.
 pub record Found (sizes words : List ℕ) (start : ℕ) (next : Option PairAt) : Type 0 where
   pub above : start ≤ place_in sizes next
   pub clear : Clear (has words) start (place_in sizes next)
   pub listed : IfSome next (ListedAt sizes words)
+  pub past : IfNone next ((f : ℕ) × (features sizes ≤ f) × Next (has words) (word_bits * length words) start f)
 
 -- A walk from a feature on has come to a listed pair, or past all: none of the listed pairs that it has passed is unclosed.
 pub record Reached (sizes words : List ℕ) (o : Operator) (start : ℕ) (next : Option PairAt) : Type 0 where

@@ -3,7 +3,7 @@
 
 #![tactic(auto)]
 
-ghost use Rattle.std.specs.Prelude.{ℕ, ◌≡◌, ◌≢◌, true, false, ◌&&◌, not, ◌+◌, ◌*◌, ◌<◌, ◌≤◌, length, IfSome};
+ghost use Rattle.std.specs.Prelude.{List, ℕ, ◌≡◌, ◌≢◌, true, false, ◌&&◌, not, ◌+◌, ◌*◌, ◌<◌, ◌≤◌, length, IfSome};
 ghost use Rattle.meaning.specs.Limits.{word_bits};
 ghost use Rattle.meaning.specs.Sets.{some};
 ghost use Rattle.meaning.specs.Task.{State, names, size, value};
@@ -14,6 +14,7 @@ ghost use Rattle.meaning.specs.Pair.{paired, possible, clashing, idle, closed, u
 ghost use Rattle.theory.specs.Closed.{leaves};
 ghost use Rattle.theory.specs.Mending.{beside_in};
 ghost use Rattle.numbering.specs.Order.{Stands, Contains};
+ghost use Rattle.operator.specs.Entries.{entries_in};
 ghost use Rattle.pairs.specs.Ready.{Listed, Ready, Ready-prop, HoldsPossible, HoldsPossible-prop};
 ghost use Rattle.pairs.specs.Judge.{valued, unnamed_in};
 ghost use Rattle.pairs.specs.None.{Suffices};
@@ -40,6 +41,13 @@ pub struct Tabled<'a> {
     pub possible: &'a [u64],
     pub ghost ready: { Ready sizes.now pairs.now entries.now } by { Ready-prop sizes.now pairs.now entries.now },
     pub ghost held: { HoldsPossible sizes.now (has pairs.now) entries.now possible.now } by { HoldsPossible-prop sizes.now (has pairs.now) entries.now possible.now },
+}
+
+// Whether an operator with these variables names variable u.
+pub fn names(variables: &[usize], u: usize) -> bool
+    ensures { (befores afters : List ℕ) → result ≡ names (entries_in variables.now befores afters) u }
+{
+    variables.contains(&u)
 }
 
 // Whether the feature of two atoms is listed.
@@ -129,19 +137,19 @@ fn has_value(sizes: &[u64], set: &[u64], u: usize) -> bool
 }
 
 // Whether of some unnamed variable a set has an atom, or has none, as is asked.
-fn is_unnamed(sizes: &[u64], entries: &Entries, set: &[u64], asked: bool) -> bool
+fn is_unnamed(sizes: &[u64], variables: &[usize], set: &[u64], asked: bool) -> bool
     requires { InLimits sizes.now × (atoms sizes.now ≤ word_bits * length set.now) }
-    ensures { result ≡ unnamed_in sizes.now (has set.now) entries.now asked }
+    ensures { (befores afters : List ℕ) → result ≡ unnamed_in sizes.now (has set.now) (entries_in variables.now befores afters) asked }
 {
-    (0..sizes.len()).any(|u| !entries.names(u) && has_value(sizes, set, u) == asked)
+    (0..sizes.len()).any(|u| !names(variables, u) && has_value(sizes, set, u) == asked)
 }
 
 // Whether a set of atoms has one of some unnamed variable.
-pub fn has_unnamed(sizes: &[u64], entries: &Entries, set: &[u64]) -> bool
+pub fn has_unnamed(sizes: &[u64], variables: &[usize], set: &[u64]) -> bool
     requires { InLimits sizes.now × (atoms sizes.now ≤ word_bits * length set.now) }
-    ensures { result ≡ beside_in sizes.now (has set.now) entries.now }
+    ensures { (befores afters : List ℕ) → result ≡ beside_in sizes.now (has set.now) (entries_in variables.now befores afters) }
 {
-    is_unnamed(sizes, entries, set, true)
+    is_unnamed(sizes, variables, set, true)
 }
 
 // The next listed pair from a feature on, with its block, which is looked for from a given one on.
@@ -182,7 +190,7 @@ impl<'a> Tabled<'a> {
         ensures { result ≡ idle self.entry.sizes.now (has self.entry.pairs.now) self.entry.entries.now }
     {
         is_clashing(self.sizes, self.pairs, self.entries)
-            || is_unnamed(self.sizes, self.entries, self.possible, false)
+            || is_unnamed(self.sizes, self.entries.variables(), self.possible, false)
     }
 
     // Whether the operator leaves value x of variable i.

@@ -49,8 +49,9 @@ ended : (c : After-loop-k) → let a = c.args in (c.loop-k.met && beside_in a.si
 ended c = let a = c.args in sym (left-end a.sizes.now (has a.touched.now) a.entries.now _ c.loop-k.met (omega (arith, c.loop-k-test.false, c.len-k-end.ensures))) ∙ c.loop-k.invariant
 
 pub returns-then-met-2 : goal.returns-then-met-2
-returns-then-met-2 c = let a = c.args in
-    c.has_unnamed.ensures ∙ ap (λ m. m && beside_in a.sizes.now (has a.touched.now) a.entries.now) (sym c.if-met-2.true) ∙ ended (goal.at.returns-then-met-2 c).After-loop-k
+returns-then-met-2 c = let a = c.args in let (befores, afters, are) = c.variables.ensures in
+    c.has_unnamed.ensures befores afters ∙ ap (beside_in a.sizes.now (has a.touched.now)) (sym are)
+    ∙ ap (λ m. m && beside_in a.sizes.now (has a.touched.now) a.entries.now) (sym c.if-met-2.true) ∙ ended (goal.at.returns-then-met-2 c).After-loop-k
 
 pub returns-else-met-2 : goal.returns-else-met-2
 returns-else-met-2 c = let a = c.args in

@@ -4,4 +4,4 @@ use Rattle.pairs.specs.Judge.{unnamed-beside}
 use Rattle.pairs.proofs.has_unnamed.Goals as goal
 
 pub returns : goal.returns
-returns c = c.is_unnamed.ensures ∙ unnamed-beside _ _ _
+returns c = λ befores afters. c.is_unnamed.ensures befores afters ∙ unnamed-beside _ _ _

@@ -125,10 +125,12 @@ pub fn clear(words: &mut [u64])
     words.fill(0);
 }
 
-// Makes a set the same as another.
+// Makes a set the same as another. A loop, as the library's method would have whoever links the archive bring memmove.
 pub fn copy(into: &mut [u64], from: &[u64])
     requires { length into.old ≡ length from.now }
     ensures { into.new ≡ from.now }
 {
-    into.copy_from_slice(from);
+    for (i, word) in into.iter_mut().enumerate() {
+        *word = from[i];
+    }
 }

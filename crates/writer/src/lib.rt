@@ -57,15 +57,16 @@ pub fn operator_width(entries: &[Entry]) -> usize
     number::width(entries.len()) + width
 }
 
-// Writes bytes from a place on, and answers the place after them.
+// Writes bytes from a place on, and answers the place after them. A loop, as the library's method would have whoever links the archive bring memmove.
 pub fn write_bytes(room: &mut [u8], at: usize, bytes: &[u8]) -> usize
     requires { at + length bytes.now ≤ length room.old }
     ensures after { result ≡ at + length bytes.now }
     ensures written { room.new ≡ take at room.old ++ (bytes.now ++ drop result room.old) }
 {
-    let after = at + bytes.len();
-    room[at..after].copy_from_slice(bytes);
-    after
+    for (i, byte) in bytes.iter().enumerate() {
+        room[at + i] = *byte;
+    }
+    at + bytes.len()
 }
 
 // Writes a list of numbers from a place on, without its count, and answers the place after it.

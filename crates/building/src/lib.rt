@@ -32,15 +32,6 @@ struct Sides {
     next: usize,
 }
 
-// A bay that was read: its rows and columns, and in front of two arrays the labels of its start and of its goal.
-#[derive(Drop)]
-struct Bay {
-    rows: usize,
-    columns: usize,
-    start: [u64; MOST_SLOTS],
-    goal: [u64; MOST_SLOTS],
-}
-
 // Two numbers differ by 1.
 fn one_apart(a: usize, b: usize) -> bool
     ensures { result ≡ one_apart a b }
@@ -69,15 +60,20 @@ fn mark_neighbours(near: &mut [u8], n: usize, columns: usize)
 }
 
 // Judges the labels of a bay that was read, and writes its task file.
-fn build_judged(bay: &Bay, room: &mut [u8]) -> Result<usize, Reason>
-    requires { ReadableBay (bay_in bay.now) }
-    ensures { (next : ℕ) → outcome_of result room.new ≡ made_of bay_task (judged (got (bay_in bay.now) next)) room.old }
+fn build_judged(
+    sides: Sides,
+    start: &[u64; MOST_SLOTS],
+    goal: &[u64; MOST_SLOTS],
+    room: &mut [u8],
+) -> Result<usize, Reason>
+    requires { ReadableBay (bay_in sides start.now goal.now) }
+    ensures { (next : ℕ) → outcome_of result room.new ≡ made_of bay_task (judged (got (bay_in sides start.now goal.now) next)) room.old }
 {
-    let n = bay.rows * bay.columns;
+    let n = sides.rows * sides.columns;
     let places = n * n;
     let mut near = [0u8; MOST_PLACES];
-    mark_neighbours(&mut near[..places], n, bay.columns);
-    sliding::build(&near[..places], &bay.start[..n], &bay.goal[..n], room)
+    mark_neighbours(&mut near[..places], n, sides.columns);
+    sliding::build(&near[..places], &start[..n], &goal[..n], room)
 }
 
 // Reads rows and columns. A number of slots that breaks its limit is placed at the columns.
@@ -119,36 +115,41 @@ fn read_labels(
     Ok(end)
 }
 
-// Reads a whole bay file.
-fn read_bay(bay: &[u8]) -> Result<Bay, Fault>
-    ensures { BayRead result (bay_of bay.now 0) }
+// Reads a whole bay file: its sides, and into the front of two arrays the labels of its start and of its goal.
+// The arrays are lent, as an answer with both would take their room once more; inlined, it takes no frame of its own either.
+#[inline(always)]
+fn read_bay(
+    bay: &[u8],
+    start: &mut [u64; MOST_SLOTS],
+    goal: &mut [u64; MOST_SLOTS],
+) -> Result<Sides, Fault>
+    ensures { BayRead result start.new goal.new (bay_of bay.now 0) }
 {
     let sides = read_sides(bay)?;
     let n = sides.rows * sides.columns;
-    let mut start = [n as u64; MOST_SLOTS];
-    let mut goal = [n as u64; MOST_SLOTS];
+    start.fill(n as u64);
+    goal.fill(n as u64);
     read_labels(bay, sides.next, n, &mut start[..n], &mut goal[..n])?;
-    Ok(Bay {
-        rows: sides.rows,
-        columns: sides.columns,
-        start,
-        goal,
-    })
+    Ok(sides)
 }
 
 // Builds the task file of a bay file.
 pub fn build(bay: &[u8], room: &mut [u8]) -> Result<usize, Reason>
     ensures { Builds bay.now room.old (outcome_of result room.new) }
 {
-    let read = read_bay(bay)?;
-    build_judged(&read, room)
+    let mut start = [0; MOST_SLOTS];
+    let mut goal = [0; MOST_SLOTS];
+    let sides = read_bay(bay, &mut start, &mut goal)?;
+    build_judged(sides, &start, &goal, room)
 }
 
 // Where the first fault of a bay file stands.
 pub fn spot(bay: &[u8]) -> Option<Spot>
     ensures { spot_of result ≡ spot_alone (judged_bay bay.now) }
 {
-    match read_bay(bay) {
+    let mut start = [0; MOST_SLOTS];
+    let mut goal = [0; MOST_SLOTS];
+    match read_bay(bay, &mut start, &mut goal) {
         Ok(_) => None,
         Err(Fault(reason, place)) => placing::placed(reason, Spot::InTask(place)),
     }

@@ -24,8 +24,8 @@ fn occurrences(label: usize, labels: &[u64]) -> usize
 {
     labels
         .iter()
-        .filter(|other| **other as usize == label)
-        .count()
+        .map(|other| (*other as usize == label) as usize)
+        .sum()
 }
 
 // Two lists hold each label, of as many as the first has slots, equally often.
@@ -158,7 +158,7 @@ fn write_walk(room: &mut [u8], at: usize, near: &[u8], start: &[u64]) -> usize
 fn count_places(near: &[u8]) -> usize
     ensures { result ≡ places_in near.now }
 {
-    near.iter().filter(|mark| **mark == 1).count()
+    near.iter().map(|mark| (*mark == 1) as usize).sum()
 }
 
 // How many labels from 1 on occur.

@@ -1,8 +1,9 @@
 -- `read_bay` reads the sides, and the labels behind them into the front of two arrays.
+use Rattle.std.proofs.Common.{rules, arith}
 use Rattle.std.proofs.lemmas.Result.{err_from_is_err_and}
-use mathlib.Core.Path.{sym}
-use native.Mathlib.Omega.{arith}
-use lib.Seq.{length-take-le}
+use Prim.Native.Nat.{◌*◌}
+use mathlib.Core.Path.{◌≡◌}
+use lib.ListN.{replicate}
 use Rattle.meaning.specs.Limits.{most_slots}
 use Rattle.theory.specs.Flat.{take-replicate}
 use Rattle.building.specs.Outcomes.{sides-few, sides-unread, labels-unread, bay-read}
@@ -11,20 +12,16 @@ use Rattle.building.proofs.read_bay.Goals as goal
 pub overflow_mul-n : goal.overflow_mul-n
 overflow_mul-n c = omega (arith, sides-few _ _ _ _ c.in_ok-sides.ensures)
 
-pub slice_bounds-start-end : goal.slice_bounds-start-end
-slice_bounds-start-end c = sides-few _ _ _ _ c.in_ok-sides.ensures
-
 pub slice_bounds-read_labels-end : goal.slice_bounds-read_labels-end
-slice_bounds-read_labels-end c = sym (length-take-le _ _ (sides-few _ _ _ _ c.in_ok-sides.ensures))
-
-pub slice_bounds-goal-end : goal.slice_bounds-goal-end
-slice_bounds-goal-end c = sides-few _ _ _ _ c.in_ok-sides.ensures
-
-pub slice_bounds-read_labels-end-2 : goal.slice_bounds-read_labels-end-2
-slice_bounds-read_labels-end-2 c = sym (length-take-le _ _ (sides-few _ _ _ _ c.in_ok-sides.ensures))
+slice_bounds-read_labels-end c = sides-few _ _ _ _ c.in_ok-sides.ensures
 
 pub read_labels-requires : goal.read_labels-requires
-read_labels-requires c = let few = sides-few _ _ _ _ c.in_ok-sides.ensures in (take-replicate _ most_slots _ few, take-replicate _ most_slots _ few)
+read_labels-requires c =
+    let few = sides-few _ _ _ _ c.in_ok-sides.ensures in
+    let n = c.in_ok-sides.sides.rows * c.in_ok-sides.sides.columns in
+    let start : c.fill.new.self ≡ replicate most_slots n = search rules in
+    let goal : c.fill-2.new.self ≡ replicate most_slots n = search rules in
+    (rw start (take-replicate _ most_slots _ few), rw goal (take-replicate _ most_slots _ few))
 
 pub returns : goal.returns
 returns c = (_, bay-read _ _ _ _ c.in_ok-sides.ensures _ _ _ _ _ c.in_ok-read_labels.ensures)

@@ -16,7 +16,7 @@ use Rattle.pairs.specs.Ready.{Ready}
 use Rattle.slots.specs.Area.{slots_in, area-back}
 use Rattle.slots.specs.Waiting.{Waiting, settled_in}
 use Rattle.layout.specs.declared.Places.{Places}
-use Rattle.layout.specs.Places.{places_of}
+use Rattle.layout.specs.Places.{places_of, places-are}
 use Rattle.layout.specs.Parts.{sizes_part, pairs_part, slots_part, Due, length_part}
 
 abbrev pub held_slots : ℕ → ℕ → List ℕ → Slots
@@ -48,6 +48,10 @@ opened-due {v = v} {ws = ws} opened = record {
   features = omega (arith, opened.counted, opened.ready.limits.total);
   words = opened.due;
 }
+
+-- Its slots, by their places, are within its words.
+pub slots-within : (v n : ℕ) (at : Places) → at ≡ places_of v n → (ws : List ℕ) → words_due v n ≤ length ws → (at.slots ≤ at.end) × (at.end ≤ length ws)
+slots-within v n at is ws due = let e = places-are v n at is in (omega (arith, e), omega (arith, e, due))
 
 -- ---- where slots are written
 

@@ -73,7 +73,7 @@ pub fn items_below(
 }
 
 // Reads v and v sizes, each from `least` to `most`; N is not judged yet.
-fn read_sizes(
+pub fn read_sizes(
     bytes: &[u8],
     at: usize,
     header: &mut [u64],
@@ -105,7 +105,13 @@ fn read_sizes(
 }
 
 // Judges N behind v sizes that were read from a place on: `next` is the place after them, and a fault is placed at the last of them.
-fn judge_features(bytes: &[u8], at: usize, v: usize, n: usize, next: usize) -> Result<usize, Fault>
+pub fn judge_features(
+    bytes: &[u8],
+    at: usize,
+    v: usize,
+    n: usize,
+    next: usize,
+) -> Result<usize, Fault>
     ensures { result ≡ place_of (features_judged bytes.now at v n next) }
 {
     if MOST_FEATURES < n {

@@ -20,11 +20,11 @@
  * Nothing is kept between calls and nothing is allocated. The most stack that a call can take, in bytes, whatever its input, as bench/stack reads it from
  * the compiled archive (measured, not proved; what memcpy and memset of the C library take comes on top):
  *
- *   line             85128      check, check_new                   23240      display, display_new             19280      find           8536
- *   display_partial  25120      check_partial, check_partial_new   23128      weights_to_new, weights_to_old   19280      build          6144
- *   open             23816      build_partial, build_partial_lean  21312      add_operator                    17304      replace_start  4536
- *   open_partial     23720      pair_fault                         19968      silence                         15712      replace_goal   4536
- *   check_line       23384      mend, dropped                      19376      to_new, to_old                  15200      display_bay    1232
+ *   line             84904      check, check_new                   23016      display, display_new             19184      find           8456
+ *   display_partial  24896      check_partial, check_partial_new   22904      weights_to_new, weights_to_old   19184      build          5200
+ *   open             23624      build_partial, build_partial_lean  20944      add_operator                    17288      replace_start  4376
+ *   open_partial     23528      pair_fault                         19872      silence                         15632      replace_goal   4376
+ *   check_line       23160      mend, dropped                      19288      to_new, to_old                  15104      display_bay     640
  *                                                                                                                     weight_file      64
  *
  * Each call answers one number, case * 2^32 + value; take it apart by florumeja_case and florumeja_value:
